@@ -1,0 +1,1 @@
+// Sessions and failover, over any engine: definitions and laws alone (specs/).
