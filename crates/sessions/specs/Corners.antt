@@ -1,25 +1,43 @@
--- The ends of demand 3's ranges, as corollaries of `failover`: no executed frame, an image at the very beginning, at the
--- very end, the empty journal, refused calls anywhere, two saves in a row, a torn last line.
+-- The ends of demand 3's ranges, as corollaries of `failover`: no executed frame, an image at the very beginning, at
+-- the very end, the empty journal, refused calls anywhere, saves anywhere, two saves in a row, a torn last line.
 -- From document 01, Lines and Sessions and failover.
-use mathlib.Core.Path.{_≡_, refl, sym, ap, _∙_}
+use mathlib.Core.Path.{_≡_, refl, sym, _∙_}
 use mathlib.Core.Bool.{true}
 use mathlib.Core.Option.{Option, none, some}
 use mathlib.Core.List.{List, [], _∷_, _++_, map, flatten}
-use Prim.Native.Nat.{ℕ, zero, suc, _+_, _≤_, _<_}
+use Prim.Native.Nat.{ℕ, zero, suc, _+_, _≤_}
 use native.Mathlib.Numerals.{add-one}
 use native.Mathlib.Omega.{arith}
-use lib.ListN.{length, drop}
+use lib.ListN.{drop}
 use lib.Seq.{drop-length}
-use Rattle.sessions.specs.Machine.{Machine, Line, NoLF, refused, done, Laws}
-use Rattle.sessions.specs.Session.{Call, give, save, since, entries, stateAfter, image, reply, after, ran, walk, trace}
-use Rattle.sessions.specs.Session.{executed, answers, linesOf, journal}
-use Rattle.sessions.specs.Saved.{Replayed, Enough, replay, replayLines, frames, SavedAfter, Failover}
+use Rattle.sessions.specs.Machine.{Machine, Line, NoLF, refused, done, Laws, saveRoom}
+use Rattle.sessions.specs.Session.{Call, give, save, since, entries, stateAfter, written, image, reply, after}
+use Rattle.sessions.specs.Session.{ran}
+use Rattle.sessions.specs.Session.{walk, trace, executed, answers, linesOf, journal}
+use Rattle.sessions.specs.Saved.{Enough, replay, frames, SavedAfter}
 use Rattle.sessions.specs.Cuts.{AllLines, cut-lines, cut-torn}
-use Rattle.sessions.specs.Refusals.{save-leaves, image-wrote}
+use Rattle.sessions.specs.Refusals.{save-leaves, image-saved, image-wrote}
 use Rattle.sessions.specs.Runs.{runs, run-lines}
 use Rattle.sessions.specs.Replay.{failover, map-lines}
+use Rattle.sessions.specs.History.{walk-sound}
 
 module _ (M : Machine) (𝓛 : Laws M) (fresh : M .S) (origin : M .pos fresh ≡ 0) (good : M .sound fresh ≡ true) where
+  -- Images can be had everywhere: a save that stands anywhere in a session and is lent 9,770 octets is not refused.
+  pub saved-anywhere :
+      (before later : List Call) (lent : ℕ) → saveRoom ≤ lent
+      → SavedAfter M fresh (before ++ (save lent ∷ later)) (frames M fresh before) (M .encode (walk M fresh before))
+      (walk M fresh before)
+  saved-anywhere before later lent h =
+      record {
+        before = before;
+        lent = lent;
+        later = later;
+        split = refl;
+        count = refl;
+        state = refl;
+        saved = image-saved M lent (walk M fresh before) (walk-sound M 𝓛 fresh good before) h;
+      }
+
   -- k = 0: an image saved before all else takes over the whole session, by the journal from frame 1.
   pub from-the-beginning :
       (room : ℕ) (img : List ℕ) (calls : List Call) (lent : ℕ → ℕ) → image M room fresh ≡ done fresh img → Enough lent
@@ -71,15 +89,17 @@ module _ (M : Machine) (𝓛 : Laws M) (fresh : M .S) (origin : M .pos fresh ≡
   journal-end calls = rw (add-one, drop-length (executed M fresh calls))
 
 module _ (M : Machine) (s : M .S) where
-  -- A refused call, of whatever kind and number, leaves the state and executes nothing ..
-  pub refused-leaves : (c : Call) (n : ℕ) → reply M s c ≡ refused n → (after M s c ≡ s) × (ran M s c ≡ [])
-  unfolding after ran reply stateAfter entries
-  refused-leaves (give lent w r) n e = (rw e, rw e (none-by (M .read w r)))
+  -- A refused call, of whatever kind and number, leaves the state, executes nothing and writes no octet ..
+  pub refused-leaves :
+      (c : Call) (n : ℕ) → reply M s c ≡ refused n
+      → (after M s c ≡ s) × (ran M s c ≡ []) × (written (reply M s c) ≡ [])
+  unfolding after ran reply stateAfter entries written
+  refused-leaves (give lent w r) n e = (rw e, rw e (none-by (M .read w r)), rw e)
     where
       none-by : (f : Option (Line (M .Body))) → entries {S = M .S} f (refused n) ≡ []
       none-by none = refl
       none-by (some x) = refl
-  refused-leaves (save lent) n e = (rw e, refl)
+  refused-leaves (save lent) n e = (rw e, refl, rw e)
 
   -- .. so a session with it is, from there on, the session without it.
   pub refused-walk : (c : Call) (n : ℕ) (cs : List Call) → reply M s c ≡ refused n → walk M s (c ∷ cs) ≡ walk M s cs
@@ -99,12 +119,16 @@ module _ (M : Machine) (s : M .S) where
       x .is ∙ sym (y .is)
 
 module _ (M : Machine) where
-  drop-lines : (i : ℕ) (xs : List (Line (M .Body))) → AllLines (map (M .write) xs) → AllLines (map (M .write) (drop i xs))
+  drop-lines :
+      (i : ℕ) (xs : List (Line (M .Body)))
+      → AllLines (map (M .write) xs) → AllLines (map (M .write) (drop i xs))
   drop-lines zero xs h = h
   drop-lines (suc i) [] h = h
   drop-lines (suc i) (x ∷ xs) h = drop-lines i xs (h .1)
 
-  since-lines : (j : ℕ) (xs : List (Line (M .Body))) → AllLines (map (M .write) xs) → AllLines (map (M .write) (since j xs))
+  since-lines :
+      (j : ℕ) (xs : List (Line (M .Body)))
+      → AllLines (map (M .write) xs) → AllLines (map (M .write) (since j xs))
   unfolding since
   since-lines zero xs h = h
   since-lines (suc i) xs h = drop-lines i xs h

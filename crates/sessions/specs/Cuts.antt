@@ -1,6 +1,6 @@
 -- Laws of `cut`: a text of whole lines is cut into those lines, and a final piece without LF is not read.
 -- From document 01, Lines.
-use mathlib.Core.Path.{_≡_, refl, ap, _∙_, sym}
+use mathlib.Core.Path.{_≡_, refl, ap, _∙_}
 use mathlib.Core.Logic.{_≢_}
 use mathlib.Core.List.{List, [], _∷_, _++_, append-assoc, append-nil, flatten, map}
 use Prim.Native.Nat.{ℕ, zero, suc}

@@ -1,9 +1,10 @@
--- What holds of the state at the end of any session, by its past frames. From document 01, Lines and Sessions and failover.
-use mathlib.Core.Path.{_≡_, refl, sym, ap, _∙_}
+-- What holds of the state at the end of any session, by its past frames.
+-- From document 01, Lines and Sessions and failover.
+use mathlib.Core.Path.{_≡_, refl, ap, _∙_}
 use mathlib.Core.Bool.{true}
 use mathlib.Core.Option.{some}
-use mathlib.Core.List.{List, [], _∷_, map, reverse, reverseAux}
-use Prim.Native.Nat.{ℕ, zero, suc, _+_, _≤_}
+use mathlib.Core.List.{List, [], _∷_, map, reverseAux}
+use Prim.Native.Nat.{ℕ, zero, suc, _≤_}
 use native.Mathlib.Omega.{arith}
 use lib.ListN.{length}
 use Rattle.sessions.specs.Machine.{Machine, Form, Line, Executes, Laws, refused, answerRoom, lastNumber}
@@ -19,21 +20,26 @@ unfoldable pub upFrom : ℕ → ℕ → List ℕ
 upFrom a zero = []
 upFrom a (suc n) = a ∷ upFrom (suc a) n
 
+-- A claim of a past and a state that every executed frame keeps.
+abbrev pub Kept : (M : Machine) → (List (M .Body) → M .S → Type 0) → Type 0
+Kept M P =
+    (p : List (M .Body)) (s t : M .S) (x : Line (M .Body)) (a : List ℕ) → Executes M s x t a → P p s → P (x .body ∷ p) t
+
 module _ (M : Machine) (𝓛 : Laws M) where
   run-past :
       (P : List (M .Body) → M .S → Type 0)
-      → ((p : List (M .Body)) (s t : M .S) (x : Line (M .Body)) (a : List ℕ) → Executes M s x t a → P p s → P (x .body ∷ p) t)
+      → Kept M P
       → (p : List (M .Body)) (s u : M .S) (es : List (Entry (M .Body))) → Run M s es u → P p s
       → P (reverseAux (map (λ x. x .body) (map (λ e. e .line) es)) p) u
   run-past P step p s u [] r h = rw (← r) h
   run-past P step p s u (e ∷ es) r h =
       run-past P step (e .line .body ∷ p) (r .0) u es (r .2) (step p s (r .0) (e .line) (e .wrote) (r .1) h)
 
-  -- Induction over a session: what holds of no past and the fresh state, and is kept by every executed frame, holds of the
-  -- past and the state at the end. Refused calls and saves need no case.
+  -- Induction over a session: what holds of no past and the fresh state, and is kept by every executed frame, holds of
+  -- the past and the state at the end. Refused calls and saves need no case.
   pub walk-induction :
       (P : List (M .Body) → M .S → Type 0) (fresh : M .S) → P [] fresh
-      → ((p : List (M .Body)) (s t : M .S) (x : Line (M .Body)) (a : List ℕ) → Executes M s x t a → P p s → P (x .body ∷ p) t)
+      → Kept M P
       → (calls : List Call) → P (past M fresh calls) (walk M fresh calls)
   unfolding past executed
   walk-induction P fresh base step calls =
@@ -41,7 +47,8 @@ module _ (M : Machine) (𝓛 : Laws M) where
 
   -- The state at the end of a session is the run of its past: it depends on the executed frames alone.
   pub walk-past :
-      (D : Steps M) (fresh : M .S) (calls : List Call) → walk M fresh calls ≡ runOf M (D .step) fresh (past M fresh calls)
+      (D : Steps M) (fresh : M .S) (calls : List Call)
+      → walk M fresh calls ≡ runOf M (D .step) fresh (past M fresh calls)
   unfolding runOf
   walk-past D fresh calls =
       walk-induction (λ p s. s ≡ runOf M (D .step) fresh p) fresh refl

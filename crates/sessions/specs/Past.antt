@@ -1,6 +1,6 @@
 -- The past frames of a session, and engines whose executed frames are steps.
--- From document 01, Sessions and failover: "The past frames of a state are those executed before it, in order". Here the
--- newest stands first, so that one more frame is one more element. Definitions alone; the laws are in History.
+-- From document 01, Sessions and failover: "The past frames of a state are those executed before it, in order". Here
+-- the newest stands first, so that one more frame is one more element. Definitions alone; the laws are in History.
 use mathlib.Core.Path.{_≡_}
 use mathlib.Core.List.{List, [], _∷_, map, reverse}
 use Prim.Native.Nat.{ℕ}

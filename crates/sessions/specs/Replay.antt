@@ -1,22 +1,22 @@
 -- Replay of what was executed: seen lines are skipped, the next ones are executed again with the same answers, and a
 -- line past the next is a gap. Ends in the theorem `failover`. From document 01, Sessions and failover.
-use mathlib.Core.Path.{_≡_, refl, sym, ap, _∙_}
+use mathlib.Core.Path.{_≡_, refl, ap, _∙_}
 use mathlib.Core.Bool.{true}
-use mathlib.Core.Option.{Option, none, some}
+use mathlib.Core.Option.{none, some}
 use mathlib.Core.List.{List, [], _∷_, _++_, map, flatten}
 use Prim.Native.Nat.{ℕ, zero, suc, _+_, _≤_, _<_}
-use native.Mathlib.Nat.{not-suc-le-zero, le-of-suc-le-suc}
+use native.Mathlib.Nat.{not-suc-le-zero}
 use native.Mathlib.Omega.{arith}
 use lib.ListN.{length, drop, length-map, length-append, length-drop, drop-of-length-le}
 use lib.Seq.{drop-append-le, drop-at}
-use Rattle.sessions.specs.Machine.{Machine, Line, text, done, refused, Executes, Laws, answerRoom}
-use Rattle.sessions.specs.Session.{Entry, Call, save, since, image, answer, after, ran, walk, trace}
+use Rattle.sessions.specs.Machine.{Machine, Line, text, done, Executes, Laws, answerRoom}
+use Rattle.sessions.specs.Session.{Entry, Call, save, since, answer, walk, trace}
 use Rattle.sessions.specs.Session.{executed, answers, linesOf, journal}
 use Rattle.sessions.specs.Saved.{Replayed, withAnswer, resume, Enough, replayLines, replay, frames}
 use Rattle.sessions.specs.Saved.{SavedAfter, Failover}
 use Rattle.sessions.specs.Cuts.{cut-lines, drop-map}
 use Rattle.sessions.specs.Refusals.{answer-seen, answer-gap, answer-next, Wrote, image-wrote}
-use Rattle.sessions.specs.Runs.{Run, lineOf, walk-append, trace-append, runs, run-pos, run-sound, run-lines}
+use Rattle.sessions.specs.Runs.{Run, lineOf, walk-append, trace-append, runs, run-pos, run-lines}
 use Rattle.sessions.specs.Runs.{run-append, run-drop}
 
 map-append : {A B : Type 0} (f : A → B) (xs ys : List A) → map f (xs ++ ys) ≡ map f xs ++ map f ys
@@ -81,19 +81,24 @@ module _ (M : Machine) (𝓛 : Laws M) where
   unfolding frames executed
   frames-trace s cs = length-map (trace M s cs) (λ e. e .line)
 
+  -- The journal from frame i + 1 is the lines of all frames but the first i.
+  journal-text :
+      (s : M .S) (cs : List Call) (i : ℕ)
+      → journal M s cs (suc i) ≡ flatten (map (lineOf M) (drop i (trace M s cs)))
+  unfolding journal linesOf since executed
+  journal-text s cs i =
+      ap (λ l. flatten (map (M .write) l)) (drop-map (λ e. e .line) i (trace M s cs))
+      ∙ ap flatten (map-lines M (drop i (trace M s cs)))
+
   -- The text of a journal is cut into the lines of its frames.
   pub journal-lines :
       (s at : M .S) (cs : List Call) (i : ℕ) (lent : ℕ → ℕ) → i ≤ length (trace M s cs)
       → replay M lent at (journal M s cs (suc i)) ≡ replayLines M lent at (map (lineOf M) (drop i (trace M s cs)))
-  unfolding replay journal linesOf since executed
+  unfolding replay
   journal-lines s at cs i lent h =
       let d = run-drop M 𝓛 i s (walk M s cs) (trace M s cs) (runs M 𝓛 s cs) h in
       let whole = run-lines M 𝓛 (d .0) (walk M s cs) (drop i (trace M s cs)) (d .1) in
-      rw (
-        drop-map (λ (e : Entry (M .Body)). e .line) i (trace M s cs),
-        map-lines M (drop i (trace M s cs)),
-        cut-lines (map (lineOf M) (drop i (trace M s cs))) whole,
-      )
+      rw (journal-text s cs i, cut-lines (map (lineOf M) (drop i (trace M s cs))) whole)
 
   module _ (fresh at end : M .S) (es fs : List (Entry (M .Body))) (r : Run M fresh es at) (q : Run M at fs end)
       (origin : M .pos fresh ≡ 0) (good : M .sound at ≡ true) where
@@ -112,7 +117,8 @@ module _ (M : Machine) (𝓛 : Laws M) where
 
     lines-gap :
         (i : ℕ) (lent : ℕ → ℕ) → length es < i → i < length (es ++ fs) → Enough lent
-        → replayLines M lent at (map (lineOf M) (drop i (es ++ fs))) ≡ record { state = at; answers = []; stop = some 2 }
+        → replayLines M lent at (map (lineOf M) (drop i (es ++ fs)))
+        ≡ record { state = at; answers = []; stop = some 2 }
     lines-gap i lent h below big =
         let d = run-drop M 𝓛 i fresh end (es ++ fs) (run-append M 𝓛 fresh at end es fs r q) (omega arith) in
         let there : M .pos (d .0) ≡ M .pos fresh + i = d .2 in
@@ -162,6 +168,8 @@ module _ (M : Machine) (𝓛 : Laws M) where
           journal-lines fresh at calls i lent (omega arith) ∙ rw (drop-of-length-le (trace M fresh calls) past)
 
 -- Demand 3 for any engine: every image that is saved in a session, after whatever frame, takes over the session.
+-- (A save that is not refused says itself that its state is sound; that saves are possible everywhere is
+-- `saved-anywhere` of Corners.)
 pub failover :
     (M : Machine) (𝓛 : Laws M) (fresh : M .S) → M .pos fresh ≡ 0 → M .sound fresh ≡ true
     → (calls : List Call) (k : ℕ) (img : List ℕ) (at : M .S)

@@ -1,20 +1,21 @@
--- A small engine that keeps the laws, so that `failover` is not idle: a frame adds its number to a sum and answers the
--- sum; a frame that adds 0 is refused by 5. A cell of a list holds a whole number here; in a line it is shifted past LF.
+-- A small engine that keeps the laws, so that `failover` is not idle: a frame adds its body, a number, to a sum and
+-- answers the sum; a frame that adds 0 is refused by 5. A cell of a list holds a whole number here, and in a line it is
+-- shifted past LF.
 -- Nothing of document 01's engine is in it.
-use mathlib.Core.Path.{_≡_, refl, sym, ap, _∙_}
-use mathlib.Core.Logic.{_≢_}
+use mathlib.Core.Path.{_≡_, refl, ap}
 use mathlib.Core.Bool.{Bool, true, false}
 use mathlib.Core.Option.{Option, none, some}
-use mathlib.Core.List.{List, [], _∷_, _++_, flatten}
-use Prim.Native.Nat.{ℕ, zero, suc, _+_, _-_, _≤_, _<_}
+use mathlib.Core.List.{List, [], _∷_, flatten}
+use Prim.Native.Nat.{ℕ, zero, suc, _+_, _-_, _≤_}
 use native.Mathlib.Omega.{arith}
 use lib.Dec.{leb}
 use borrow.Author.Tests.{leb-true, le-leb}
-use Rattle.sessions.specs.Machine.{Machine, Form, octets, text, Line, Outcome, refused, done, LF, OneLine}
-use Rattle.sessions.specs.Machine.{Executes, Laws, answerRoom, saveRoom, lastNumber}
+use Rattle.sessions.specs.Machine.{Machine, Form, octets, text, Line, Outcome, refused, done, LF}
+use Rattle.sessions.specs.Machine.{Laws, answerRoom, saveRoom, lastNumber}
 use Rattle.sessions.specs.Session.{Call, give, save, refuseIf, stateAfter, entries, since, judge, answer, image}
 use Rattle.sessions.specs.Session.{reply, after, ran, walk, trace, executed, answers, linesOf, journal}
-use Rattle.sessions.specs.Saved.{cutFrom, cut, withAnswer, resume, replayLines, replay, frames, SavedAfter, Failover}
+use Rattle.sessions.specs.Saved.{cutFrom, cut, withAnswer, resume, replayLines, replay, frames}
+use Rattle.sessions.specs.Saved.{SavedAfter, Failover}
 use Rattle.sessions.specs.Past.{Steps}
 use Rattle.sessions.specs.Replay.{failover}
 
