@@ -12,8 +12,7 @@ use lib.ListN.{drop}
 use lib.Seq.{drop-length}
 use Rattle.sessions.specs.Machine.{Machine, Line, NoLF, refused, done, Laws, saveRoom}
 use Rattle.sessions.specs.Session.{Call, give, save, since, entries, stateAfter, written, image, reply, after}
-use Rattle.sessions.specs.Session.{ran}
-use Rattle.sessions.specs.Session.{walk, trace, executed, answers, linesOf, journal}
+use Rattle.sessions.specs.Session.{ran, walk, trace, executed, answers, linesOf, journal}
 use Rattle.sessions.specs.Saved.{Enough, replay, frames, SavedAfter}
 use Rattle.sessions.specs.Cuts.{AllLines, cut-lines, cut-torn}
 use Rattle.sessions.specs.Refusals.{save-leaves, image-saved, image-wrote}
