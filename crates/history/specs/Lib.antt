@@ -1,0 +1,9 @@
+pub mod Runs
+pub mod Old
+pub mod Live
+pub mod New
+pub mod Held
+pub mod Order
+pub mod History
+pub mod Shown
+pub mod Corners

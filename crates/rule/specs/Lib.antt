@@ -1,0 +1,14 @@
+pub mod Base
+pub mod Radio
+pub mod Rule
+pub mod Reading
+pub mod Engine
+pub mod Claim
+pub mod Finds
+pub mod Moves
+pub mod Fits
+pub mod Rows
+pub mod Shows
+pub mod Project
+pub mod Edges
+pub mod Visits

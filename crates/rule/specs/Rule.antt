@@ -1,0 +1,153 @@
+-- The history rule: document 01, "Watching, by history", sentence by sentence. Definitions only; nothing of the
+-- engine is used. A past is the list of executed frames, the newest first. A place in it is a number of frames back:
+-- 0 is the newest frame, and `take k past` are the frames since the one that stands k back.
+use Prim.Native.Nat.{ℕ, zero, suc, _<_}
+use mathlib.Core.Path.{_≡_}
+use mathlib.Core.Logic.{_⊎_}
+use mathlib.Core.Bool.{Bool, true, false, not, _&&_, cond}
+use mathlib.Core.List.{List, [], _∷_}
+use lib.ListN.{length, take, drop}
+use lib.Dec.{ltb, eqb}
+use Rattle.rule.specs.Base.{All, Distinct}
+use Rattle.rule.specs.Radio.{Radio, Frame, add, cancel, packet, tick, other, HANDLES, CAP}
+
+-- What one handle names: no monitor, or one with its settings and the number of frames after the one that added it.
+pub data Life (R : Radio) : Type 0 where
+  dead : Life R
+  alive : R .Mon → ℕ → Life R
+
+module _ (R : Radio) where
+  abbrev pub isLive : Life R → Bool
+  isLive dead = false
+  isLive (alive m a) = true
+
+  -- One frame later.
+  abbrev pub older : Life R → Life R
+  older dead = dead
+  older (alive m a) = alive m (suc a)
+
+  -- All handles below n are live.
+  abbrev pub allLive : (ℕ → Life R) → ℕ → Bool
+  allLive L zero = true
+  allLive L (suc n) = isLive (L n) && allLive L n
+
+  -- "The new handle is the lowest not live" (Commands): h is a handle, is not live, and all lower ones are.
+  abbrev pub lowest : (ℕ → Life R) → ℕ → Bool
+  lowest L h = ltb h HANDLES && (not (isLive (L h)) && allLive L h)
+
+  -- One frame: accepted settings get the lowest handle not live, if there is one; a cancel ends its handle's monitor.
+  -- A monitor is live from the executed command that adds it until the one that cancels it (Sessions and failover).
+  abbrev pub life1 : Frame R → (ℕ → Life R) → ℕ → Life R
+  life1 (add m) L h = cond (R .okay m && lowest L h) (alive m zero) (older (L h))
+  life1 (cancel g) L h = cond (eqb g h) dead (older (L h))
+  life1 (packet p) L h = older (L h)
+  life1 tick L h = older (L h)
+  life1 other L h = older (L h)
+
+  -- What each handle names after a past.
+  abbrev pub life : List (Frame R) → ℕ → Life R
+  life [] h = dead
+  life (f ∷ past) h = life1 f (λ g. life past g) h
+
+  -- "Only packets that match its condition count. A packet is good if its RSSI is above low": a good frame for a
+  -- monitor and a device is a packet of the device that matches and is above low.
+  abbrev pub goodFor : R .Mon → R .Dev → Frame R → Bool
+  goodFor m d (add n) = false
+  goodFor m d (cancel h) = false
+  goodFor m d (packet p) = R .same (R .dev p) d && (R .matches m p && R .good m p)
+  goodFor m d tick = false
+  goodFor m d other = false
+
+  -- One more, if the frame is a tick.
+  abbrev pub count : Frame R → ℕ → ℕ
+  count (add n) k = k
+  count (cancel h) k = k
+  count (packet p) k = k
+  count tick k = suc k
+  count other k = k
+
+  -- The number of ticks among the frames.
+  abbrev pub ticks : List (Frame R) → ℕ
+  ticks [] = zero
+  ticks (f ∷ l) = count f (ticks l)
+
+  -- No frame is good.
+  abbrev pub NoGood : R .Mon → R .Dev → List (Frame R) → Type 0
+  NoGood m d l = All (λ f. goodFor m d f ≡ false) l
+
+  -- "No run of 10 × interval ticks has passed without a good packet": every stretch of the frames, the j that stand i
+  -- back, has fewer ticks if no frame of it is good. "The tick that completes such a run ends the watch": fewer.
+  abbrev pub NoRun : R .Mon → R .Dev → List (Frame R) → Type 0
+  NoRun m d l = (i j : ℕ) → NoGood m d (take j (drop i l)) → ticks (take j (drop i l)) < R .run m
+
+  -- A set of pairs of monitor (its handle) and device.
+  abbrev pub Pairs : Type 1
+  Pairs = ℕ → R .Dev → Type 0
+
+  -- "Fewer than 64 pairs are": distinct pairs of the set, however chosen, are fewer than 64.
+  abbrev pub Room : Pairs → Type 0
+  Room U = (l : List (ℕ × R .Dev)) → Distinct l → All (λ x. U (x .0) (x .1)) l → length l < CAP
+
+  -- "It is a start if its RSSI is at least high, the pair is not under watch just before, and fewer than 64 pairs are":
+  -- the live monitor h takes the packet as a start, where U are the pairs under watch just before its turn.
+  pub record Takes (past : List (Frame R)) (p : R .Pkt) (h : ℕ) (U : Pairs) : Type 0 where
+    pub mon : R .Mon
+    pub age : ℕ
+    pub live : life past h ≡ alive mon age
+    pub match : R .matches mon p ≡ true
+    pub strong : R .strong mon p ≡ true
+    pub fresh : U h (R .dev p) → ⊥
+    pub room : Room U
+
+  -- "Monitors take one packet in handle order, and a start takes its room at once": the pairs under watch just before
+  -- handle n's turn, where W are those before the packet.
+  abbrev pub Turn : List (Frame R) → R .Pkt → Pairs → ℕ → Pairs
+  Turn past p W zero h e = W h e
+  Turn past p W (suc n) h e =
+      Turn past p W n h e ⊎ ((h ≡ n) × (e ≡ R .dev p) × Takes past p n (λ g c. Turn past p W n g c))
+
+  -- The frame starts the pair (h, e), where W are the pairs under watch before the frame.
+  abbrev pub StartBy : Frame R → List (Frame R) → Pairs → Pairs
+  StartBy (add m) past W h e = ⊥
+  StartBy (cancel g) past W h e = ⊥
+  StartBy (packet p) past W h e = (e ≡ R .dev p) × Takes past p h (Turn past p W h)
+  StartBy tick past W h e = ⊥
+  StartBy other past W h e = ⊥
+
+  -- "The pair is under watch if there is a start since which no run of 10 × interval ticks has passed without a good
+  -- packet", "for a live monitor and a device, looking at frames after the monitor was added". `S k` are the pairs
+  -- that the frame k back started.
+  pub record Watching (past : List (Frame R)) (S : ℕ → Pairs) (h : ℕ) (e : R .Dev) : Type 0 where
+    pub mon : R .Mon
+    pub age : ℕ
+    pub back : ℕ
+    pub live : life past h ≡ alive mon age
+    pub since : back < age
+    pub start : S back h e
+    pub unbroken : NoRun mon e (take back past)
+
+  -- The pairs that the frame k back started. A start asks what was under watch just before, that is, after the
+  -- shorter past: one recursion on the past.
+  abbrev pub StartAt : List (Frame R) → ℕ → Pairs
+  StartAt [] k h e = ⊥
+  StartAt (f ∷ past) zero h e = StartBy f past (λ g c. Watching past (λ k x y. StartAt past k x y) g c) h e
+  StartAt (f ∷ past) (suc k) h e = StartAt past k h e
+
+  -- The pair of monitor h and device e is under watch after the past.
+  abbrev pub UnderWatch : List (Frame R) → Pairs
+  UnderWatch past h e = Watching past (λ k x y. StartAt past k x y) h e
+
+  -- The latest start of a pair stands k back.
+  pub record LatestStart (past : List (Frame R)) (k : ℕ) (h : ℕ) (e : R .Dev) : Type 0 where
+    pub start : StartAt past k h e
+    pub last : (j : ℕ) → j < k → StartAt past j h e → ⊥
+
+  -- "Pairs in the order they started (one packet's starts by handle)": one pair's latest start is before the other's.
+  abbrev pub InOrder : List (Frame R) → (ℕ × R .Dev) → (ℕ × R .Dev) → Type 0
+  InOrder past x y = (j k : ℕ) → LatestStart past j (x .0) (x .1) → LatestStart past k (y .0) (y .1)
+      → (k < j) ⊎ ((j ≡ k) × (x .0 < y .0))
+
+  -- The ticks since the last good packet, or all of them where no packet is good.
+  abbrev pub silent : R .Mon → R .Dev → List (Frame R) → ℕ
+  silent m d [] = zero
+  silent m d (f ∷ l) = cond (goodFor m d f) zero (count f (silent m d l))
