@@ -1,0 +1,9 @@
+-- Whether an advertisement meets a monitor's condition (document 01, Conditions).
+pub mod Parts
+pub mod Sections
+pub mod Pattern
+pub mod Uuid
+pub mod Address
+pub mod Condition
+pub mod Laws
+pub mod Examples

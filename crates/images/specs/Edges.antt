@@ -1,0 +1,157 @@
+-- Texts that are images and texts that are none, as rows of one list under a single claim, which the checker computes.
+-- Document 01, The image, A session in full and refusal 10. The first two rows are document 01's own texts; a text that
+-- is none is off from an image by the one thing that is named.
+use mathlib.Core.Path.{_≡_, refl}
+use mathlib.Core.Bool.{Bool, true, not}
+use mathlib.Core.List.{List, [], _∷_}
+use Prim.Native.String.{String}
+use Rattle.laws.specs.Loops.{every, each}
+use Rattle.model.specs.Image.{isImage}
+use Rattle.images.specs.Quoted.{codes}
+
+-- A row is a text, in pieces. Whether it is an image, and is none:
+unfoldable pub accepted : List String → Bool
+accepted t = isImage (each codes t)
+
+unfoldable pub refused : List String → Bool
+refused t = not (isImage (each codes t))
+
+-- the lines of the image of "A session in full", and its monitor with a window of 2 ticks
+abbrev a0 : String
+a0 = "A002000000001EFC024D53\n"
+
+abbrev a1 : String
+a1 = "A100C4B00300040700060504030201\n"
+
+abbrev a2 : String
+a2 = "A200000605040302010000000000000000000000000000000000\n"
+
+abbrev w1 : String
+w1 = "A100C4B00302040700060504030201\n"
+
+-- texts that save writes of sound states
+unfoldable pub images : List (List String)
+images =
+    -- the fresh image and the image of "A session in full"
+    ("A000000000001EFC024D53\n" ∷ "AF0000\n" ∷ []) ∷
+    (a0 ∷ a1 ∷ a2 ∷ "AF0101\n" ∷ []) ∷
+    -- the blank state; the last position, filter on, the last opcode; a prefix of 32 octets
+    ("A0000000000000FC00\n" ∷ "AF0000\n" ∷ []) ∷
+    ("A0FFFFFFFF01FFFF024D53\n" ∷ "AF0000\n" ∷ []) ∷
+    ("A002000000001EFC204D4D4D4D4D4D4D4D4D4D4D4D4D4D4D4D4D4D4D4D4D4D4D4D4D4D4D4D4D4D4D4D\n" ∷ "AF0000\n" ∷ []) ∷
+    -- a monitor of handle 15 alone; of interval 60; pairs of one address and two address types
+    (a0 ∷ "A10FC4B00300040700060504030201\n" ∷ "AF0100\n" ∷ []) ∷
+    (a0 ∷ "A100C4B03C00040700060504030201\n" ∷ "AF0100\n" ∷ []) ∷
+    (a0 ∷ a1 ∷ a2 ∷ "A200010605040302010000000000000000000000000000000000\n" ∷ "AF0102\n" ∷ []) ∷
+    -- 29 ticks since a good packet, of an interval of 3 seconds
+    (a0 ∷ a1 ∷ "A200000605040302011D00000000000000000000000000000000\n" ∷ "AF0101\n" ∷ []) ∷
+    -- a window of 2 ticks: a packet at −60 with data; at −127 and at 20; as many packets as frames, with 31 octets
+    (a0 ∷ w1 ∷ "A2000006050403020100000101000000C4FFFFFFFFFFFFFF0303020106\n" ∷ "AF0101\n" ∷ []) ∷
+    (a0 ∷ w1 ∷ "A200000605040302010000000100000081FFFFFFFFFFFFFF0000\n" ∷ "AF0101\n" ∷ []) ∷
+    (a0 ∷ w1 ∷ "A200000605040302010000000100000014000000000000000000\n" ∷ "AF0101\n" ∷ []) ∷
+    (a0 ∷ w1 ∷ "A20000060504030201000000020000000000000000000000001F" ∷
+    "00000000000000000000000000000000000000000000000000000000000000\n" ∷ "AF0101\n" ∷ []) ∷ []
+
+-- texts that save writes of no sound state
+unfoldable pub others : List (List String)
+others =
+    -- nothing; no last LF; an LF, a blank line or a line too many; CR
+    ([]) ∷
+    ("A000000000001EFC024D53\n" ∷ "AF0000" ∷ []) ∷
+    (a0 ∷ a1 ∷ a2 ∷ "AF0101" ∷ []) ∷
+    ("A000000000001EFC024D53\n" ∷ "AF0000\n" ∷ "\n" ∷ []) ∷
+    ("A000000000001EFC024D53\n" ∷ "\n" ∷ "AF0000\n" ∷ []) ∷
+    ("A000000000001EFC024D53\n" ∷ "AF0000\n" ∷ "AF0000\n" ∷ []) ∷
+    ("A000000000001EFC024D53\n" ∷ "AF0000\n" ∷ "AF0000" ∷ []) ∷
+    ("A000000000001EFC024D53\r\n" ∷ "AF0000\r\n" ∷ []) ∷
+    -- lower case; a digit too many; a blank
+    ("a000000000001EFC024D53\n" ∷ "AF0000\n" ∷ []) ∷
+    ("A000000000001EfC024D53\n" ∷ "AF0000\n" ∷ []) ∷
+    ("A000000000001EFC024D53\n" ∷ "AF00000\n" ∷ []) ∷
+    ("A0 00000000001EFC024D53\n" ∷ "AF0000\n" ∷ []) ∷
+    -- counts that lie; an octet too many
+    ("A000000000001EFC024D53\n" ∷ "AF0001\n" ∷ []) ∷
+    ("A000000000001EFC024D53\n" ∷ "AF0100\n" ∷ []) ∷
+    (a0 ∷ a1 ∷ a2 ∷ "AF0100\n" ∷ []) ∷
+    (a0 ∷ a1 ∷ a2 ∷ "AF0001\n" ∷ []) ∷
+    ("A000000000001EFC024D53\n" ∷ "AF000000\n" ∷ []) ∷
+    -- a missing line: A0, A1, A2, AF
+    ("AF0000\n" ∷ []) ∷
+    (a0 ∷ a2 ∷ "AF0001\n" ∷ []) ∷
+    (a0 ∷ a1 ∷ "AF0101\n" ∷ []) ∷
+    (a0 ∷ a1 ∷ a2 ∷ []) ∷
+    -- lines swapped: A1 and A2, A0 and A1, A0 and AF; a line of another name
+    (a0 ∷ a2 ∷ a1 ∷ "AF0101\n" ∷ []) ∷
+    (a1 ∷ a0 ∷ a2 ∷ "AF0101\n" ∷ []) ∷
+    ("AF0000\n" ∷ "A000000000001EFC024D53\n" ∷ []) ∷
+    ("A000000000001EFC024D53\n" ∷ "A3\n" ∷ "AF0000\n" ∷ []) ∷
+    -- a handle twice, falling, 16; a pair of no live handle; a pair twice
+    (a0 ∷ a1 ∷ a1 ∷ "AF0200\n" ∷ []) ∷
+    (a0 ∷ "A101C4B00300040700060504030201\n" ∷ a1 ∷ "AF0200\n" ∷ []) ∷
+    (a0 ∷ "A110C4B00300040700060504030201\n" ∷ "AF0100\n" ∷ []) ∷
+    (a0 ∷ a1 ∷ "A201000605040302010000000000000000000000000000000000\n" ∷ "AF0101\n" ∷ []) ∷
+    (a0 ∷ a1 ∷ a2 ∷ a2 ∷ "AF0102\n" ∷ []) ∷
+    -- filter 2; opcode 0xFBFF; a prefix length that lies, both ways; a prefix of 33 octets
+    ("A002000000021EFC024D53\n" ∷ "AF0000\n" ∷ []) ∷
+    ("A00200000000FFFB024D53\n" ∷ "AF0000\n" ∷ []) ∷
+    ("A002000000001EFC034D53\n" ∷ "AF0000\n" ∷ []) ∷
+    ("A002000000001EFC014D53\n" ∷ "AF0000\n" ∷ []) ∷
+    ("A002000000001EFC214D4D4D4D4D4D4D4D4D4D4D4D4D4D4D4D4D4D4D4D4D4D4D4D4D4D4D4D4D4D4D4D4D\n" ∷ "AF0000\n" ∷ []) ∷
+    -- monitors that 03 would not accept: high not above low, interval 61, type 3, a malformed condition
+    (a0 ∷ "A100B0B00300040700060504030201\n" ∷ "AF0100\n" ∷ []) ∷
+    (a0 ∷ "A100C4B03D00040700060504030201\n" ∷ "AF0100\n" ∷ []) ∷
+    (a0 ∷ "A100C4B00300030700060504030201\n" ∷ "AF0100\n" ∷ []) ∷
+    (a0 ∷ "A100C4B003000406000605040302\n" ∷ "AF0100\n" ∷ []) ∷
+    -- 30 ticks since a good packet; address type 2; event type 4; 32 octets of data
+    (a0 ∷ a1 ∷ "A200000605040302011E00000000000000000000000000000000\n" ∷ "AF0101\n" ∷ []) ∷
+    (a0 ∷ a1 ∷ "A200020605040302010000000000000000000000000000000000\n" ∷ "AF0101\n" ∷ []) ∷
+    (a0 ∷ w1 ∷ "A200000605040302010000000100000000000000000000000400\n" ∷ "AF0101\n" ∷ []) ∷
+    (a0 ∷ w1 ∷ "A200000605040302010000000100000000000000000000000020" ∷
+    "0000000000000000000000000000000000000000000000000000000000000000\n" ∷ "AF0101\n" ∷ []) ∷
+    -- a window of 2 ticks with 2 ticks; with more packets than frames; with −128 and 21
+    (a0 ∷ w1 ∷ "A200000605040302010000020000000000000000000000000000\n" ∷ "AF0101\n" ∷ []) ∷
+    (a0 ∷ w1 ∷ "A200000605040302010000000300000000000000000000000000\n" ∷ "AF0101\n" ∷ []) ∷
+    (a0 ∷ w1 ∷ "A200000605040302010000000100000080FFFFFFFFFFFFFF0000\n" ∷ "AF0101\n" ∷ []) ∷
+    (a0 ∷ w1 ∷ "A200000605040302010000000100000015000000000000000000\n" ∷ "AF0101\n" ∷ []) ∷
+    -- a packet with sampling 0; a tick with sampling 0xFF
+    (a0 ∷ a1 ∷ "A200000605040302010000000100000000000000000000000000\n" ∷ "AF0101\n" ∷ []) ∷
+    (a0 ∷ "A100C4B003FF040700060504030201\n" ∷ "A200000605040302010000010000000000000000000000000000\n" ∷
+    "AF0101\n" ∷ []) ∷
+    -- an empty window with a sum, an event type, data
+    (a0 ∷ w1 ∷ "A200000605040302010000000000000001000000000000000000\n" ∷ "AF0101\n" ∷ []) ∷
+    (a0 ∷ w1 ∷ "A200000605040302010000000000000000000000000000000100\n" ∷ "AF0101\n" ∷ []) ∷
+    (a0 ∷ w1 ∷ "A20000060504030201000000000000000000000000000000000100\n" ∷ "AF0101\n" ∷ []) ∷ []
+
+-- Each of the first is an image, and none of the others is.
+pub edges-hold : (every accepted images ≡ true) × (every refused others ≡ true)
+unfolding accepted refused images others codes
+    Rattle.model.specs.Types.mostMonitors Rattle.model.specs.Types.mostPairs Rattle.model.specs.Types.mostCondition
+    Rattle.model.specs.Types.mostData Rattle.model.specs.Types.mostPrefix Rattle.model.specs.Types.ticksOf
+    Rattle.model.specs.Types.device Rattle.model.specs.Types.watched
+    Rattle.model.specs.Level.level Rattle.model.specs.Level.inRange Rattle.model.specs.Level.levels
+    Rattle.model.specs.Monitors.highAbove Rattle.model.specs.Monitors.faultOf Rattle.model.specs.Monitors.accepts
+    Rattle.model.specs.Monitors.runOf Rattle.model.specs.Monitors.windowed
+    Rattle.model.specs.Watch.isPair Rattle.model.specs.Watch.holds
+    Rattle.model.specs.Sound.octetsUpTo Rattle.model.specs.Sound.soundSettings Rattle.model.specs.Sound.soundMonitor
+    Rattle.model.specs.Sound.soundMonitors Rattle.model.specs.Sound.soundWindow Rattle.model.specs.Sound.soundEmpty
+    Rattle.model.specs.Sound.soundFields Rattle.model.specs.Sound.soundOf Rattle.model.specs.Sound.soundPair
+    Rattle.model.specs.Sound.apart Rattle.model.specs.Sound.soundModel
+    Rattle.laws.specs.Tests.pick Rattle.laws.specs.Tests.sames
+    Rattle.laws.specs.Loops.every Rattle.laws.specs.Loops.some Rattle.laws.specs.Loops.only
+    Rattle.laws.specs.Loops.keep Rattle.laws.specs.Loops.when Rattle.laws.specs.Loops.each
+    Rattle.advert.specs.Parts.partsFrom Rattle.advert.specs.Parts.parts
+    Rattle.advert.specs.Pattern.extent Rattle.advert.specs.Pattern.fills Rattle.advert.specs.Pattern.patternsForm
+    Rattle.advert.specs.Uuid.uuidSize Rattle.advert.specs.Uuid.uuidForm
+    Rattle.advert.specs.Address.addressForm
+    Rattle.advert.specs.Condition.wellFormed
+    Rattle.sessions.specs.Machine.lastNumber
+    Rattle.model.specs.Image.headRow Rattle.model.specs.Image.monitorRow Rattle.model.specs.Image.pairRow
+    Rattle.model.specs.Image.endRow Rattle.model.specs.Image.records Rattle.model.specs.Image.imageText
+    Rattle.model.specs.Image.monitorIn Rattle.model.specs.Image.pairIn Rattle.model.specs.Image.named
+    Rattle.model.specs.Image.rowsNamed Rattle.model.specs.Image.firstOf Rattle.model.specs.Image.modelIn
+    Rattle.model.specs.Image.heldIn Rattle.model.specs.Image.isImage
+    Rattle.octets.specs.Little.little Rattle.octets.specs.Little.octetsOf
+    Rattle.lines.specs.Hex.digit Rattle.lines.specs.Hex.isHex Rattle.lines.specs.Hex.nib Rattle.lines.specs.Hex.hexOf
+    Rattle.lines.specs.Hex.textOf Rattle.lines.specs.Hex.octetsIn
+    Rattle.sessions.specs.Saved.cutFrom Rattle.sessions.specs.Saved.cut
+edges-hold = (refl, refl)

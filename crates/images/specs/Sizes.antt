@@ -1,0 +1,112 @@
+-- How long an image is: the sum of its lines, at most 9,770 characters. Document 01, Sizes of the gateway
+-- ("image 9,770") and The image. Assumes nothing.
+use Prim.Native.Nat.{ℕ, suc, _+_, _*_, _≤_}
+use mathlib.Core.Path.{_≡_, refl, _∙_}
+use mathlib.Core.Bool.{true}
+use mathlib.Core.List.{List, [], _∷_, _++_, map}
+use native.Mathlib.Omega.{arith}
+use native.Mathlib.Nat.{mul-suc}
+use lib.ListN.{length, length-append}
+use Rattle.laws.specs.Loops.{each, each-append}
+use Rattle.lines.specs.Hex.{textOf}
+use Rattle.lines.specs.Texts.{length-text}
+use Rattle.sessions.specs.Machine.{saveRoom}
+use Rattle.model.specs.Types.{Model, Monitor, Pair}
+use Rattle.model.specs.Sound.{soundModel}
+use Rattle.model.specs.Image.{headRow, monitorRow, pairRow, endRow, records, imageText}
+use Rattle.blocks.specs.Rows.{length-headRow, length-monitorRow, length-pairRow}
+use Rattle.images.specs.Fits.{MonitorFits, PairFits, All, Fits, sound-fits}
+
+-- the sum of a number for each element
+unfoldable pub total : {A : Type 0} → (A → ℕ) → List A → ℕ
+total f [] = 0
+total f (a ∷ l) = f a + total f l
+
+-- characters of a line of so many octets: two an octet, and the LF
+unfoldable pub lineLength : ℕ → ℕ
+lineLength n = 2 * n + 1
+
+-- A0: its name, position, filter, opcode and length, then the prefix
+unfoldable pub headLength : Model → ℕ
+headLength m = lineLength (9 + length (m .prefix))
+
+-- A1: its name and 7 octets, then the condition
+unfoldable pub monitorLength : ℕ × Monitor → ℕ
+monitorLength x = lineLength (8 + length (x .1 .condition))
+
+-- A2: its name and 25 octets, then the data
+unfoldable pub pairLength : Pair → ℕ
+pairLength q = lineLength (26 + length (q .adv))
+
+-- AF: its name and 2 octets
+unfoldable pub endLength : ℕ
+endLength = lineLength 3
+
+-- the image
+unfoldable pub imageLength : Model → ℕ
+imageLength m = headLength m + (total monitorLength (m .mons) + (total pairLength (m .pairs) + endLength))
+
+module _ {A : Type 0} (row : A → List ℕ) (size : A → ℕ) where
+  -- lines written one after another
+  length-lines : (P : A → Type 0) (l : List A) → ((a : A) → P a → length (textOf (row a)) ≡ size a) → All P l
+      → length (each textOf (map row l)) ≡ total size l
+  unfolding each total
+  length-lines P [] h p = refl
+  length-lines P (a ∷ l) h p = simp length-append (rw (h a (p .0), length-lines P l h (p .1)))
+
+module _ {A : Type 0} (size : A → ℕ) (n : ℕ) where
+  total-most : (P : A → Type 0) (l : List A) → ((a : A) → P a → size a ≤ n) → All P l → total size l ≤ n * length l
+  unfolding total
+  total-most P [] h p = omega arith
+  total-most P (a ∷ l) h p =
+      let e : n * suc (length l) ≡ n * length l + n = mul-suc n (length l) in
+      omega (arith, h a (p .0), total-most P l h (p .1))
+
+length-head : (m : Model) → length (textOf (0xA0 ∷ headRow m)) ≡ headLength m
+unfolding headLength lineLength
+length-head m = length-text (0xA0 ∷ headRow m) ∙ omega (arith, length-headRow m)
+
+length-monitor : (x : ℕ × Monitor) → MonitorFits x → length (textOf (0xA1 ∷ monitorRow x)) ≡ monitorLength x
+unfolding monitorLength lineLength
+length-monitor x f = length-text (0xA1 ∷ monitorRow x) ∙ omega (arith, length-monitorRow x)
+
+length-pair : (q : Pair) → PairFits q → length (textOf (0xA2 ∷ pairRow q)) ≡ pairLength q
+unfolding pairLength lineLength
+length-pair q f = length-text (0xA2 ∷ pairRow q) ∙ omega (arith, length-pairRow q (f .six))
+
+length-end : (m : Model) → length (textOf (0xAF ∷ endRow m)) ≡ endLength
+unfolding endLength lineLength endRow
+length-end m = length-text (0xAF ∷ endRow m)
+
+-- The image of a sound state is as long as its lines are.
+pub image-length : (m : Model) → soundModel m ≡ true → length (imageText m) ≡ imageLength m
+unfolding imageText records imageLength each
+image-length m e =
+    let f : Fits m = sound-fits m e in
+    let r : List (List ℕ) = map (λ (x : ℕ × Monitor). 0xA1 ∷ monitorRow x) (m .mons) in
+    let p : List (List ℕ) = map (λ (q : Pair). 0xA2 ∷ pairRow q) (m .pairs) in
+    let z : List (List ℕ) = (0xAF ∷ endRow m) ∷ [] in
+    let a : length (each textOf r) ≡ total monitorLength (m .mons) =
+    length-lines (λ (x : ℕ × Monitor). 0xA1 ∷ monitorRow x) monitorLength MonitorFits (m .mons) length-monitor
+    (f .mons) in
+    let b : length (each textOf p) ≡ total pairLength (m .pairs) =
+    length-lines (λ (q : Pair). 0xA2 ∷ pairRow q) pairLength PairFits (m .pairs) length-pair (f .pairs) in
+    rw (each-append textOf r (p ++ z), each-append textOf p z)
+    (simp length-append (omega (arith, length-head m, length-end m)))
+
+-- "image 9,770": the image of a sound state is at most that long.
+pub image-most : (m : Model) → soundModel m ≡ true → length (imageText m) ≤ 9770
+unfolding imageLength headLength monitorLength pairLength endLength lineLength
+image-most m e =
+    let f : Fits m = sound-fits m e in
+    let s : length (imageText m) ≡ imageLength m = image-length m e in
+    let a : total monitorLength (m .mons) ≤ 145 * length (m .mons) =
+    total-most monitorLength 145 MonitorFits (m .mons) (λ x g. omega (arith, g .short)) (f .mons) in
+    let b : total pairLength (m .pairs) ≤ 115 * length (m .pairs) =
+    total-most pairLength 115 PairFits (m .pairs) (λ q g. omega (arith, g .short)) (f .pairs) in
+    omega (arith, f .head .short, f .most-mons, f .most-pairs)
+
+-- so it fits what a save is lent
+pub image-room : (m : Model) → soundModel m ≡ true → length (imageText m) ≤ saveRoom
+unfolding saveRoom
+image-room m e = image-most m e

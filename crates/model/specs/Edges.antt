@@ -1,0 +1,278 @@
+-- Document 01, "Both sides of each edge": P1 to P10 as rows of one list under a single claim, which the checker computes. A row
+-- is a state, frames given one after another as octets, and what each is answered: octets written, or a refusal number.
+-- The expected octets are document 01's own, or follow from its rules by hand.
+use Prim.Native.Nat.{ℕ, zero, suc, _+_}
+use mathlib.Core.Path.{_≡_, refl}
+use mathlib.Core.Bool.{Bool, true, false, _&&_}
+use mathlib.Core.List.{List, [], _∷_, _++_}
+use mathlib.Core.Option.{Option, none, some}
+use lib.Dec.{eqb}
+use lib.ListN.{length, replicate}
+use Rattle.laws.specs.Tests.{pick, sames}
+use Rattle.laws.specs.Loops.{every, some as someOf, keep, only, each, when}
+use Rattle.octets.specs.Little.{little, octetsOf}
+use Rattle.lines.specs.Hex.{digit, hexOf, textOf}
+use Rattle.sessions.specs.Machine.{Outcome, refused, done, octets}
+use Rattle.sessions.specs.Session.{answer, stateAfter}
+use Rattle.model.specs.Types.{Model, fresh}
+use Rattle.model.specs.Image.{imageText}
+use Rattle.model.specs.Engine.{models}
+
+-- what a frame was answered: octets, or a refusal
+pub data Reply : Type 0 where
+  wrote : List ℕ → Reply
+  refusal : ℕ → Reply
+
+unfoldable pub replyOf : Outcome Model → Reply
+replyOf (refused n) = refusal n
+replyOf (done m l) = wrote l
+
+unfoldable pub same : Reply → Reply → Bool
+same (wrote l) (wrote k) = sames l k
+same (wrote l) (refusal n) = false
+same (refusal n) (wrote l) = false
+same (refusal n) (refusal k) = eqb n k
+
+-- a row: settings, frames, what each is answered, and the lines of the image at the end (none: not compared)
+pub record Row : Type 0 where
+  pub opcode : ℕ
+  pub prefix : List ℕ
+  pub frames : List (List ℕ)
+  pub replies : List Reply
+  pub image : List (List ℕ)
+
+-- the frames given one after another, with 2,880 octets lent each, and their replies compared
+unfoldable pub answered : Model → List (List ℕ) → List Reply → Bool
+answered m [] [] = true
+answered m [] (r ∷ rs) = false
+answered m (f ∷ fs) [] = false
+answered m (f ∷ fs) (r ∷ rs) = same (replyOf (answer models 2880 m octets f)) r && answered (stateAfter m (answer models 2880 m octets f)) fs rs
+
+unfoldable pub reached : Model → List (List ℕ) → Model
+reached m [] = m
+reached m (f ∷ fs) = reached (stateAfter m (answer models 2880 m octets f)) fs
+
+unfoldable pub imaged : List (List ℕ) → Model → Bool
+imaged [] m = true
+imaged (l ∷ ls) m = sames (imageText m) (each textOf (l ∷ ls))
+
+unfoldable pub right : Row → Bool
+right r = answered (fresh (r .opcode) (r .prefix)) (r .frames) (r .replies) && imaged (r .image) (reached (fresh (r .opcode) (r .prefix)) (r .frames))
+
+-- frames: a command, a packet of the device 06 05 04 03 02 01 with no data, a packet with data, a tick; and ticks in a row
+unfoldable pub cmd : ℕ → List ℕ → List ℕ
+cmd n l = 1 ∷ (octetsOf 4 n ++ (octetsOf 2 0xFC1E ++ (length l ∷ l)))
+
+unfoldable pub pkt : ℕ → ℕ → List ℕ
+pkt n rssi = 2 ∷ (octetsOf 4 n ++ (0 ∷ 0 ∷ 6 ∷ 5 ∷ 4 ∷ 3 ∷ 2 ∷ 1 ∷ 0 ∷ rssi ∷ []))
+
+unfoldable pub adv : ℕ → List ℕ → ℕ → List ℕ
+adv n l rssi = 2 ∷ (octetsOf 4 n ++ (0 ∷ 0 ∷ 6 ∷ 5 ∷ 4 ∷ 3 ∷ 2 ∷ 1 ∷ length l ∷ (l ++ (rssi ∷ []))))
+
+unfoldable pub tck : ℕ → List ℕ
+tck n = 3 ∷ octetsOf 4 n
+
+unfoldable pub tcks : ℕ → ℕ → List (List ℕ)
+tcks zero n = []
+tcks (suc k) n = tck n ∷ tcks k (suc n)
+
+-- silent ticks: nothing is written
+unfoldable pub quiet : ℕ → List Reply
+quiet k = replicate k (wrote [])
+
+-- the monitor of "A session in full": high −60, low −80, 3 s, sampling 0, that address
+unfoldable pub addWatch : List ℕ
+addWatch = 0x03 ∷ 0xC4 ∷ 0xB0 ∷ 0x03 ∷ 0x00 ∷ 0x04 ∷ 0x00 ∷ 0x06 ∷ 0x05 ∷ 0x04 ∷ 0x03 ∷ 0x02 ∷ 0x01 ∷ []
+
+-- its answer, and the events and the report of a start, of a packet at −60
+unfoldable pub added0 : List ℕ
+added0 = 0x0E ∷ 0x06 ∷ 0x01 ∷ 0x1E ∷ 0xFC ∷ 0x00 ∷ 0x03 ∷ 0x00 ∷ []
+
+unfoldable pub start0 : List ℕ
+start0 = 0xFF ∷ 0x0C ∷ 0x4D ∷ 0x53 ∷ 0x02 ∷ 0x00 ∷ 0x06 ∷ 0x05 ∷ 0x04 ∷ 0x03 ∷ 0x02 ∷ 0x01 ∷ 0x00 ∷ 0x01 ∷ []
+
+unfoldable pub stop0 : List ℕ
+stop0 = 0xFF ∷ 0x0C ∷ 0x4D ∷ 0x53 ∷ 0x02 ∷ 0x00 ∷ 0x06 ∷ 0x05 ∷ 0x04 ∷ 0x03 ∷ 0x02 ∷ 0x01 ∷ 0x00 ∷ 0x00 ∷ []
+
+unfoldable pub report60 : List ℕ
+report60 = 0x3E ∷ 0x0C ∷ 0x02 ∷ 0x01 ∷ 0x00 ∷ 0x00 ∷ 0x06 ∷ 0x05 ∷ 0x04 ∷ 0x03 ∷ 0x02 ∷ 0x01 ∷ 0x00 ∷ 0xC4 ∷ []
+
+-- the session: settings 0xFC1E and 4D 53
+unfoldable pub session : List (List ℕ) → List Reply → List (List ℕ) → Row
+session frames replies image = record { opcode = 0xFC1E; prefix = 0x4D ∷ 0x53 ∷ []; frames = frames; replies = replies; image = image }
+
+-- P1: the fresh image
+unfoldable pub p1fresh : Row
+p1fresh = session
+    ([])
+    ([])
+    ((0xA0 ∷ 0x00 ∷ 0x00 ∷ 0x00 ∷ 0x00 ∷ 0x00 ∷ 0x1E ∷ 0xFC ∷ 0x02 ∷ 0x4D ∷ 0x53 ∷ []) ∷ (0xAF ∷ 0x00 ∷ 0x00 ∷ []) ∷ [])
+
+-- P1: the session, its answers and its image
+unfoldable pub p1 : Row
+p1 = session
+    (cmd 1 addWatch ∷ pkt 2 0xC4 ∷ [])
+    (wrote added0 ∷ wrote (start0 ++ report60) ∷ [])
+    ((0xA0 ∷ 0x02 ∷ 0x00 ∷ 0x00 ∷ 0x00 ∷ 0x00 ∷ 0x1E ∷ 0xFC ∷ 0x02 ∷ 0x4D ∷ 0x53 ∷ []) ∷ (0xA1 ∷ 0x00 ∷ 0xC4 ∷ 0xB0 ∷ 0x03 ∷ 0x00 ∷ 0x04 ∷ 0x07 ∷ 0x00 ∷ 0x06 ∷ 0x05 ∷ 0x04 ∷ 0x03 ∷ 0x02 ∷ 0x01 ∷ []) ∷ (0xA2 ∷ 0x00 ∷ 0x00 ∷ 0x06 ∷ 0x05 ∷ 0x04 ∷ 0x03 ∷ 0x02 ∷ 0x01 ∷ 0x00 ∷ 0x00 ∷ 0x00 ∷ 0x00 ∷ 0x00 ∷ 0x00 ∷ 0x00 ∷ 0x00 ∷ 0x00 ∷ 0x00 ∷ 0x00 ∷ 0x00 ∷ 0x00 ∷ 0x00 ∷ 0x00 ∷ 0x00 ∷ 0x00 ∷ []) ∷ (0xAF ∷ 0x01 ∷ 0x01 ∷ []) ∷ [])
+
+-- P2: 29 ticks write nothing, the 30th the stop event
+unfoldable pub p2 : Row
+p2 = session
+    (cmd 1 addWatch ∷ pkt 2 0xC4 ∷ tcks 30 3)
+    (wrote added0 ∷ wrote (start0 ++ report60) ∷ (quiet 29 ++ (wrote stop0 ∷ [])))
+    ([])
+
+-- P2: a packet at −79 after 29 ticks starts the run anew: the 29 ticks after it write nothing, the 30th stops
+unfoldable pub p2good : Row
+p2good = session
+    (cmd 1 addWatch ∷ pkt 2 0xC4 ∷ (tcks 29 3 ++ (pkt 32 0xB1 ∷ tcks 30 33)))
+    (wrote added0 ∷ wrote (start0 ++ report60) ∷ (quiet 29 ++ (wrote (0x3E ∷ 0x0C ∷ 0x02 ∷ 0x01 ∷ 0 ∷ 0 ∷ 6 ∷ 5 ∷ 4 ∷ 3 ∷ 2 ∷ 1 ∷ 0 ∷ 0xB1 ∷ []) ∷ (quiet 29 ++ (wrote stop0 ∷ [])))))
+    ([])
+
+-- P2: a packet at −80 does not: the next tick stops
+unfoldable pub p2low : Row
+p2low = session
+    (cmd 1 addWatch ∷ pkt 2 0xC4 ∷ (tcks 29 3 ++ (pkt 32 0xB0 ∷ tck 33 ∷ [])))
+    (wrote added0 ∷ wrote (start0 ++ report60) ∷ (quiet 29 ++ (wrote (0x3E ∷ 0x0C ∷ 0x02 ∷ 0x01 ∷ 0 ∷ 0 ∷ 6 ∷ 5 ∷ 4 ∷ 3 ∷ 2 ∷ 1 ∷ 0 ∷ 0xB0 ∷ []) ∷ wrote stop0 ∷ [])))
+    ([])
+
+-- the filter switched on
+unfoldable pub on : List ℕ
+on = 0x05 ∷ 0x01 ∷ []
+
+unfoldable pub onAnswer : List ℕ
+onAnswer = 0x0E ∷ 0x05 ∷ 0x01 ∷ 0x1E ∷ 0xFC ∷ 0x00 ∷ 0x05 ∷ []
+
+-- P3: with the filter on, −61 starts nothing, −60 does
+unfoldable pub p3 : Row
+p3 = session
+    (cmd 1 addWatch ∷ cmd 2 on ∷ pkt 3 0xC3 ∷ pkt 4 0xC4 ∷ [])
+    (wrote added0 ∷ wrote onAnswer ∷ wrote [] ∷ wrote (start0 ++ report60) ∷ [])
+    ([])
+
+-- the same monitor with sampling 1, and with high 0 and −10
+unfoldable pub addSampled : List ℕ
+addSampled = 0x03 ∷ 0xC4 ∷ 0xB0 ∷ 0x03 ∷ 0x01 ∷ 0x04 ∷ 0x00 ∷ 0x06 ∷ 0x05 ∷ 0x04 ∷ 0x03 ∷ 0x02 ∷ 0x01 ∷ []
+
+-- P4: the mean of −60 and −61 is −61
+unfoldable pub p4sixty : Row
+p4sixty = session
+    (cmd 1 addSampled ∷ cmd 2 on ∷ pkt 3 0xC4 ∷ pkt 4 0xC4 ∷ pkt 5 0xC3 ∷ tck 6 ∷ [])
+    (wrote added0 ∷ wrote onAnswer ∷ wrote (start0 ++ report60) ∷ wrote [] ∷ wrote [] ∷ wrote (0x3E ∷ 0x0C ∷ 0x02 ∷ 0x01 ∷ 0 ∷ 0 ∷ 6 ∷ 5 ∷ 4 ∷ 3 ∷ 2 ∷ 1 ∷ 0 ∷ 0xC3 ∷ []) ∷ [])
+    ([])
+
+-- P4: the image inside that window: two packets, their sum −121
+unfoldable pub p4image : Row
+p4image =
+    session (cmd 1 addSampled ∷ cmd 2 on ∷ pkt 3 0xC4 ∷ pkt 4 0xC4 ∷ pkt 5 0xC3 ∷ [])
+    (wrote added0 ∷ wrote onAnswer ∷ wrote (start0 ++ report60) ∷ wrote [] ∷ wrote [] ∷ [])
+    ((0xA0 ∷ 5 ∷ 0 ∷ 0 ∷ 0 ∷ 1 ∷ 0x1E ∷ 0xFC ∷ 2 ∷ 0x4D ∷ 0x53 ∷ [])
+    ∷ (0xA1 ∷ 0 ∷ 0xC4 ∷ 0xB0 ∷ 3 ∷ 1 ∷ 4 ∷ 7 ∷ 0 ∷ 6 ∷ 5 ∷ 4 ∷ 3 ∷ 2 ∷ 1 ∷ [])
+    ∷ (0xA2 ∷ 0 ∷ 0 ∷ 6 ∷ 5 ∷ 4 ∷ 3 ∷ 2 ∷ 1 ∷ 0 ∷ 0 ∷ 0 ∷ 2 ∷ 0 ∷ 0 ∷ 0 ∷ 0x87 ∷ 0xFF ∷ 0xFF ∷ 0xFF ∷ 0xFF ∷ 0xFF ∷ 0xFF ∷ 0xFF ∷ 0 ∷ 0 ∷ [])
+    ∷ (0xAF ∷ 1 ∷ 1 ∷ []) ∷ [])
+
+-- P4: of −1 and 0, −1
+unfoldable pub p4minus : Row
+p4minus = session
+    (cmd 1 addSampled ∷ cmd 2 on ∷ pkt 3 0xC4 ∷ pkt 4 0xFF ∷ pkt 5 0x00 ∷ tck 6 ∷ [])
+    (wrote added0 ∷ wrote onAnswer ∷ wrote (start0 ++ report60) ∷ wrote [] ∷ wrote [] ∷ wrote (0x3E ∷ 0x0C ∷ 0x02 ∷ 0x01 ∷ 0 ∷ 0 ∷ 6 ∷ 5 ∷ 4 ∷ 3 ∷ 2 ∷ 1 ∷ 0 ∷ 0xFF ∷ []) ∷ [])
+    ([])
+
+-- P4: of 0 and 1, 0
+unfoldable pub p4plus : Row
+p4plus = session
+    (cmd 1 addSampled ∷ cmd 2 on ∷ pkt 3 0xC4 ∷ pkt 4 0x00 ∷ pkt 5 0x01 ∷ tck 6 ∷ [])
+    (wrote added0 ∷ wrote onAnswer ∷ wrote (start0 ++ report60) ∷ wrote [] ∷ wrote [] ∷ wrote (0x3E ∷ 0x0C ∷ 0x02 ∷ 0x01 ∷ 0 ∷ 0 ∷ 6 ∷ 5 ∷ 4 ∷ 3 ∷ 2 ∷ 1 ∷ 0 ∷ 0x00 ∷ []) ∷ [])
+    ([])
+
+-- a monitor command refused as invalid
+unfoldable pub invalid03 : List ℕ
+invalid03 = 0x0E ∷ 0x06 ∷ 0x01 ∷ 0x1E ∷ 0xFC ∷ 0x12 ∷ 0x03 ∷ 0x00 ∷ []
+
+-- P5: threshold 20 is accepted, 21 is not
+unfoldable pub p5 : Row
+p5 = session
+    (cmd 1 (0x03 ∷ 0x14 ∷ 0xB0 ∷ 3 ∷ 0 ∷ 4 ∷ 0 ∷ 6 ∷ 5 ∷ 4 ∷ 3 ∷ 2 ∷ 1 ∷ []) ∷ cmd 2 (0x03 ∷ 0x15 ∷ 0xB0 ∷ 3 ∷ 0 ∷ 4 ∷ 0 ∷ 6 ∷ 5 ∷ 4 ∷ 3 ∷ 2 ∷ 1 ∷ []) ∷ [])
+    (wrote added0 ∷ wrote invalid03 ∷ [])
+    ([])
+
+unfoldable pub added1 : List ℕ
+added1 = 0x0E ∷ 0x06 ∷ 0x01 ∷ 0x1E ∷ 0xFC ∷ 0x00 ∷ 0x03 ∷ 0x01 ∷ []
+
+unfoldable pub added2 : List ℕ
+added2 = 0x0E ∷ 0x06 ∷ 0x01 ∷ 0x1E ∷ 0xFC ∷ 0x00 ∷ 0x03 ∷ 0x02 ∷ []
+
+-- P6: interval 0, 1, 60, 61
+unfoldable pub p6 : Row
+p6 = session
+    (cmd 1 (0x03 ∷ 0xC4 ∷ 0xB0 ∷ 0 ∷ 0 ∷ 4 ∷ 0 ∷ 6 ∷ 5 ∷ 4 ∷ 3 ∷ 2 ∷ 1 ∷ []) ∷ cmd 2 (0x03 ∷ 0xC4 ∷ 0xB0 ∷ 1 ∷ 0 ∷ 4 ∷ 0 ∷ 6 ∷ 5 ∷ 4 ∷ 3 ∷ 2 ∷ 1 ∷ []) ∷ cmd 3 (0x03 ∷ 0xC4 ∷ 0xB0 ∷ 60 ∷ 0 ∷ 4 ∷ 0 ∷ 6 ∷ 5 ∷ 4 ∷ 3 ∷ 2 ∷ 1 ∷ []) ∷ cmd 4 (0x03 ∷ 0xC4 ∷ 0xB0 ∷ 61 ∷ 0 ∷ 4 ∷ 0 ∷ 6 ∷ 5 ∷ 4 ∷ 3 ∷ 2 ∷ 1 ∷ []) ∷ [])
+    (wrote invalid03 ∷ wrote added0 ∷ wrote added1 ∷ wrote invalid03 ∷ [])
+    ([])
+
+-- P7: handles 0, 1, 2, cancel 1, next is 1
+unfoldable pub p7 : Row
+p7 = session
+    (cmd 1 addWatch ∷ cmd 2 addWatch ∷ cmd 3 addWatch ∷ cmd 4 (0x04 ∷ 1 ∷ []) ∷ cmd 5 addWatch ∷ [])
+    (wrote added0 ∷ wrote added1 ∷ wrote added2 ∷ wrote (0x0E ∷ 0x05 ∷ 0x01 ∷ 0x1E ∷ 0xFC ∷ 0x00 ∷ 0x04 ∷ []) ∷ wrote added1 ∷ [])
+    ([])
+
+-- P8: enable 0 on a fresh state is 0x0C, enable 1 succeeds
+unfoldable pub p8 : Row
+p8 = session
+    (cmd 1 (0x05 ∷ 0 ∷ []) ∷ cmd 2 on ∷ [])
+    (wrote (0x0E ∷ 0x05 ∷ 0x01 ∷ 0x1E ∷ 0xFC ∷ 0x0C ∷ 0x05 ∷ []) ∷ wrote onAnswer ∷ [])
+    ([])
+
+-- the features and the prefix, and a wrong length
+unfoldable pub readPrefix : Row
+readPrefix =
+    session (cmd 1 (0x00 ∷ []) ∷ cmd 2 (0x00 ∷ 0 ∷ []) ∷ [])
+    (wrote (0x0E ∷ 0x10 ∷ 0x01 ∷ 0x1E ∷ 0xFC ∷ 0 ∷ 0 ∷ 0x0C ∷ 0 ∷ 0 ∷ 0 ∷ 0 ∷ 0 ∷ 0 ∷ 0 ∷ 2 ∷ 0x4D ∷ 0x53 ∷ [])
+    ∷ wrote (0x0E ∷ 0x05 ∷ 0x01 ∷ 0x1E ∷ 0xFC ∷ 0x12 ∷ 0x00 ∷ []) ∷ [])
+    []
+
+-- P9: a 16-bit UUID straddling two others is no match, one of the two is
+unfoldable pub p9 : Row
+p9 = session
+    (cmd 1 (0x03 ∷ 0xC4 ∷ 0xB0 ∷ 3 ∷ 0 ∷ 2 ∷ 1 ∷ 0x22 ∷ 0x33 ∷ []) ∷ cmd 2 on ∷ adv 3 (5 ∷ 3 ∷ 0x11 ∷ 0x22 ∷ 0x33 ∷ 0x44 ∷ []) 0xC4 ∷ adv 4 (5 ∷ 3 ∷ 0x11 ∷ 0x44 ∷ 0x22 ∷ 0x33 ∷ []) 0xC4 ∷ [])
+    (wrote added0 ∷ wrote onAnswer ∷ wrote [] ∷ wrote (start0 ++ (0x3E ∷ 0x12 ∷ 0x02 ∷ 0x01 ∷ 0 ∷ 0 ∷ 6 ∷ 5 ∷ 4 ∷ 3 ∷ 2 ∷ 1 ∷ 6 ∷ 5 ∷ 3 ∷ 0x11 ∷ 0x44 ∷ 0x22 ∷ 0x33 ∷ 0xC4 ∷ [])) ∷ [])
+    ([])
+
+-- P10: a frame number equal to the position is seen, two above is a gap, one above is executed
+unfoldable pub p10 : Row
+p10 = session
+    (tck 1 ∷ tck 1 ∷ tck 3 ∷ tck 2 ∷ [])
+    (wrote [] ∷ refusal 1 ∷ refusal 2 ∷ wrote [] ∷ [])
+    ([])
+
+-- all rows
+unfoldable pub edges : List Row
+edges = p1fresh ∷ p1 ∷ p2 ∷ p2good ∷ p2low ∷ p3 ∷ p4sixty ∷ p4image ∷ p4minus ∷ p4plus ∷ p5 ∷ p6 ∷ p7 ∷ p8 ∷ readPrefix ∷ p9 ∷ p10 ∷ []
+
+-- P1 to P10 hold of the definitions.
+pub edges-hold : every right edges ≡ true
+unfolding replyOf same answered reached imaged right cmd pkt adv tck tcks quiet addWatch added0 start0 stop0 report60 session p1fresh p1 p2 p2good p2low on onAnswer p3 addSampled p4sixty p4image p4minus p4plus invalid03 p5 added1 added2 p6 p7 p8 readPrefix p9 p10 edges
+    Rattle.model.specs.Types.mostMonitors Rattle.model.specs.Types.mostPairs Rattle.model.specs.Types.mostCondition Rattle.model.specs.Types.mostData Rattle.model.specs.Types.mostPrefix Rattle.model.specs.Types.ticksOf Rattle.model.specs.Types.device Rattle.model.specs.Types.deviceOf Rattle.model.specs.Types.watched Rattle.model.specs.Types.withLists Rattle.model.specs.Types.withFilter Rattle.model.specs.Types.moved Rattle.model.specs.Types.fresh Rattle.model.specs.Types.blank
+    Rattle.model.specs.Level.level Rattle.model.specs.Level.inRange Rattle.model.specs.Level.extended Rattle.model.specs.Level.addRssi Rattle.model.specs.Level.levels Rattle.model.specs.Level.mean
+    Rattle.model.specs.Frames.frameOf Rattle.model.specs.Frames.rawOf Rattle.model.specs.Frames.readRaw Rattle.model.specs.Frames.read Rattle.model.specs.Frames.write Rattle.model.specs.Frames.isCommand Rattle.model.specs.Frames.isPacket Rattle.model.specs.Frames.packetOf Rattle.model.specs.Frames.isTick Rattle.model.specs.Frames.typed
+    Rattle.model.specs.Monitors.highAbove Rattle.model.specs.Monitors.faultOf Rattle.model.specs.Monitors.accepts Rattle.model.specs.Monitors.monitorOf Rattle.model.specs.Monitors.matches Rattle.model.specs.Monitors.good Rattle.model.specs.Monitors.strong Rattle.model.specs.Monitors.runOf Rattle.model.specs.Monitors.windowed
+    Rattle.model.specs.Commands.table Rattle.model.specs.Commands.paramsIn Rattle.model.specs.Commands.answerIn Rattle.model.specs.Commands.present Rattle.model.specs.Commands.subOf Rattle.model.specs.Commands.readStatus Rattle.model.specs.Commands.addStatus Rattle.model.specs.Commands.cancelStatus Rattle.model.specs.Commands.enableStatus Rattle.model.specs.Commands.status Rattle.model.specs.Commands.handleOr Rattle.model.specs.Commands.newHandle Rattle.model.specs.Commands.features Rattle.model.specs.Commands.success Rattle.model.specs.Commands.failure Rattle.model.specs.Commands.returned Rattle.model.specs.Commands.ofOther Rattle.model.specs.Commands.cancelled Rattle.model.specs.Commands.added Rattle.model.specs.Commands.changed Rattle.model.specs.Commands.commanded
+    Rattle.model.specs.Watch.withSilent Rattle.model.specs.Watch.gathered Rattle.model.specs.Watch.withTicks Rattle.model.specs.Watch.emptied Rattle.model.specs.Watch.counts Rattle.model.specs.Watch.refreshed Rattle.model.specs.Watch.windowTakes Rattle.model.specs.Watch.atPacket Rattle.model.specs.Watch.packetMove Rattle.model.specs.Watch.isPair Rattle.model.specs.Watch.holds Rattle.model.specs.Watch.begins Rattle.model.specs.Watch.startPair Rattle.model.specs.Watch.turn Rattle.model.specs.Watch.turns Rattle.model.specs.Watch.packetPairs Rattle.model.specs.Watch.startsOf Rattle.model.specs.Watch.wants Rattle.model.specs.Watch.reported Rattle.model.specs.Watch.packetAnswer Rattle.model.specs.Watch.overfull Rattle.model.specs.Watch.windowFull Rattle.model.specs.Watch.goesOn Rattle.model.specs.Watch.closes Rattle.model.specs.Watch.windowTick Rattle.model.specs.Watch.atTick Rattle.model.specs.Watch.tickPairs Rattle.model.specs.Watch.windowSays Rattle.model.specs.Watch.tickOctets Rattle.model.specs.Watch.tickAnswer
+    Rattle.model.specs.Events.complete Rattle.model.specs.Events.event Rattle.model.specs.Events.startEvent Rattle.model.specs.Events.stopEvent Rattle.model.specs.Events.report Rattle.model.specs.Events.packetReport Rattle.model.specs.Events.windowReport
+    Rattle.model.specs.Step.stepTyped Rattle.model.specs.Step.answerTyped Rattle.model.specs.Step.refusalTyped Rattle.model.specs.Step.actTyped Rattle.model.specs.Step.act
+    Rattle.model.specs.Sound.octetsUpTo Rattle.model.specs.Sound.soundSettings Rattle.model.specs.Sound.soundMonitor Rattle.model.specs.Sound.soundMonitors Rattle.model.specs.Sound.soundWindow Rattle.model.specs.Sound.soundEmpty Rattle.model.specs.Sound.soundFields Rattle.model.specs.Sound.soundOf Rattle.model.specs.Sound.soundPair Rattle.model.specs.Sound.apart Rattle.model.specs.Sound.soundModel
+    Rattle.model.specs.Image.headRow Rattle.model.specs.Image.monitorRow Rattle.model.specs.Image.pairRow Rattle.model.specs.Image.endRow Rattle.model.specs.Image.records Rattle.model.specs.Image.imageText Rattle.model.specs.Image.monitorIn Rattle.model.specs.Image.pairIn Rattle.model.specs.Image.named Rattle.model.specs.Image.rowsNamed Rattle.model.specs.Image.firstOf Rattle.model.specs.Image.modelIn Rattle.model.specs.Image.heldIn Rattle.model.specs.Image.isImage Rattle.model.specs.Image.readImage
+    Rattle.laws.specs.Rows.rows Rattle.laws.specs.Tests.pick Rattle.laws.specs.Tests.sames
+    Rattle.laws.specs.Loops.part Rattle.laws.specs.Loops.every Rattle.laws.specs.Loops.some Rattle.laws.specs.Loops.only Rattle.laws.specs.Loops.keep Rattle.laws.specs.Loops.when Rattle.laws.specs.Loops.each Rattle.laws.specs.Loops.upTo
+    Rattle.octets.specs.Little.little Rattle.octets.specs.Little.octetsOf Rattle.octets.specs.Little.value
+    Rattle.lines.specs.Hex.digit Rattle.lines.specs.Hex.isHex Rattle.lines.specs.Hex.nib Rattle.lines.specs.Hex.hexOf Rattle.lines.specs.Hex.textOf Rattle.lines.specs.Hex.isText Rattle.lines.specs.Hex.octetsIn Rattle.lines.specs.Hex.notLf
+    Rattle.lines.specs.Frame.leastFrame Rattle.lines.specs.Frame.mostFrame Rattle.lines.specs.Frame.lineRoom Rattle.lines.specs.Frame.isForm Rattle.lines.specs.Frame.isFrame Rattle.lines.specs.Frame.isLine
+    Rattle.advert.specs.Parts.partsFrom Rattle.advert.specs.Parts.parts
+    Rattle.advert.specs.Sections.sections Rattle.advert.specs.Sections.isType Rattle.advert.specs.Sections.contentsOf Rattle.advert.specs.Sections.contents
+    Rattle.advert.specs.Pattern.holdsAt Rattle.advert.specs.Pattern.patterns Rattle.advert.specs.Pattern.extent Rattle.advert.specs.Pattern.fills Rattle.advert.specs.Pattern.patternsForm Rattle.advert.specs.Pattern.patternMeets Rattle.advert.specs.Pattern.patternsMeet
+    Rattle.advert.specs.Uuid.uuids Rattle.advert.specs.Uuid.listed Rattle.advert.specs.Uuid.uuidSize Rattle.advert.specs.Uuid.uuidForm Rattle.advert.specs.Uuid.uuidMeets
+    Rattle.advert.specs.Address.addressForm Rattle.advert.specs.Address.addressMeets
+    Rattle.advert.specs.Condition.wellFormed Rattle.advert.specs.Condition.meets
+    Rattle.sessions.specs.Session.refuseIf Rattle.sessions.specs.Session.stateAfter Rattle.sessions.specs.Session.judge Rattle.sessions.specs.Session.answer
+    Rattle.sessions.specs.Machine.answerRoom Rattle.sessions.specs.Machine.lastNumber
+edges-hold = refl

@@ -1,0 +1,99 @@
+-- The image's text, and what text is an image. Document 01, The image; a text is an image exactly if saving a sound state writes it.
+use Prim.Native.Nat.{ℕ}
+use mathlib.Core.Bool.{Bool, true, false, _&&_}
+use mathlib.Core.List.{List, [], _∷_, _++_, map}
+use mathlib.Core.Option.{Option, none, some}
+use lib.Dec.{eqb}
+use lib.ListN.{length, take, drop, getD}
+use Rattle.laws.specs.Tests.{pick, sames}
+use Rattle.laws.specs.Loops.{each, keep}
+use Rattle.octets.specs.Little.{little, octetsOf}
+use Rattle.lines.specs.Hex.{textOf, octetsIn}
+use Rattle.sessions.specs.Saved.{cut}
+use Rattle.model.specs.Types.{Model, Monitor, Pair}
+use Rattle.model.specs.Sound.{soundModel}
+
+-- "A0 line: position (4), filter, opcode (2), prefix length, prefix"
+unfoldable pub headRow : Model → List ℕ
+headRow m = octetsOf 4 (m .position) ++ (m .filter ∷ (octetsOf 2 (m .opcode) ++ (length (m .prefix) ∷ m .prefix)))
+
+-- "A1 per monitor, by handle: handle, high, low, interval, sampling, type, condition length, condition"
+unfoldable pub monitorRow : ℕ × Monitor → List ℕ
+monitorRow x =
+    x .0 ∷ x .1 .high ∷ x .1 .low ∷ x .1 .interval ∷ x .1 .sampling ∷ x .1 .kind ∷ length (x .1 .condition) ∷ x .1 .condition
+
+-- "A2 per pair, in start order: handle, address type, address, ticks since a good packet (2), ticks in the window (1), packets (4),
+-- sum (8), event type, n, data of the latest packet in the window"
+unfoldable pub pairRow : Pair → List ℕ
+pairRow q =
+    q .handle ∷ q .kind ∷ (q .address ++ (octetsOf 2 (q .silent) ++ (q .ticks ∷ (octetsOf 4 (q .packets) ++ (octetsOf 8 (q .sum)
+    ++ (q .event ∷ length (q .adv) ∷ q .adv))))))
+
+-- "AF: number of monitors, number of pairs"
+unfoldable pub endRow : Model → List ℕ
+endRow m = length (m .mons) ∷ length (m .pairs) ∷ []
+
+-- the lines before hexadecimal, each with the octet that names it
+unfoldable pub records : Model → List (List ℕ)
+records m =
+    (0xA0 ∷ headRow m) ∷ (map (λ (x : ℕ × Monitor). 0xA1 ∷ monitorRow x) (m .mons)
+    ++ (map (λ (q : Pair). 0xA2 ∷ pairRow q) (m .pairs) ++ ((0xAF ∷ endRow m) ∷ [])))
+
+-- the image's text
+unfoldable pub imageText : Model → List ℕ
+imageText m = each textOf (records m)
+
+-- what rows hold: a monitor, a pair
+unfoldable pub monitorIn : List ℕ → ℕ × Monitor
+monitorIn r = (
+  getD r 0 0,
+  record { high = getD r 1 0; low = getD r 2 0; interval = getD r 3 0; sampling = getD r 4 0; kind = getD r 5 0; condition = take (getD r 6 0) (drop 7 r) },
+)
+
+unfoldable pub pairIn : List ℕ → Pair
+pairIn r =
+    record {
+      handle = getD r 0 0;
+      kind = getD r 1 0;
+      address = take 6 (drop 2 r);
+      silent = little 2 r 8;
+      ticks = getD r 10 0;
+      packets = little 4 r 11;
+      sum = little 8 r 15;
+      event = getD r 23 0;
+      adv = take (getD r 24 0) (drop 25 r);
+    }
+
+-- whether a line has a name; the lines of a name, without it
+unfoldable pub named : ℕ → List ℕ → Bool
+named n r = eqb (getD r 0 0) n
+
+unfoldable pub rowsNamed : ℕ → List (List ℕ) → List (List ℕ)
+rowsNamed n rs = map (drop 1) (keep (named n) rs)
+
+-- the first line
+unfoldable pub firstOf : List (List ℕ) → List ℕ
+firstOf [] = []
+firstOf (r ∷ rs) = drop 1 r
+
+-- the state that lines hold, whatever they are
+unfoldable pub modelIn : List (List ℕ) → Model
+modelIn rs =
+    record {
+      position = little 4 (firstOf rs) 0;
+      filter = getD (firstOf rs) 4 0;
+      opcode = little 2 (firstOf rs) 5;
+      prefix = take (getD (firstOf rs) 7 0) (drop 8 (firstOf rs));
+      mons = map monitorIn (rowsNamed 0xA1 rs);
+      pairs = map pairIn (rowsNamed 0xA2 rs);
+    }
+
+unfoldable pub heldIn : List ℕ → Model
+heldIn t = modelIn (map octetsIn (cut t))
+
+-- "not an image of a sound state" is refusal 10: a text is an image where what it holds is sound and is saved as that very text
+unfoldable pub isImage : List ℕ → Bool
+isImage t = soundModel (heldIn t) && sames (imageText (heldIn t)) t
+
+unfoldable pub readImage : List ℕ → Option Model
+readImage t = pick (isImage t) (some (heldIn t)) none

@@ -1,0 +1,96 @@
+-- The records of the model: a monitor's settings, a packet, a pair under watch, and the state with its lists.
+-- Document 01: Sizes of the gateway, Lines, The image. Octets are kept as sent; RSSI is compared by its level (Level).
+use Prim.Native.Nat.{ℕ, _+_, _*_}
+use mathlib.Core.List.{List, [], _∷_}
+
+-- Sizes of the gateway: monitors 16 (handles 0 to 15); watched pairs 64; condition 64 octets; data 31; prefix 32.
+unfoldable pub mostMonitors : ℕ
+mostMonitors = 16
+
+unfoldable pub mostPairs : ℕ
+mostPairs = 64
+
+unfoldable pub mostCondition : ℕ
+mostCondition = 64
+
+unfoldable pub mostData : ℕ
+mostData = 31
+
+unfoldable pub mostPrefix : ℕ
+mostPrefix = 32
+
+-- "Seconds of the low interval and ticks of 100 ms are two units; 1 second is 10 ticks."
+unfoldable pub ticksOf : ℕ → ℕ
+ticksOf seconds = 10 * seconds
+
+-- Commands, 03: what a monitor was added with. `high` and `low` are RSSI octets, `interval` is in seconds, `kind` is the
+-- condition's type.
+pub record Monitor : Type 0 where
+  pub high : ℕ
+  pub low : ℕ
+  pub interval : ℕ
+  pub sampling : ℕ
+  pub kind : ℕ
+  pub condition : List ℕ
+
+-- Lines, 02: an advertisement. `kind` is the address type, `adv` the data.
+pub record Packet : Type 0 where
+  pub event : ℕ
+  pub kind : ℕ
+  pub address : List ℕ
+  pub adv : List ℕ
+  pub rssi : ℕ
+
+-- The image, A2: a pair of a monitor (its handle) and a device (address type `kind` and address) under watch. `silent` are
+-- the ticks since a good packet; `ticks`, `packets`, `sum` (two's complement in 8 octets), `event` and `adv` are the window's:
+-- ticks in it, packets in it, the sum of their RSSI, and event type and data of the latest of them.
+pub record Pair : Type 0 where
+  pub handle : ℕ
+  pub kind : ℕ
+  pub address : List ℕ
+  pub silent : ℕ
+  pub ticks : ℕ
+  pub packets : ℕ
+  pub sum : ℕ
+  pub event : ℕ
+  pub adv : List ℕ
+
+-- The state: A0's fields, the monitors by handle, the pairs in start order.
+pub record Model : Type 0 where
+  pub position : ℕ
+  pub filter : ℕ
+  pub opcode : ℕ
+  pub prefix : List ℕ
+  pub mons : List (ℕ × Monitor)
+  pub pairs : List Pair
+
+-- Watching, by history: "a device (type and address)".
+unfoldable pub device : ℕ → List ℕ → List ℕ
+device kind address = kind ∷ address
+
+unfoldable pub deviceOf : Packet → List ℕ
+deviceOf p = device (p .kind) (p .address)
+
+unfoldable pub watched : Pair → List ℕ
+watched q = device (q .kind) (q .address)
+
+-- The state with other monitors and pairs, with another filter, one frame further.
+unfoldable pub withLists : Model → List (ℕ × Monitor) → List Pair → Model
+withLists m mons pairs =
+    record { position = m .position; filter = m .filter; opcode = m .opcode; prefix = m .prefix; mons = mons; pairs = pairs }
+
+unfoldable pub withFilter : Model → ℕ → Model
+withFilter m on =
+    record { position = m .position; filter = on; opcode = m .opcode; prefix = m .prefix; mons = m .mons; pairs = m .pairs }
+
+unfoldable pub moved : Model → Model
+moved m =
+    record { position = m .position + 1; filter = m .filter; opcode = m .opcode; prefix = m .prefix; mons = m .mons; pairs = m .pairs }
+
+-- "A fresh state: position 0, filter off (000), no monitors."
+unfoldable pub fresh : ℕ → List ℕ → Model
+fresh opcode prefix = record { position = 0; filter = 0; opcode = opcode; prefix = prefix; mons = []; pairs = [] }
+
+-- Refusal numbers: "the blank state: fresh, opcode 0xFC00, empty prefix".
+unfoldable pub blank : Model
+blank = fresh 0xFC00 []

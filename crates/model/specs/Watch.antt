@@ -1,0 +1,179 @@
+-- Watching, by stored timers: what a packet and a tick do to the pairs held, and what they write. Document 01, Watching, by history.
+use Prim.Native.Nat.{ℕ, zero, suc, _+_}
+use mathlib.Core.Bool.{Bool, true, false, _&&_, _||_, not}
+use mathlib.Core.List.{List, [], _∷_, _++_, map}
+use mathlib.Core.Option.{Option, none, some}
+use lib.Dec.{leb, ltb, eqb}
+use lib.ListN.{length, drop}
+use Rattle.laws.specs.Tests.{pick, sames}
+use Rattle.laws.specs.Loops.{some as someOf, each, when}
+use Rattle.rule.specs.Engine.{find}
+use Rattle.rule.specs.Base.{each as moveEach}
+use Rattle.model.specs.Types.{Model, Monitor, Packet, Pair, deviceOf, watched, withLists, mostPairs, mostMonitors}
+use Rattle.model.specs.Level.{addRssi}
+use Rattle.model.specs.Monitors.{matches, good, strong, runOf, windowed}
+use Rattle.model.specs.Events.{startEvent, stopEvent, packetReport, windowReport}
+
+-- A pair with other ticks since a good packet, with one packet more in its window, with another number of ticks in its window,
+-- with an empty window.
+unfoldable pub withSilent : Pair → ℕ → Pair
+withSilent q n =
+    record {
+      handle = q .handle;
+      kind = q .kind;
+      address = q .address;
+      silent = n;
+      ticks = q .ticks;
+      packets = q .packets;
+      sum = q .sum;
+      event = q .event;
+      adv = q .adv;
+    }
+
+unfoldable pub gathered : Packet → Pair → Pair
+gathered p q =
+    record {
+      handle = q .handle;
+      kind = q .kind;
+      address = q .address;
+      silent = q .silent;
+      ticks = q .ticks;
+      packets = q .packets + 1;
+      sum = addRssi (q .sum) (p .rssi);
+      event = p .event;
+      adv = p .adv;
+    }
+
+unfoldable pub withTicks : Pair → ℕ → Pair
+withTicks q n =
+    record {
+      handle = q .handle;
+      kind = q .kind;
+      address = q .address;
+      silent = q .silent;
+      ticks = n;
+      packets = q .packets;
+      sum = q .sum;
+      event = q .event;
+      adv = q .adv;
+    }
+
+unfoldable pub emptied : Pair → Pair
+emptied q =
+    record {
+      handle = q .handle;
+      kind = q .kind;
+      address = q .address;
+      silent = q .silent;
+      ticks = 0;
+      packets = 0;
+      sum = 0;
+      event = 0;
+      adv = [];
+    }
+
+-- the packet is of the pair's device and matches its monitor's condition: "only packets that match its condition count"
+unfoldable pub counts : Monitor → Packet → Pair → Bool
+counts m p q = sames (deviceOf p) (watched q) && matches m p
+
+-- the count of ticks starts anew at a good packet; the window takes the packet
+unfoldable pub refreshed : Monitor → Packet → Pair → Pair
+refreshed m p q = pick (good m p) (withSilent q 0) q
+
+unfoldable pub windowTakes : Monitor → Packet → Pair → Pair
+windowTakes m p q = pick (windowed m) (gathered p q) q
+
+unfoldable pub atPacket : Option Monitor → Packet → Pair → Pair
+atPacket none p q = q
+atPacket (some m) p q = pick (counts m p q) (windowTakes m p (refreshed m p q)) q
+
+unfoldable pub packetMove : List (ℕ × Monitor) → Packet → Pair → Pair
+packetMove mons p q = atPacket (find mons (q .handle)) p q
+
+-- the pair of a handle and a device is held
+unfoldable pub isPair : ℕ → List ℕ → Pair → Bool
+isPair h d q = eqb (q .handle) h && sames (watched q) d
+
+unfoldable pub holds : List Pair → ℕ → List ℕ → Bool
+holds qs h d = someOf (isPair h d) qs
+
+-- "It is a start if its RSSI is at least high, the pair is not under watch just before, and fewer than 64 pairs are"
+unfoldable pub begins : Monitor → Packet → ℕ → List Pair → Bool
+begins m p h qs = matches m p && (strong m p && (not (holds qs h (deviceOf p)) && ltb (length qs) mostPairs))
+
+-- a pair at its start: "The start packet is in no window"
+unfoldable pub startPair : ℕ → Packet → Pair
+startPair h p =
+    record { handle = h; kind = p .kind; address = p .address; silent = 0; ticks = 0; packets = 0; sum = 0; event = 0; adv = [] }
+
+-- one handle's turn: "monitors take one packet in handle order, and a start takes its room at once"
+unfoldable pub turn : Option Monitor → Packet → ℕ → List Pair → List Pair
+turn none p h qs = qs
+turn (some m) p h qs = pick (begins m p h qs) (qs ++ (startPair h p ∷ [])) qs
+
+-- the turns of the handles below n
+unfoldable pub turns : List (ℕ × Monitor) → Packet → ℕ → List Pair → List Pair
+turns mons p zero qs = qs
+turns mons p (suc n) qs = turn (find mons n) p n (turns mons p n qs)
+
+-- the pairs after a packet: those held, moved, and then the starts by handle
+unfoldable pub packetPairs : Model → Packet → List Pair
+packetPairs m p = turns (m .mons) p mostMonitors (map (packetMove (m .mons) p) (m .pairs))
+
+-- the starts of a packet: the pairs behind those that were held
+unfoldable pub startsOf : Model → Packet → List Pair
+startsOf m p = drop (length (m .pairs)) (packetPairs m p)
+
+-- "some matching monitor has sampling 0 and the pair under watch"
+unfoldable pub wants : List Pair → Packet → ℕ × Monitor → Bool
+wants qs p x = eqb (x .1 .sampling) 0 && (matches (x .1) p && holds qs (x .0) (deviceOf p))
+
+-- "one report .. if the filter is off, or some matching monitor has sampling 0 and the pair under watch, or the packet is a start"
+unfoldable pub reported : Model → Packet → Bool
+reported m p =
+    eqb (m .filter) 0 || (someOf (wants (packetPairs m p) p) (m .mons) || ltb (length (m .pairs)) (length (packetPairs m p)))
+
+-- "Packet, handles ascending: a start event for each start. Then one report with the packet's RSSI"
+unfoldable pub packetAnswer : Model → Packet → List ℕ
+packetAnswer m p = each (startEvent (m .prefix)) (startsOf m p) ++ when (reported m p) (packetReport p)
+
+-- Refusal 8: "a sampling window already holds 4,294,967,295 packets and would take one more"
+unfoldable pub overfull : Option Monitor → Packet → Pair → Bool
+overfull none p q = false
+overfull (some m) p q = counts m p q && (windowed m && leb 4294967295 (q .packets))
+
+unfoldable pub windowFull : Model → Packet → Bool
+windowFull m p = someOf (λ q. overfull (find (m .mons) (q .handle)) p q) (m .pairs)
+
+-- the watch goes on over one tick more: "The tick that completes such a run ends the watch. Silence counts as low (H)."
+unfoldable pub goesOn : Monitor → Pair → Bool
+goesOn m q = ltb (q .silent + 1) (runOf m)
+
+-- "each P-th tick since the start closes a window"
+unfoldable pub closes : Monitor → Pair → Bool
+closes m q = windowed m && leb (m .sampling) (q .ticks + 1)
+
+-- the window over one tick: closed and empty, or one tick longer
+unfoldable pub windowTick : Monitor → Pair → Pair
+windowTick m q = pick (windowed m) (pick (closes m q) (emptied q) (withTicks q (q .ticks + 1))) q
+
+unfoldable pub atTick : Option Monitor → Pair → Option Pair
+atTick none q = none
+atTick (some m) q = pick (goesOn m q) (some (windowTick m (withSilent q (q .silent + 1)))) none
+
+unfoldable pub tickPairs : Model → List Pair
+tickPairs m = moveEach (λ q. atTick (find (m .mons) (q .handle)) q) (m .pairs)
+
+-- "if the filter is on and the window had matching packets, one report"
+unfoldable pub windowSays : ℕ → Monitor → Pair → Bool
+windowSays filter m q = eqb filter 1 && (closes m q && leb 1 (q .packets))
+
+-- "if the watch ends, a stop event and no report. Otherwise .. one report"
+unfoldable pub tickOctets : ℕ → List ℕ → Option Monitor → Pair → List ℕ
+tickOctets filter prefix none q = stopEvent prefix q
+tickOctets filter prefix (some m) q =
+    pick (goesOn m q) (when (windowSays filter m q) (windowReport q)) (stopEvent prefix q)
+
+-- "Tick, pairs in the order they started"
+unfoldable pub tickAnswer : Model → List ℕ
+tickAnswer m = each (λ q. tickOctets (m .filter) (m .prefix) (find (m .mons) (q .handle)) q) (m .pairs)
