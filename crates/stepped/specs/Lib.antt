@@ -1,0 +1,2 @@
+-- What a step leaves, in the form that contracts cite.
+pub mod Stepped
