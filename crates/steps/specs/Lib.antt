@@ -12,3 +12,4 @@ pub mod Keeps
 pub mod Starts
 pub mod Sizes
 pub mod Answers
+pub mod Given
