@@ -50,8 +50,7 @@ pub fn answer(view: &View, parameters: &[u8], fault: Fault) -> Answer {
         let named = if fault == Fault::OtherSubZero { 0 } else { sub };
         return Answer { returns: vec![UNKNOWN_COMMAND, named], change: Change::Nothing };
     };
-    let right_length =
-        if sub == 0x03 { parameters.len() >= *length } else { parameters.len() == *length };
+    let right_length = if sub == 0x03 { parameters.len() >= *length } else { parameters.len() == *length };
     let outcome = match sub {
         0x00 => read_features(right_length),
         0x03 => add(view, parameters, right_length, fault),
@@ -148,7 +147,16 @@ fn add(view: &View, parameters: &[u8], right_length: bool, fault: Fault) -> Resu
     let mut octets = [0; CONDITION];
     octets[..condition.len()].copy_from_slice(condition);
     let handle = new_handle(view.live, fault);
-    Ok(Change::Add(Monitor { handle, high, low, interval, sampling, kind, length: condition.len() as u8, octets }))
+    Ok(Change::Add(Monitor {
+        handle,
+        high,
+        low,
+        interval,
+        sampling,
+        kind,
+        length: condition.len() as u8,
+        octets,
+    }))
 }
 
 fn threshold_in_range(threshold: i8, fault: Fault) -> bool {

@@ -31,7 +31,8 @@ fn a0(state: &State) -> Vec<u8> {
 
 /// A1: handle, high, low, interval, sampling, type, condition length, condition.
 fn a1(m: &Monitor) -> Vec<u8> {
-    let mut octets = vec![0xA1, m.handle, m.high as u8, m.low as u8, m.interval, m.sampling, m.kind, m.length];
+    let mut octets =
+        vec![0xA1, m.handle, m.high as u8, m.low as u8, m.interval, m.sampling, m.kind, m.length];
     octets.extend(m.condition());
     octets
 }

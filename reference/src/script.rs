@@ -7,15 +7,33 @@ use crate::state::State;
 
 #[derive(Clone, PartialEq, Eq, Debug)]
 pub enum Call {
-    Start { opcode: u16, prefix: Vec<u8> },
-    Octets { octets: Vec<u8>, lent: usize },
-    Line { text: Vec<u8>, lent: usize },
-    Save { lent: usize },
-    WriteLine { octets: Vec<u8>, lent: usize },
-    Restore { text: Vec<u8> },
+    Start {
+        opcode: u16,
+        prefix: Vec<u8>,
+    },
+    Octets {
+        octets: Vec<u8>,
+        lent: usize,
+    },
+    Line {
+        text: Vec<u8>,
+        lent: usize,
+    },
+    Save {
+        lent: usize,
+    },
+    WriteLine {
+        octets: Vec<u8>,
+        lent: usize,
+    },
+    Restore {
+        text: Vec<u8>,
+    },
     /// Save, and restore what was saved.
     Failover,
-    Replay { text: Vec<u8> },
+    Replay {
+        text: Vec<u8>,
+    },
     /// The next call is given this state, sound or not.
     Adopt(Box<State>),
 }
@@ -70,10 +88,7 @@ fn bare(refusal: Option<u8>) -> Outcome {
     Outcome { refusal: refusal.unwrap_or(0), written: Vec::new(), rest_kept: true }
 }
 
-fn lending(
-    lent: usize,
-    make: impl FnOnce(&mut [u8]) -> Result<usize, crate::refusal::Refusal>,
-) -> Outcome {
+fn lending(lent: usize, make: impl FnOnce(&mut [u8]) -> Result<usize, crate::refusal::Refusal>) -> Outcome {
     let mut out = vec![BEFORE; lent];
     let (refusal, length) = match make(&mut out) {
         Ok(length) => (0, length),

@@ -53,8 +53,16 @@ pub struct State {
 
 impl Monitor {
     /// An unused place.
-    pub const NONE: Monitor =
-        Monitor { handle: 0, high: 0, low: 0, interval: 0, sampling: 0, kind: 0, length: 0, octets: [0; CONDITION] };
+    pub const NONE: Monitor = Monitor {
+        handle: 0,
+        high: 0,
+        low: 0,
+        interval: 0,
+        sampling: 0,
+        kind: 0,
+        length: 0,
+        octets: [0; CONDITION],
+    };
 
     /// The condition, without the unused octets.
     pub fn condition(&self) -> &[u8] {

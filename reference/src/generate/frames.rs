@@ -1,8 +1,8 @@
 //! Frames that are executed: commands, packets, ticks.
 
 use super::{conditions, states, Generator, Theme};
-use crate::lines;
 use crate::limits::{Seconds, ANSWER, MONITORS};
+use crate::lines;
 use crate::script::Call;
 use crate::state::Device;
 
@@ -44,9 +44,9 @@ pub fn monitor(high: i8, low: i8, interval: u8, sampling: u8, kind: u8, conditio
 }
 
 impl Generator {
-    /// The number of the frame that would be executed next.
+    /// The number of the frame that would be executed next. After the last number there is none: 0 is seen.
     pub(super) fn next_number(&self) -> u32 {
-        self.state.position.saturating_add(1)
+        self.state.position.wrapping_add(1)
     }
 
     /// Give a frame as octets or as its line.
@@ -278,7 +278,9 @@ impl Generator {
             if let Some(monitor) = self.state.monitor(pair.handle) {
                 let left = (Seconds(monitor.interval).ticks().0 - pair.quiet.min(600)) as usize;
                 run = match monitor.period() {
-                    Some(period) if self.random.percent(50) => (period - pair.window_ticks.min(period)) as usize,
+                    Some(period) if self.random.percent(50) => {
+                        (period - pair.window_ticks.min(period)) as usize
+                    }
                     _ => left,
                 };
                 run = (run + self.random.below(3)).saturating_sub(1);

@@ -2,10 +2,10 @@
 //! generator knows the position, the live monitors and the pairs, and can aim at the edges.
 
 pub mod conditions;
-mod frames;
+pub mod frames;
 mod lines;
 pub mod states;
-mod texts;
+pub mod texts;
 
 use crate::coverage;
 use crate::engine::Engine;
@@ -76,6 +76,18 @@ pub fn session(seed: u64, index: u64, most_calls: usize) -> Vec<Call> {
     let theme = random.pick(&[Mixed, Mixed, Commands, Conditions, Limits, Windows, Windows, Lines]);
     let calls = random.between(0, most_calls as i64) as usize;
     Generator::begin(random, theme).make(calls, false)
+}
+
+/// A session that goes on from a random sound state instead of a fresh one.
+pub fn session_from(seed: u64, index: u64, most_calls: usize) -> (State, Vec<Call>) {
+    let mut random = Random::of(seed, index);
+    let calls = random.between(0, most_calls as i64) as usize;
+    let mut generator = Generator::begin(random, Theme::Mixed);
+    let state = states::sound(&mut generator.random, &generator.devices);
+    generator.follower.adopt(&state);
+    generator.state = state.clone();
+    let made = generator.make(calls + 1, false);
+    (state, made[1..].to_vec())
 }
 
 /// A script with any calls at all.
@@ -161,8 +173,27 @@ impl Generator {
         // BadLine, BadPayload, OtherOpcode, Seen, Gap, ShortOutput,
         // WriteLine, Failover, Restore, RestoreDamaged, Unsound, Replay, StartAgain.
         let actions = [
-            Add, AddEdge, Cancel, Filter, OtherCommand, Packet, NewDevice, Ticks, Save, BadLine, BadPayload,
-            OtherOpcode, Seen, Gap, ShortOutput, WriteLine, Failover, Restore, RestoreDamaged, Unsound, Replay,
+            Add,
+            AddEdge,
+            Cancel,
+            Filter,
+            OtherCommand,
+            Packet,
+            NewDevice,
+            Ticks,
+            Save,
+            BadLine,
+            BadPayload,
+            OtherOpcode,
+            Seen,
+            Gap,
+            ShortOutput,
+            WriteLine,
+            Failover,
+            Restore,
+            RestoreDamaged,
+            Unsound,
+            Replay,
             StartAgain,
         ];
         let weights: [usize; 22] = match self.theme {

@@ -79,7 +79,7 @@ pub fn sound(random: &mut Random, known: &[Device]) -> State {
     let mut state = State::fresh(random.pick(&[0xFC00, 0xFC1E, 0xFFFF]), &prefix);
     state.position = match random.below(5) {
         0 => random.word(),
-        1 => u32::MAX - random.below(30) as u32,
+        1 => u32::MAX - random.pick(&[0, 1, 2, 5, 30]),
         2 => random.below(4) as u32,
         _ => random.below(3000) as u32,
     };

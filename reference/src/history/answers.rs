@@ -51,7 +51,12 @@ impl History {
         let mut answer = Vec::new();
         for start in past.under_watch(now - 1).into_iter().map(|s| &self.facts.starts[s]) {
             if !past.watched_since(start, now) {
-                answer.extend(event::device(self.base.prefix(), &start.device, past.monitor(start).handle, false));
+                answer.extend(event::device(
+                    self.base.prefix(),
+                    &start.device,
+                    past.monitor(start).handle,
+                    false,
+                ));
             } else if let Some(window) = past.closed_window(start, now) {
                 if filter_on && window.count > 0 {
                     answer.extend(report(&start.device, &window));

@@ -100,7 +100,9 @@ impl Facts {
             Change::Add(monitor) => self.lives.push(Life { monitor, until: None }),
             Change::Cancel(handle) => {
                 let lives = self.lives.iter_mut();
-                lives.filter(|l| l.until.is_none() && l.monitor.handle == handle).for_each(|l| l.until = Some(now));
+                lives
+                    .filter(|l| l.until.is_none() && l.monitor.handle == handle)
+                    .for_each(|l| l.until = Some(now));
             }
             Change::Filter(_) | Change::Nothing => (),
         }

@@ -34,9 +34,9 @@ impl Past<'_> {
     fn counting<'s>(&'s self, start: &'s Start, upto: usize) -> impl Iterator<Item = (usize, &'s Packet)> {
         let handle = self.monitor(start).handle;
         (start.at + 1..=upto).filter_map(move |i| match &self.frames[i - 1] {
-            Payload::Packet(packet) => {
-                (self.facts.matching[i] >> handle & 1 == 1 && packet.device == start.device).then_some((i, packet))
-            }
+            Payload::Packet(packet) => (self.facts.matching[i] >> handle & 1 == 1
+                && packet.device == start.device)
+                .then_some((i, packet)),
             _ => None,
         })
     }

@@ -110,7 +110,9 @@ impl Timers {
         if monitor.period().is_none() && !(monitor.sampling == 0xFF && fault == Fault::Period255) {
             return;
         }
-        if (fault == Fault::WindowSleepsWhileOff && filter_off) || (fault == Fault::WindowHoldsGoodOnly && !good) {
+        if (fault == Fault::WindowSleepsWhileOff && filter_off)
+            || (fault == Fault::WindowHoldsGoodOnly && !good)
+        {
             return;
         }
         hit(if filter_off { Rule::WindowTakesOff } else { Rule::WindowTakes });

@@ -3,7 +3,8 @@
 use crate::condition::{form, Form};
 use crate::fault::Fault;
 use crate::limits::{
-    rssi_in_range, Seconds, CONDITION, DATA, INTERVAL_LEAST, INTERVAL_MOST, MONITORS, OPCODE_LEAST, PAIRS, PREFIX,
+    rssi_in_range, Seconds, CONDITION, DATA, INTERVAL_LEAST, INTERVAL_MOST, MONITORS, OPCODE_LEAST, PAIRS,
+    PREFIX,
 };
 use crate::state::{Monitor, Pair, State};
 
