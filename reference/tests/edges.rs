@@ -50,9 +50,15 @@ fn lent_outputs() {
     let mut out = [0x77; 527];
     assert_eq!(write_line(&frame, &mut out, Fault::None), Ok(11));
     assert_eq!(out[..12], *b"0301000000\n\x77");
-    for (length, kind, refused) in
-        [(4, 1, true), (5, 1, false), (263, 3, false), (264, 1, true), (5, 0, true), (5, 3, false), (5, 4, true)]
-    {
+    for (length, kind, refused) in [
+        (4, 1, true),
+        (5, 1, false),
+        (263, 3, false),
+        (264, 1, true),
+        (5, 0, true),
+        (5, 3, false),
+        (5, 4, true),
+    ] {
         let mut frame = vec![0xAB; length];
         frame[0] = kind;
         let written = write_line(&frame, &mut [0; 527], Fault::None);
@@ -142,7 +148,9 @@ fn payloads() {
         assert_eq!(host.give(&octets("01010000001EFD0100")), Err(6));
         let features = "0E10011EFC 00 00 0C00000000000000 02 4D53";
         assert_eq!(host.give(&octets("01010000001EFC0100")), Ok(octets(features)));
-        for (frame, rssi) in [("0202000000 03 01 060504030201 00 81", -127), ("0203000000 03 01 060504030201 00 14", 20)] {
+        for (frame, rssi) in
+            [("0202000000 03 01 060504030201 00 81", -127), ("0203000000 03 01 060504030201 00 14", 20)]
+        {
             let answer = host.give(&octets(frame)).unwrap();
             assert_eq!(answer, octets(&format!("3E0C0201 0301 060504030201 00 {:02X}", rssi as i8 as u8)));
         }
@@ -425,7 +433,10 @@ fn cancelled_monitors_are_forgotten() {
         assert_eq!(host.add(-60, -80, 1, 5, 4, &ADDRESS), [0x00, 0x03, 0]);
         assert!(host.image().ends_with(b"AF0100\n"));
         assert_eq!(host.packet(&DEVICE, &[], -61), [], "not under watch, no start");
-        assert_eq!(host.packet(&DEVICE, &[], -60), [event(&DEVICE, 0, 1), report(&DEVICE, &[], -60)].concat());
+        assert_eq!(
+            host.packet(&DEVICE, &[], -60),
+            [event(&DEVICE, 0, 1), report(&DEVICE, &[], -60)].concat()
+        );
         host.quiet_ticks(9);
         assert_eq!(host.tick(), event(&DEVICE, 0, 0));
     });

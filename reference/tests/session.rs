@@ -121,14 +121,6 @@ fn p4_the_mean() {
             for (i, rssi) in rssis.iter().enumerate() {
                 assert_eq!(host.packet(&DEVICE, &[i as u8], *rssi), []);
             }
-            assert_eq!(host.packet(&DEVICE, &[], -79), []);
-            host.packet(&DEVICE, &[], -79);
-            host.quiet_ticks(1);
-            host.tick();
-            // The window is empty now: the same packets alone.
-            for (i, rssi) in rssis.iter().enumerate() {
-                assert_eq!(host.packet(&DEVICE, &[i as u8], *rssi), []);
-            }
             host.quiet_ticks(1);
             assert_eq!(host.tick(), report(&DEVICE, &[rssis.len() as u8 - 1], mean), "{rssis:?}");
         }

@@ -32,10 +32,13 @@ impl History {
             answer.extend(event::device(self.base.prefix(), &start.device, past.monitor(start).handle, true));
         }
         let filter_off = filter_after(&self.base, &self.frames) == 0;
-        let sampled_at_once = past.under_watch(now).into_iter().map(|s| &self.facts.starts[s]).any(|start| {
+        let sampled_at_once = self.facts.starts.iter().any(|start| {
             let monitor = past.monitor(start);
             let matching = self.facts.matching[now] >> monitor.handle & 1 == 1;
-            start.device == packet.device && matching && monitor.sampling == 0
+            start.device == packet.device
+                && matching
+                && monitor.sampling == 0
+                && past.watched_since(start, now)
         });
         if filter_off || sampled_at_once || !starts.is_empty() {
             answer.extend(event::report(packet.event_type, &packet.device, &packet.data, packet.rssi));

@@ -134,11 +134,12 @@ impl Facts {
         let past = Past { base, frames, facts: self };
         let now = frames.len();
         let mask = self.matching_now(packet);
-        past.under_watch(now).into_iter().map(|s| &self.starts[s]).any(|start| {
+        self.starts.iter().any(|start| {
             let monitor = &self.lives[start.life].monitor;
             start.device == packet.device
                 && mask >> monitor.handle & 1 == 1
                 && monitor.period().is_some()
+                && past.watched_since(start, now)
                 && past.open_window(start, now).count == u32::MAX as u64
         })
     }

@@ -122,6 +122,9 @@ impl Past<'_> {
     pub fn closed_window(&self, start: &Start, upto: usize) -> Option<Window> {
         let period = self.monitor(start).period()? as usize;
         let age = self.age(start, upto);
-        (age % period == 0).then(|| self.window(start, age / period - 1, upto))
+        match age % period {
+            0 => Some(self.window(start, age / period - 1, upto)),
+            _ => None,
+        }
     }
 }

@@ -19,7 +19,8 @@ pub const ADDRESS: [u8; 7] = [0, 6, 5, 4, 3, 2, 1];
 
 /// Octets from hexadecimal; blanks are left out.
 pub fn octets(text: &str) -> Vec<u8> {
-    let digits: Vec<u32> = text.chars().filter(|c| !c.is_whitespace()).map(|c| c.to_digit(16).unwrap()).collect();
+    let digits: Vec<u32> =
+        text.chars().filter(|c| !c.is_whitespace()).map(|c| c.to_digit(16).unwrap()).collect();
     digits.chunks(2).map(|two| (two[0] * 16 + two[1]) as u8).collect()
 }
 
@@ -71,7 +72,15 @@ impl Host {
         answer[5..].to_vec()
     }
 
-    pub fn add(&mut self, high: i8, low: i8, interval: u8, sampling: u8, kind: u8, condition: &[u8]) -> Vec<u8> {
+    pub fn add(
+        &mut self,
+        high: i8,
+        low: i8,
+        interval: u8,
+        sampling: u8,
+        kind: u8,
+        condition: &[u8],
+    ) -> Vec<u8> {
         self.command(&frames::monitor(high, low, interval, sampling, kind, condition))
     }
 
