@@ -108,7 +108,8 @@ fn restore_after_save() {
     }
 }
 
-/// Every way of breaking a clause of "Sound" is met, gives refusal 7, and its text, where it shows the break, refusal 10.
+/// Every way of breaking a clause of "Sound" is met and gives refusal 7; its text, where it shows the
+/// break, gives refusal 10.
 #[test]
 fn broken_states() {
     let mut met = [0; states::WAYS];

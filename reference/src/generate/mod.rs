@@ -6,6 +6,7 @@ pub mod frames;
 mod lines;
 pub mod states;
 pub mod texts;
+mod watching;
 
 use crate::coverage;
 use crate::engine::Engine;
