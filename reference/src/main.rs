@@ -1,6 +1,6 @@
 //! The command line of the reference.
 
-use reference::{cases, compare, history::History, program, timers::Timers};
+use reference::{cases, compare, fault::Fault, history::History, program, timers::Timers};
 use std::io::{self, Write};
 use std::path::Path;
 use std::process::ExitCode;
@@ -8,6 +8,7 @@ use std::{env, fs};
 
 const USAGE: &str = "\
 reference replay IMAGE JOURNAL      what document 01 says the program writes (engine with stored timers)
+reference replay IMAGE JOURNAL N    the same with wrong build N switched on (docs/RELIABILITY.md)
 reference history IMAGE JOURNAL     the same by the history rule
 reference cases DIR SEED COUNT      writes COUNT cases: DIR/N.image, N.journal, N.expected
 reference vectors KIND SEED COUNT   COUNT vectors, KIND: lines frames conditions commands images means
@@ -35,6 +36,10 @@ fn run(arguments: &[&str]) -> Result<Vec<u8>, (u8, String)> {
     match arguments {
         ["replay", image, journal] => {
             Ok(program::output(&mut Timers::default(), &read(image)?, &read(journal)?))
+        }
+        ["replay", image, journal, fault] => {
+            let fault = Fault::of_number(number(fault)? as usize).ok_or_else(usage)?;
+            Ok(program::output(&mut Timers::with_fault(fault), &read(image)?, &read(journal)?))
         }
         ["history", image, journal] => {
             Ok(program::output(&mut History::default(), &read(image)?, &read(journal)?))
