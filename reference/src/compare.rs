@@ -33,10 +33,20 @@ pub fn expected(calls: &[Call]) -> Vec<Outcome> {
     script::run(&mut History::default(), calls)
 }
 
-/// The scripts among `count` on which the two engines differ: index and place of the call.
+/// The sessions of document 01 (start, frames, saves) among `count` on which the two engines differ: index
+/// and place of the call.
+pub fn session_disagreements(seed: u64, count: u64) -> Vec<(u64, usize)> {
+    differing(count, |index| generate::session(seed, index, 80))
+}
+
+/// The same for scripts with any calls.
 pub fn disagreements(seed: u64, count: u64) -> Vec<(u64, usize)> {
+    differing(count, |index| generate::script(seed, index))
+}
+
+fn differing(count: u64, calls_of: impl Fn(u64) -> Vec<Call> + Sync) -> Vec<(u64, usize)> {
     let work = |index: u64, found: &mut Vec<(u64, usize)>| {
-        let calls = generate::script(seed, index);
+        let calls = calls_of(index);
         let expected = expected(&calls);
         if let Some(place) = script::first_difference(&mut Timers::default(), &calls, &expected) {
             found.push((index, place));

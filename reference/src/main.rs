@@ -13,7 +13,7 @@ reference history IMAGE JOURNAL     the same by the history rule
 reference cases DIR SEED COUNT      writes COUNT cases: DIR/N.image, N.journal, N.expected
 reference vectors KIND SEED COUNT   COUNT vectors, KIND: lines frames conditions commands images means
 reference coverage SEED COUNT       how often COUNT scripts reach each rule, status and refusal
-reference agree SEED COUNT          compares the two engines on COUNT scripts
+reference agree SEED COUNT          compares the two engines on COUNT sessions and COUNT scripts
 reference faults SEED COUNT         how many of COUNT scripts notice each wrong build
 ";
 
@@ -58,10 +58,16 @@ fn run(arguments: &[&str]) -> Result<Vec<u8>, (u8, String)> {
                 .into_bytes())
         }
         ["agree", seed, count] => {
-            let differ = compare::disagreements(number(seed)?, number(count)?);
-            let mut text = format!("{} of {count} scripts differ\n", differ.len());
-            for (index, place) in differ.iter().take(10) {
-                text += &format!("script {index} at call {place}\n");
+            let (seed, count) = (number(seed)?, number(count)?);
+            let mut text = String::new();
+            for (kind, differ) in [
+                ("session", compare::session_disagreements(seed, count)),
+                ("script", compare::disagreements(seed, count)),
+            ] {
+                text += &format!("{} of {count} {kind}s differ\n", differ.len());
+                for (index, place) in differ.iter().take(10) {
+                    text += &format!("{kind} {index} at call {place}\n");
+                }
             }
             Ok(text.into_bytes())
         }

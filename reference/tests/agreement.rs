@@ -11,7 +11,13 @@ const SEED: u64 = 2024;
 
 #[test]
 fn twenty_thousand_sessions() {
-    assert_eq!(compare::disagreements(SEED, 20_000), []);
+    assert_eq!(compare::session_disagreements(SEED, 20_000), []);
+}
+
+/// With restores, replays, written lines and states that are not sound among the calls.
+#[test]
+fn ten_thousand_scripts() {
+    assert_eq!(compare::disagreements(SEED, 10_000), []);
 }
 
 #[test]
