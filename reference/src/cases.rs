@@ -1,0 +1,233 @@
+//! Cases for programs: an image, a journal, and what is to be written; and single vectors, a line each.
+
+use crate::command::{self, View};
+use crate::condition::{self, Form};
+use crate::engine::{journal, write_line, Engine};
+use crate::fault::Fault;
+use crate::frame::{self, Packet, Payload};
+use crate::generate::{self, conditions, states, texts};
+use crate::history::History;
+use crate::image;
+use crate::limits::{ANSWER, CONDITION};
+use crate::lines::{self, hex};
+use crate::program;
+use crate::random::Random;
+use crate::script::{self, Call};
+use crate::state::State;
+use crate::timers::Timers;
+
+pub struct Case {
+    pub image: Vec<u8>,
+    pub journal: Vec<u8>,
+    pub expected: Vec<u8>,
+}
+
+/// Case `index` of a seed: an image after some frame k of a session, the journal from some frame j, either
+/// of them damaged at times. Both engines must say the same of it.
+pub fn case(seed: u64, index: u64) -> Case {
+    let mut random = Random::of(seed ^ 0xCA5E, index);
+    let (base, calls) = match random.percent(30) {
+        true => generate::session_from(seed, index, 80),
+        false => {
+            let calls = generate::session(seed, index, 120);
+            let Call::Start { opcode, prefix } = &calls[0] else { panic!("a session starts") };
+            (State::fresh(*opcode, prefix), calls[1..].to_vec())
+        }
+    };
+    let (frames, states) = unbroken(&base, &calls);
+    let k = random.below(states.len());
+    let j = match random.below(10) {
+        0..=5 => 1 + random.below(k + 1),
+        6..=7 => k + 1,
+        _ => 1 + random.below(frames.len() + 1),
+    };
+    let mut image = image::text(&states[k]);
+    let mut text = journal(&frames, j);
+    match random.below(20) {
+        0 => image = texts::damage(&mut random, &image),
+        1 => {
+            let way = random.below(states::WAYS);
+            image = states::broken(&mut random, &states[k], way).map_or(image, |state| image::text(&state));
+        }
+        2..=4 => text = texts::damage(&mut random, &text),
+        5..=6 => text.extend(&lines::write(&[3, 1, 0, 0, 0])[..random.below(11)]),
+        _ => (),
+    }
+    let expected = program::output(&mut Timers::default(), &image, &text);
+    let again = program::output(&mut History::default(), &image, &text);
+    assert_eq!(expected, again, "the engines differ: seed {seed}, case {index}");
+    Case { image, journal: text, expected }
+}
+
+/// The executed frames of a session from this state, and the states before and after each.
+fn unbroken(base: &State, calls: &[Call]) -> (Vec<Vec<u8>>, Vec<State>) {
+    let mut engine = Timers::default();
+    engine.adopt(base);
+    let (mut frames, mut states) = (Vec::new(), vec![base.clone()]);
+    for call in calls {
+        let outcome = script::call(&mut engine, call);
+        let octets = given(call).filter(|_| outcome.refusal == 0);
+        if let Some(octets) = octets {
+            frames.push(octets);
+            states.push(engine.state());
+        }
+    }
+    (frames, states)
+}
+
+/// The octets of the frame that a call gives.
+pub fn given(call: &Call) -> Option<Vec<u8>> {
+    match call {
+        Call::Octets { octets, .. } => Some(octets.clone()),
+        Call::Line { text, .. } => lines::read(text, Fault::None),
+        _ => None,
+    }
+}
+
+/// `count` vectors of a kind, a line each, fields in hexadecimal with `-` for an empty one.
+pub fn vectors(kind: &str, seed: u64, count: usize) -> Option<Vec<String>> {
+    let make: fn(u64, u64) -> Vec<String> = match kind {
+        "lines" => line_vectors,
+        "frames" => frame_vectors,
+        "conditions" => condition_vectors,
+        "commands" => command_vectors,
+        "images" => image_vectors,
+        "means" => mean_vectors,
+        _ => return None,
+    };
+    let mut all = Vec::new();
+    let mut index = 0;
+    while all.len() < count {
+        all.extend(make(seed, index));
+        index += 1;
+    }
+    all.truncate(count);
+    Some(all)
+}
+
+/// `read TEXT OCTETS`, or `no` for the octets if the text is not a line;
+/// `write LENT OCTETS TEXT`, or the refusal's number for the text.
+fn line_vectors(seed: u64, index: u64) -> Vec<String> {
+    let mut rows = Vec::new();
+    for call in generate::script(seed, index) {
+        match call {
+            Call::Line { text, .. } => {
+                let octets = lines::read(&text, Fault::None);
+                rows.push(format!("read {} {}", hex(&text), octets.map_or("no".to_string(), |o| hex(&o))));
+            }
+            Call::WriteLine { octets, lent } => {
+                let mut out = vec![0; lent];
+                let written = match write_line(&octets, &mut out, Fault::None) {
+                    Ok(length) => hex(&out[..length]),
+                    Err(refusal) => refusal.number().to_string(),
+                };
+                rows.push(format!("write {lent} {} {written}", hex(&octets)));
+            }
+            _ => (),
+        }
+    }
+    rows
+}
+
+/// `POSITION OPCODE OCTETS REFUSAL` for a state without pairs: the refusal's number, 0 for an executed frame.
+fn frame_vectors(seed: u64, index: u64) -> Vec<String> {
+    let mut follower = Timers::default();
+    let mut rows = Vec::new();
+    for call in generate::script(seed, index) {
+        if let Call::Octets { octets, .. } = &call {
+            let held = follower.state();
+            if held.opcode >= 0xFC00 {
+                let mut state = State::fresh(held.opcode, &[]);
+                state.position = held.position;
+                let mut engine = History::default();
+                engine.adopt(&state);
+                let refusal = engine.submit(octets, &mut [0; ANSWER]).err().map_or(0, |r| r.number());
+                rows.push(format!("{:08X} {:04X} {} {refusal}", state.position, state.opcode, hex(octets)));
+            }
+        }
+        script::call(&mut follower, &call);
+    }
+    rows
+}
+
+/// `TYPE CONDITION ADDRESS-TYPE ADDRESS DATA ANSWER`: `match`, `none`, `malformed`, `irk` or `type`.
+fn condition_vectors(seed: u64, index: u64) -> Vec<String> {
+    let mut random = Random::of(seed, index);
+    let devices = states::devices(&mut random);
+    let (kind, octets) = match random.below(10) {
+        0 => conditions::malformed(&mut random),
+        1 => (random.pick(&[0, 3, 5, 255]), random.octets(16)),
+        2 => (1, conditions::longest(&mut random)),
+        _ => conditions::well_formed(&mut random, &devices),
+    };
+    let well_formed = condition::form(kind, &octets) == Form::WellFormed;
+    let mut state = State::blank();
+    if well_formed && octets.len() <= CONDITION {
+        let parameters = generate::frames::monitor(-60, -80, 1, 0, kind, &octets);
+        let view = View { filter: 0, live: 0, prefix: &[] };
+        if let command::Change::Add(monitor) = command::answer(&view, &parameters, Fault::None).change {
+            state.monitors[0] = monitor;
+            state.monitor_count = 1;
+        }
+    }
+    let rows = (0..6).map(|_| {
+        let device = random.pick(&devices);
+        let data = conditions::data(&mut random, state.monitors());
+        let packet = Packet { event_type: 0, device, data, rssi: 0 };
+        let answer = match condition::form(kind, &octets) {
+            Form::Malformed => "malformed",
+            Form::Irk => "irk",
+            Form::NoType => "type",
+            Form::WellFormed if condition::matches(kind, &octets, &packet, Fault::None) => "match",
+            Form::WellFormed => "none",
+        };
+        let fields = (hex(&octets), packet.device.kind, hex(&device.address), hex(&packet.data));
+        format!("{kind:02X} {} {:02X} {} {} {answer}", fields.0, fields.1, fields.2, fields.3)
+    });
+    rows.collect()
+}
+
+/// `FILTER LIVE PREFIX PARAMETERS RETURNS`: LIVE has bit h for handle h, RETURNS are the return parameters.
+fn command_vectors(seed: u64, index: u64) -> Vec<String> {
+    let mut follower = Timers::default();
+    let mut rows = Vec::new();
+    for call in generate::script(seed, index) {
+        let before = follower.state();
+        let outcome = script::call(&mut follower, &call);
+        let payload =
+            given(&call).filter(|_| outcome.refusal == 0).and_then(|o| frame::payload(&o, Fault::None));
+        if let Some(Payload::Command { parameters, .. }) = payload {
+            let live = before.monitors().iter().fold(0u16, |mask, m| mask | 1 << m.handle);
+            let fields =
+                (before.filter, hex(before.prefix()), hex(&parameters), hex(&outcome.written[0][5..]));
+            rows.push(format!("{:02X} {live:04X} {} {} {}", fields.0, fields.1, fields.2, fields.3));
+        }
+    }
+    rows
+}
+
+/// `TEXT ANSWER`: `ok`, or `10` if it is not an image.
+fn image_vectors(seed: u64, index: u64) -> Vec<String> {
+    let mut random = Random::of(seed, index);
+    let devices = states::devices(&mut random);
+    let state = states::sound(&mut random, &devices);
+    let text = image::text(&state);
+    let way = random.below(states::WAYS);
+    let mut all = vec![texts::damage(&mut random, &text), texts::damage(&mut random, &text), text];
+    all.extend(states::broken(&mut random, &state, way).map(|broken| image::text(&broken)));
+    let rows = all.iter().map(|text| {
+        let answer = if Timers::default().restore(text).is_ok() { "ok" } else { "10" };
+        format!("{} {answer}", hex(text))
+    });
+    rows.collect()
+}
+
+/// `SUM COUNT MEAN`: the sum as 8 octets and the count as 4, as in an A2 line; the mean as its octet.
+fn mean_vectors(seed: u64, index: u64) -> Vec<String> {
+    let mut random = Random::of(seed, index);
+    let count = random.pick(&[1, 2, 3, 7, 1000, u32::MAX]) as i64;
+    let near = random.between(-127, 20) * count + random.pick(&[-1, 0, 1, count / 2]);
+    let sum = near.clamp(-127 * count, 20 * count);
+    let mean = sum.div_euclid(count) as i8;
+    vec![format!("{} {} {}", hex(&sum.to_le_bytes()), hex(&(count as u32).to_le_bytes()), hex(&[mean as u8]))]
+}

@@ -1,0 +1,222 @@
+//! Document 01, "Commands": the status and return parameters of a command, and what it changes.
+
+use crate::condition::{form, Form};
+use crate::coverage::{hit, Rule};
+use crate::fault::Fault;
+use crate::limits::{rssi_in_range, CONDITION, INTERVAL_LEAST, INTERVAL_MOST, MONITORS};
+use crate::state::Monitor;
+
+/// What a command looks at.
+pub struct View<'a> {
+    pub filter: u8,
+    /// Bit h is set if handle h is live.
+    pub live: u16,
+    pub prefix: &'a [u8],
+}
+
+/// What an executed command changes beside the position.
+#[derive(Clone, Copy, PartialEq, Eq, Debug)]
+pub enum Change {
+    Nothing,
+    Add(Monitor),
+    Cancel(u8),
+    Filter(u8),
+}
+
+/// Return parameters and change.
+pub struct Answer {
+    pub returns: Vec<u8>,
+    pub change: Change,
+}
+
+/// The fixed table: sub-opcode, parameter length counting the sub-opcode (03: the least), answer length
+/// (00: less its prefix).
+const TABLE: [(u8, usize, usize); 4] = [(0x00, 1, 11), (0x03, 6, 3), (0x04, 2, 2), (0x05, 2, 2)];
+
+/// RSSI monitoring and advertisement monitoring of legacy advertisements.
+const FEATURES: u64 = 0x0C;
+
+const UNKNOWN_COMMAND: u8 = 0x01;
+const MEMORY_EXCEEDED: u8 = 0x07;
+const COMMAND_DISALLOWED: u8 = 0x0C;
+const UNSUPPORTED_VALUE: u8 = 0x11;
+const INVALID_PARAMETERS: u8 = 0x12;
+
+/// The answer to these parameters; the first is the sub-opcode.
+pub fn answer(view: &View, parameters: &[u8], fault: Fault) -> Answer {
+    let sub = parameters[0];
+    let Some((_, length, answer_length)) = TABLE.iter().find(|row| row.0 == sub) else {
+        hit(Rule::OtherSub);
+        let named = if fault == Fault::OtherSubZero { 0 } else { sub };
+        return Answer { returns: vec![UNKNOWN_COMMAND, named], change: Change::Nothing };
+    };
+    let right_length = if sub == 0x03 { parameters.len() >= *length } else { parameters.len() == *length };
+    let outcome = match sub {
+        0x00 => read_features(right_length),
+        0x03 => add(view, parameters, right_length, fault),
+        0x04 => cancel(view, parameters, right_length, fault),
+        _ => enable(view, parameters, right_length, fault),
+    };
+    let returns = match (&outcome, sub) {
+        (Ok(_), 0x00) => features(view, fault),
+        (Ok(Change::Add(monitor)), _) => vec![0x00, sub, monitor.handle],
+        (Ok(_), _) => vec![0x00, sub],
+        (Err(status), 0x00) if fault == Fault::FailedReadLong => {
+            let mut octets = features(view, fault);
+            octets[0] = *status;
+            octets
+        }
+        (Err(status), 0x03) if fault != Fault::FailedAddShort => vec![*status, sub, 0x00],
+        (Err(status), _) => vec![*status, sub],
+    };
+    if fault == Fault::None {
+        let prefix = if sub == 0x00 && outcome.is_ok() { view.prefix.len() } else { 0 };
+        let least = if sub == 0x00 && outcome.is_err() { 2 } else { *answer_length };
+        assert_eq!(returns.len(), least + prefix, "the table's answer length");
+    }
+    Answer { returns, change: outcome.unwrap_or(Change::Nothing) }
+}
+
+/// 00, 00, features (8), prefix length, prefix.
+fn features(view: &View, fault: Fault) -> Vec<u8> {
+    let bits = if fault == Fault::ReservedFeature { FEATURES | 0x400 } else { FEATURES };
+    let mut octets = vec![0x00, 0x00];
+    octets.extend(bits.to_le_bytes());
+    octets.push(view.prefix.len() as u8);
+    octets.extend(view.prefix);
+    octets
+}
+
+fn read_features(right_length: bool) -> Result<Change, u8> {
+    if !right_length {
+        hit(Rule::ReadLength);
+        return Err(INVALID_PARAMETERS);
+    }
+    hit(Rule::ReadSuccess);
+    Ok(Change::Nothing)
+}
+
+/// 03, its failures in the document's order.
+fn add(view: &View, parameters: &[u8], right_length: bool, fault: Fault) -> Result<Change, u8> {
+    let fail = |rule, status| {
+        hit(rule);
+        Err(status)
+    };
+    if !right_length {
+        return fail(Rule::AddShort, INVALID_PARAMETERS);
+    }
+    let (high, low) = (parameters[1] as i8, parameters[2] as i8);
+    let (interval, sampling, kind) = (parameters[3], parameters[4], parameters[5]);
+    let condition = &parameters[6..];
+    if !threshold_in_range(high, fault) || !threshold_in_range(low, fault) {
+        return fail(Rule::AddThreshold, INVALID_PARAMETERS);
+    }
+    if !(high > low || (high == low && fault == Fault::EqualThresholds)) {
+        return fail(Rule::AddOrder, INVALID_PARAMETERS);
+    }
+    if !interval_in_range(interval, fault) {
+        return fail(Rule::AddInterval, INVALID_PARAMETERS);
+    }
+    let form = form(kind, condition);
+    if form == Form::NoType {
+        return fail(Rule::AddType, INVALID_PARAMETERS);
+    }
+    let full = view.live.count_ones() as usize >= if fault == Fault::FifteenMonitors { 15 } else { MONITORS };
+    if form == Form::Irk && full && fault == Fault::IrkAfterFull {
+        return Err(MEMORY_EXCEEDED);
+    }
+    if form == Form::Irk {
+        return fail(Rule::AddIrk, UNSUPPORTED_VALUE);
+    }
+    if condition.len() > CONDITION && fault == Fault::LongBeforeMalformed {
+        return Err(MEMORY_EXCEEDED);
+    }
+    if form == Form::Malformed {
+        return fail(Rule::AddMalformed, INVALID_PARAMETERS);
+    }
+    if condition.len() > if fault == Fault::Condition63 { 63 } else { CONDITION } {
+        return fail(Rule::AddLong, MEMORY_EXCEEDED);
+    }
+    if full {
+        return fail(Rule::AddFull, MEMORY_EXCEEDED);
+    }
+    hit(Rule::AddSuccess);
+    if view.live.leading_zeros() < view.live.count_zeros() {
+        hit(Rule::AddReused);
+    }
+    let mut octets = [0; CONDITION];
+    octets[..condition.len()].copy_from_slice(condition);
+    let handle = new_handle(view.live, fault);
+    Ok(Change::Add(Monitor {
+        handle,
+        high,
+        low,
+        interval,
+        sampling,
+        kind,
+        length: condition.len() as u8,
+        octets,
+    }))
+}
+
+fn threshold_in_range(threshold: i8, fault: Fault) -> bool {
+    match fault {
+        Fault::Threshold21 if threshold == 21 => true,
+        Fault::Threshold20Refused if threshold == 20 => false,
+        _ => rssi_in_range(threshold),
+    }
+}
+
+fn interval_in_range(interval: u8, fault: Fault) -> bool {
+    match fault {
+        Fault::Interval0 if interval == 0 => true,
+        Fault::Interval60Refused if interval == 60 => false,
+        Fault::Interval61 if interval == 61 => true,
+        _ => (INTERVAL_LEAST..=INTERVAL_MOST).contains(&interval),
+    }
+}
+
+/// The lowest handle not live.
+fn new_handle(live: u16, fault: Fault) -> u8 {
+    if fault == Fault::HandleAboveLast {
+        return (16 - live.leading_zeros() as u8).min(15);
+    }
+    (0..MONITORS as u8).find(|h| live >> h & 1 == 0).unwrap()
+}
+
+/// 04: length, then no such live handle.
+fn cancel(view: &View, parameters: &[u8], right_length: bool, fault: Fault) -> Result<Change, u8> {
+    if !right_length {
+        hit(Rule::CancelLength);
+        return Err(INVALID_PARAMETERS);
+    }
+    let handle = parameters[1];
+    if handle as usize >= MONITORS || view.live >> handle & 1 == 0 {
+        hit(Rule::CancelNone);
+        return if fault == Fault::CancelAnyHandle { Ok(Change::Nothing) } else { Err(INVALID_PARAMETERS) };
+    }
+    hit(Rule::CancelSuccess);
+    Ok(Change::Cancel(handle))
+}
+
+/// 05: length, then enable above 1, then equal to the present setting.
+fn enable(view: &View, parameters: &[u8], right_length: bool, fault: Fault) -> Result<Change, u8> {
+    if !right_length {
+        hit(Rule::EnableLength);
+        return Err(INVALID_PARAMETERS);
+    }
+    let wanted = parameters[1];
+    if wanted == 2 && fault == Fault::Enable2Taken {
+        return Ok(Change::Filter(1));
+    }
+    if wanted > 1 {
+        hit(Rule::EnableValue);
+        return Err(INVALID_PARAMETERS);
+    }
+    if wanted == view.filter {
+        hit(Rule::EnableEqual);
+        return if fault == Fault::EnableEqualTaken { Ok(Change::Nothing) } else { Err(COMMAND_DISALLOWED) };
+    }
+    hit(if wanted == 1 { Rule::EnableOn } else { Rule::EnableOff });
+    Ok(Change::Filter(wanted))
+}

@@ -1,0 +1,183 @@
+//! Document 01, "Conditions": the form of a condition, and whether a packet matches it.
+
+use crate::coverage::{hit, Rule};
+use crate::fault::Fault;
+use crate::frame::Packet;
+
+/// What a condition of some type is.
+#[derive(Clone, Copy, PartialEq, Eq, Debug)]
+pub enum Form {
+    WellFormed,
+    Malformed,
+    /// Type 3, an IRK: not built.
+    Irk,
+    /// A type outside 1 to 4.
+    NoType,
+}
+
+/// The form of a condition of this type.
+pub fn form(kind: u8, condition: &[u8]) -> Form {
+    let well = match kind {
+        1 => patterns(condition).is_some(),
+        2 => uuid(condition).is_some(),
+        3 => return Form::Irk,
+        4 => condition.len() == 7 && condition[0] <= 1,
+        _ => return Form::NoType,
+    };
+    if well {
+        Form::WellFormed
+    } else {
+        Form::Malformed
+    }
+}
+
+/// Does this packet match this well-formed condition?
+pub fn matches(kind: u8, condition: &[u8], packet: &Packet, fault: Fault) -> bool {
+    match kind {
+        1 => pattern_condition(condition, &packet.data, fault),
+        2 => uuid_condition(condition, &packet.data, fault),
+        4 => address_condition(condition, packet, fault),
+        _ => false,
+    }
+}
+
+/// A pattern: AD type, start byte, octets.
+struct Pattern<'a> {
+    ad_type: u8,
+    start: usize,
+    octets: &'a [u8],
+}
+
+/// Type 1: a count of at least 1, then that many patterns, filling the condition exactly.
+fn patterns(condition: &[u8]) -> Option<Vec<Pattern<'_>>> {
+    let (count, mut rest) = condition.split_first()?;
+    if *count == 0 {
+        return None;
+    }
+    let mut list = Vec::with_capacity(4);
+    for _ in 0..*count {
+        let length = *rest.first()? as usize;
+        if length < 3 || rest.len() < 1 + length {
+            return None;
+        }
+        list.push(Pattern { ad_type: rest[1], start: rest[2] as usize, octets: &rest[3..1 + length] });
+        rest = &rest[1 + length..];
+    }
+    rest.is_empty().then_some(list)
+}
+
+/// AD structures: length L, then L octets, the first the AD type. L = 0 or a structure past the end ends
+/// the list; earlier ones count. Given as AD type and the octets after it.
+fn sections(data: &[u8], fault: Fault) -> Vec<(u8, &[u8])> {
+    let mut list = Vec::with_capacity(4);
+    let mut rest = data;
+    while let Some((length, after)) = rest.split_first() {
+        let length = *length as usize;
+        if length == 0 && fault == Fault::ZeroLengthSkipped {
+            rest = after;
+            continue;
+        }
+        if length == 0 {
+            hit(Rule::SectionsZero);
+            break;
+        }
+        if length > after.len() {
+            hit(Rule::SectionsPastEnd);
+            if fault == Fault::PastEndCounts && !after.is_empty() {
+                list.push((after[0], &after[1..]));
+            }
+            break;
+        }
+        list.push((after[0], &after[1..length]));
+        rest = &after[length..];
+    }
+    list
+}
+
+/// One matching pattern is enough. It matches if some AD structure of its type holds the octets at its
+/// offset, 0 being the first octet after the AD type.
+fn pattern_condition(condition: &[u8], data: &[u8], fault: Fault) -> bool {
+    let list = sections(data, fault);
+    let one = |pattern: &Pattern| {
+        let mut of_type = list.iter().filter(|(ad_type, _)| *ad_type == pattern.ad_type);
+        match fault {
+            Fault::FirstSectionOnly => of_type.next().is_some_and(|(_, content)| holds(content, pattern)),
+            Fault::PatternAnywhere => {
+                of_type.any(|(_, c)| c.windows(pattern.octets.len()).any(|w| w == pattern.octets))
+            }
+            Fault::OffsetFromType => of_type.any(|(_, content)| {
+                let moved = Pattern { start: pattern.start.saturating_sub(1), ..*pattern };
+                pattern.start > 0 && holds(content, &moved)
+            }),
+            _ => of_type.any(|(_, content)| holds(content, pattern)),
+        }
+    };
+    let Some(all) = patterns(condition) else { return false };
+    if fault == Fault::AllPatterns {
+        return all.iter().all(one);
+    }
+    let found = all.iter().position(one);
+    hit(match found {
+        Some(0) => Rule::PatternMatch,
+        Some(_) => Rule::PatternLater,
+        None => Rule::PatternNone,
+    });
+    found.is_some()
+}
+
+/// Does the content hold the pattern's octets at its start byte?
+fn holds(content: &[u8], pattern: &Pattern) -> bool {
+    content.get(pattern.start..pattern.start + pattern.octets.len()) == Some(pattern.octets)
+}
+
+/// Type 2: UUID type 1, 2, 3, then 2, 4, 16 octets. Given as the two AD types looked in, and the octets.
+fn uuid(condition: &[u8]) -> Option<([u8; 2], &[u8])> {
+    let (uuid_type, octets) = condition.split_first()?;
+    let (ad_types, size) = match uuid_type {
+        1 => ([0x02, 0x03], 2),
+        2 => ([0x04, 0x05], 4),
+        3 => ([0x06, 0x07], 16),
+        _ => return None,
+    };
+    (octets.len() == size).then_some((ad_types, octets))
+}
+
+/// Looked for in its two AD types, at offsets that are multiples of its size only.
+fn uuid_condition(condition: &[u8], data: &[u8], fault: Fault) -> bool {
+    let Some((ad_types, octets)) = uuid(condition) else { return false };
+    let size = octets.len();
+    for (ad_type, content) in sections(data, fault) {
+        if !ad_types.contains(&ad_type) || (fault == Fault::UuidCompleteOnly && ad_type == ad_types[0]) {
+            continue;
+        }
+        if fault == Fault::UuidAtOddOffset && content.windows(size).any(|w| w == octets) {
+            return true;
+        }
+        // `chunks` gives the offsets 0, size, 2 x size ..; a rest shorter than a UUID is no UUID.
+        for (index, chunk) in content.chunks(size).enumerate() {
+            if chunk.len() < size {
+                hit(Rule::UuidRest);
+                if fault == Fault::UuidInRest && octets.starts_with(chunk) {
+                    return true;
+                }
+            } else if chunk == octets {
+                hit(if index == 0 { Rule::UuidMatch } else { Rule::UuidLater });
+                return true;
+            }
+        }
+    }
+    hit(Rule::UuidNone);
+    false
+}
+
+/// Type 4: address type and address, equal to the packet's.
+fn address_condition(condition: &[u8], packet: &Packet, fault: Fault) -> bool {
+    let same_address = condition[1..] == packet.device.address;
+    let same_type = condition[0] == packet.device.kind;
+    hit(match (same_address, same_type) {
+        (true, true) => Rule::AddressMatch,
+        (true, false) => Rule::AddressOtherType,
+        _ => Rule::AddressNone,
+    });
+    same_address && (same_type || fault == Fault::AddressTypeIgnored)
+}

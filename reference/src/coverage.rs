@@ -1,0 +1,114 @@
+//! Which rules, statuses and refusals of document 01 a run reaches, counted by name for each thread.
+
+use std::cell::Cell;
+
+macro_rules! rules {
+    ($($name:ident: $words:literal,)*) => {
+        #[derive(Clone, Copy, PartialEq, Eq, Debug)]
+        pub enum Rule { $($name,)* }
+
+        pub const RULES: &[(Rule, &str)] = &[$((Rule::$name, $words),)*];
+    };
+}
+
+rules! {
+    Refusal1: "refusal 1, seen",
+    Refusal2: "refusal 2, gap",
+    Refusal3: "refusal 3, output too short",
+    Refusal4: "refusal 4, not a line",
+    Refusal5: "refusal 5, payload",
+    Refusal6: "refusal 6, other opcode",
+    Refusal7: "refusal 7, state not sound",
+    Refusal8: "refusal 8, full window",
+    Refusal9: "refusal 9, settings",
+    Refusal10: "refusal 10, not an image",
+    ReadSuccess: "00: success",
+    ReadLength: "00: 0x12, length",
+    AddSuccess: "03: success",
+    AddShort: "03: 0x12, fewer than 6 octets",
+    AddThreshold: "03: 0x12, threshold out of range",
+    AddOrder: "03: 0x12, high not above low",
+    AddInterval: "03: 0x12, interval",
+    AddType: "03: 0x12, condition type",
+    AddIrk: "03: 0x11, type 3",
+    AddMalformed: "03: 0x12, malformed condition",
+    AddLong: "03: 0x07, condition over 64 octets",
+    AddFull: "03: 0x07, 16 monitors live",
+    AddReused: "03: a handle below a live one is handed out",
+    CancelSuccess: "04: success",
+    CancelLength: "04: 0x12, length",
+    CancelNone: "04: 0x12, no such live handle",
+    CancelWatched: "04: pairs forgotten",
+    CancelWindow: "04: an open window lost",
+    EnableOn: "05: filter on",
+    EnableOff: "05: filter off",
+    EnableLength: "05: 0x12, length",
+    EnableValue: "05: 0x12, enable above 1",
+    EnableEqual: "05: 0x0C, equal",
+    OtherSub: "other sub-opcode: 0x01",
+    PatternMatch: "type 1: a pattern matches",
+    PatternLater: "type 1: a later pattern matches, the first does not",
+    PatternNone: "type 1: no match",
+    UuidMatch: "type 2: match",
+    UuidLater: "type 2: match at an offset above 0",
+    UuidRest: "type 2: a rest shorter than the UUID",
+    UuidNone: "type 2: no match",
+    AddressMatch: "type 4: match",
+    AddressOtherType: "type 4: the address with the other type",
+    AddressNone: "type 4: no match",
+    SectionsZero: "AD structures ended by length 0",
+    SectionsPastEnd: "AD structures ended by one past the end",
+    Start: "packet: start",
+    StartSeveral: "packet: several starts",
+    StartNoRoom: "packet: no start, 64 pairs",
+    StartSomeRoom: "packet: room for some of its starts",
+    StartWhileOff: "packet: start while the filter is off",
+    GoodPacket: "packet: good, the run begins anew",
+    LowPacket: "packet: not good, under watch",
+    OtherPacket: "packet: device under watch, no match",
+    ReportOff: "packet: report, filter off",
+    ReportSampling0: "packet: report, sampling 0 under watch",
+    ReportStart: "packet: report, start with filter on",
+    ReportStart255: "packet: report, start with sampling 0xFF alone",
+    ReportNone: "packet: no report",
+    WindowTakes: "packet: a window takes it",
+    WindowTakesOff: "packet: a window takes it while the filter is off",
+    Stop: "tick: stop",
+    StopWhileOff: "tick: stop while the filter is off",
+    StopWindow: "tick: stop where a full window would close",
+    StopSixtySeconds: "tick: stop after 600 ticks",
+    WindowReport: "tick: window report",
+    WindowReportNegative: "tick: window report, mean rounded down below 0",
+    WindowEmpty: "tick: window closes empty",
+    WindowOff: "tick: window closes while the filter is off",
+    TickQuiet: "tick: nothing written, pairs under watch",
+    LongestAnswer: "answer of 2,880 octets",
+    SaveDone: "save: done",
+    LargestImage: "save: 9,770 octets",
+    RestoreDone: "restore: done",
+    RestoreText: "restore: refused, not records in order",
+    RestoreUnsound: "restore: refused, records of a state not sound",
+    ReplaySeen: "replay: a seen line skipped",
+    ReplayStopped: "replay: stopped",
+    ReplayThrough: "replay: ran through",
+    ReplayPiece: "replay: a final piece without LF",
+    WriteLineDone: "write a line: done",
+    LastPosition: "a frame with number 4,294,967,295",
+}
+
+thread_local! {
+    static COUNTS: [Cell<u64>; RULES.len()] = const { [const { Cell::new(0) }; RULES.len()] };
+}
+
+/// Count one more for this rule.
+pub fn hit(rule: Rule) {
+    COUNTS.with(|counts| {
+        let count = &counts[rule as usize];
+        count.set(count.get() + 1);
+    });
+}
+
+/// The counts of this thread, in the order of `RULES`, and back to 0.
+pub fn take() -> Vec<u64> {
+    COUNTS.with(|counts| counts.iter().map(|count| count.replace(0)).collect())
+}

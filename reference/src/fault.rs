@@ -1,0 +1,134 @@
+//! Wrong builds: small faults, switched on one at a time by number in the engine with stored timers.
+//! Number 0 is no fault. Each must be noticed by comparison with the other engine (tests/faults.rs).
+
+macro_rules! faults {
+    ($($name:ident: $words:literal,)*) => {
+        #[derive(Clone, Copy, PartialEq, Eq, Debug)]
+        pub enum Fault { None, $($name,)* }
+
+        /// Every fault with what it does wrong, in the order of the numbers from 1.
+        pub const FAULTS: &[(Fault, &str)] = &[$((Fault::$name, $words),)*];
+    };
+}
+
+faults! {
+    // Document 01, "Errors that look right".
+    MeanCutsTowardZero: "mean by a division that cuts toward zero",
+    AnyPacketRestarts: "any packet restarts the low count",
+    WindowBesideStop: "a last window report beside a stop event",
+    SeenHandsOutAgain: "a seen frame is executed again and hands out a handle",
+    ImageWithoutWindow: "an image without the window",
+    // Document 01, "What the promises owe": the wrong builds.
+    RefusesEverything: "every frame is refused",
+    FixedReply: "every frame gets one fixed reply",
+    DoesNothing: "no frame does anything",
+    RestoresBlank: "restore always gives the blank state",
+    OnlyFrameOne: "runs frame 1 and then only moves the position",
+    InventedCount: "a window's packet count is invented",
+    // Lines and refusals.
+    OutputAfterForm: "refusal 3 is checked after 4",
+    SeenBeforeForm: "refusal 1 is checked before 4",
+    PayloadBeforeSeen: "refusal 5 is checked before 1",
+    OpcodeBeforePayload: "refusal 6 is checked before 5",
+    SoundnessLast: "refusal 7 is checked after 3",
+    OutputOneLess: "an output of 2,879 octets is taken",
+    SaveOneLess: "an output of 9,769 octets is taken for an image",
+    LineOneLess: "an output of 526 octets is taken for a line",
+    RefusalWrites: "a refused frame writes an octet",
+    RestCleared: "octets past the written length are cleared",
+    GapExecuted: "a frame two above the position is executed",
+    PositionWraps: "after the last number the position goes on at 0",
+    LowerCaseTaken: "a line in lower case is taken",
+    CarriageReturnTaken: "a line that ends with CR LF is taken",
+    FinalPieceRead: "a final piece of a journal without LF is read",
+    ReplayStopsAtSeen: "replay stops at a seen line",
+    ReplayGoesOn: "replay goes on after a refusal",
+    Rssi127Taken: "a packet with RSSI 127 is executed",
+    TickPayloadTaken: "a tick with a payload is executed",
+    ParameterLengthIgnored: "the parameter length is not compared with the octets that follow",
+    RefusedStartKeeps: "settings out of range leave the old state",
+    RefusedRestoreKeeps: "a refused image leaves the old state",
+    // Commands.
+    FailureStays: "a failed command does not advance the position",
+    ReservedFeature: "features with bit 0x400",
+    FailedReadLong: "a failed 00 answers with features and prefix",
+    FailedAddShort: "a failed 03 answers two octets",
+    OtherSubZero: "another sub-opcode answers 01, 00",
+    EqualThresholds: "high equal to low is accepted",
+    Threshold21: "threshold 21 is accepted",
+    Threshold20Refused: "threshold 20 is refused",
+    Interval0: "interval 0x00 is accepted",
+    Interval60Refused: "interval 0x3C is refused",
+    Interval61: "interval 0x3D is accepted",
+    IrkAfterFull: "condition type 3 with 16 monitors live gives 0x07",
+    LongBeforeMalformed: "a malformed condition over 64 octets gives 0x07",
+    Condition63: "a condition of 64 octets is too long",
+    FifteenMonitors: "a 16th monitor gives 0x07",
+    HandleAboveLast: "the new handle is one above the highest live",
+    EnableEqualTaken: "05 equal to the present setting succeeds",
+    Enable2Taken: "05 with enable 2 switches the filter on",
+    CancelAnyHandle: "04 with no such live handle succeeds",
+    CancelKeepsPairs: "cancelling keeps the pairs",
+    CancelWritesStops: "cancelling writes stop events",
+    FilterOnAtStart: "a fresh state has the filter on",
+    // Conditions.
+    AllPatterns: "all patterns must match",
+    OffsetFromType: "a pattern's offset counts from the AD type",
+    PatternAnywhere: "a pattern is found at any offset",
+    FirstSectionOnly: "only the first AD structure of a type is looked at",
+    PastEndCounts: "a structure past the end counts as far as it goes",
+    ZeroLengthSkipped: "an AD structure of length 0 is skipped",
+    UuidAtOddOffset: "a UUID is found at every offset",
+    UuidCompleteOnly: "a UUID is looked for in complete lists only",
+    UuidInRest: "a rest shorter than a UUID matches its first octets",
+    AddressTypeIgnored: "a condition of type 4 ignores the address type",
+    // Watching.
+    GoodAtLow: "a packet at the low threshold is good",
+    StartAboveHigh: "a packet at the high threshold is no start",
+    EndsEarly: "a watch ends one tick early",
+    EndsLate: "a watch ends one tick late",
+    IntervalInTicks: "the interval's seconds are taken as ticks",
+    SilenceIgnored: "ticks while the window is empty do not count as low",
+    OtherPacketRestarts: "a packet of the device that does not match restarts the low count",
+    DeviceWithoutType: "a device is an address alone",
+    RoomForOneLess: "room for 63 pairs",
+    RoomOncePerPacket: "the room for starts is looked at once a packet",
+    HandlesDescending: "monitors take a packet in falling handle order",
+    NoStartWhileOff: "no start event while the filter is off",
+    NoStopWhileOff: "no stop event while the filter is off",
+    ReportPerMonitor: "a report for every matching monitor",
+    NoStartReport: "a start packet with sampling 0xFF is not reported",
+    LowNotReported: "with sampling 0 a packet that is not good is not reported",
+    ReportBeforeStarts: "the report stands before the start events",
+    StopsByHandle: "a tick takes the pairs by handle",
+    EventWithoutPrefix: "device events without the prefix",
+    StartInWindow: "the start packet is in the window",
+    WindowKeepsFirst: "a window reports its first packet",
+    WindowHoldsGoodOnly: "a window gathers good packets only",
+    GoodShiftsWindow: "a good packet begins the window anew",
+    WindowSleepsWhileOff: "a window gathers nothing while the filter is off",
+    WindowStopsWhileOff: "windows do not run while the filter is off",
+    WindowKeptWhileOff: "a window that closes while the filter is off is not emptied",
+    WindowReportsWhileOff: "a window that closes while the filter is off is reported",
+    EmptyWindowReported: "a window without packets is reported",
+    SumKept: "a closed window's sum is kept",
+    Period255: "sampling 0xFF is a period of 255 ticks",
+    LatestPadded: "octets of a longer packet stay behind a shorter one",
+    // Images.
+    CountsNotRead: "an image with other counts in its AF line is taken",
+    RestAfterEnd: "an image with more text after its AF line is taken",
+    PairOrderLost: "an image lists the pairs by handle",
+    SumUnsigned: "an image's sum is written without its sign",
+    QuietNotChecked: "an image with 10 x interval ticks since a good packet is taken",
+    PacketsNotChecked: "an image with more packets than the position is taken",
+}
+
+impl Fault {
+    /// The fault with this number; 0 is none.
+    pub fn of_number(number: usize) -> Option<Fault> {
+        if number == 0 {
+            return Some(Fault::None);
+        }
+        FAULTS.get(number - 1).map(|(fault, _)| *fault)
+    }
+}

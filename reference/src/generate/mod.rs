@@ -1,0 +1,249 @@
+//! The generator of sessions. A session has a theme, and an engine of its own follows it, so that the
+//! generator knows the position, the live monitors and the pairs, and can aim at the edges.
+
+pub mod conditions;
+pub mod frames;
+mod lines;
+pub mod states;
+pub mod texts;
+mod watching;
+
+use crate::coverage;
+use crate::engine::Engine;
+use crate::lines as hexadecimal;
+use crate::random::Random;
+use crate::script::{self, Call};
+use crate::state::{Device, State};
+use crate::timers::Timers;
+
+/// What a session is mostly about.
+#[derive(Clone, Copy, PartialEq, Eq, Debug)]
+enum Theme {
+    Mixed,
+    Commands,
+    Conditions,
+    Limits,
+    Windows,
+    LongTicks,
+    Lines,
+    Images,
+    Failover,
+}
+
+/// One step of a session.
+#[derive(Clone, Copy, PartialEq, Eq, Debug)]
+enum Action {
+    Add,
+    AddEdge,
+    Cancel,
+    Filter,
+    OtherCommand,
+    Packet,
+    NewDevice,
+    Ticks,
+    Save,
+    BadLine,
+    BadPayload,
+    OtherOpcode,
+    Seen,
+    Gap,
+    ShortOutput,
+    // Not in a session of document 01:
+    WriteLine,
+    Failover,
+    Restore,
+    RestoreDamaged,
+    Unsound,
+    Replay,
+    StartAgain,
+}
+
+pub struct Generator {
+    random: Random,
+    theme: Theme,
+    /// Follows the calls made so far.
+    follower: Timers,
+    state: State,
+    devices: Vec<Device>,
+    calls: Vec<Call>,
+    /// Executed frames, for seen frames and replays.
+    executed: Vec<Vec<u8>>,
+}
+
+/// A session of document 01: a start with settings in range, then frames and saves.
+pub fn session(seed: u64, index: u64, most_calls: usize) -> Vec<Call> {
+    use Theme::*;
+    let mut random = Random::of(seed, index);
+    let theme = random.pick(&[Mixed, Mixed, Commands, Conditions, Limits, Windows, Windows, Lines]);
+    let calls = random.between(0, most_calls as i64) as usize;
+    Generator::begin(random, theme).make(calls, false)
+}
+
+/// A session that goes on from a random sound state instead of a fresh one.
+pub fn session_from(seed: u64, index: u64, most_calls: usize) -> (State, Vec<Call>) {
+    let mut random = Random::of(seed, index);
+    let calls = random.between(0, most_calls as i64) as usize;
+    let mut generator = Generator::begin(random, Theme::Mixed);
+    let state = states::sound(&mut generator.random, &generator.devices);
+    generator.follower.adopt(&state);
+    generator.state = state.clone();
+    let made = generator.make(calls + 1, false);
+    (state, made[1..].to_vec())
+}
+
+/// A script with any calls at all.
+pub fn script(seed: u64, index: u64) -> Vec<Call> {
+    use Theme::*;
+    let mut random = Random::of(seed, index);
+    let theme = match random.below(100) {
+        0..=19 => Mixed,
+        20..=29 => Commands,
+        30..=44 => Conditions,
+        45..=52 => Limits,
+        53..=69 => Windows,
+        70..=71 => LongTicks,
+        72..=81 => Lines,
+        82..=91 => Images,
+        _ => Failover,
+    };
+    let calls = match theme {
+        LongTicks => random.between(40, 700),
+        Limits => random.between(40, 90),
+        _ => random.between(5, 90),
+    };
+    Generator::begin(random, theme).make(calls as usize, true)
+}
+
+impl Generator {
+    fn begin(mut random: Random, theme: Theme) -> Generator {
+        let opcode = random.pick(&[0xFC1E, 0xFC00, 0xFFFF, 0xFCF0]);
+        let length = random.pick(&[0, 2, 2, 5, 32]);
+        let prefix = random.octets(length);
+        let mut generator = Generator {
+            devices: states::devices(&mut random),
+            random,
+            theme,
+            follower: Timers::default(),
+            state: State::blank(),
+            calls: Vec::new(),
+            executed: Vec::new(),
+        };
+        generator.make_call(Call::Start { opcode, prefix });
+        generator
+    }
+
+    /// Add a call, and follow it. The follower's steps are not counted as coverage of the session.
+    fn make_call(&mut self, call: Call) {
+        let before = self.state.position;
+        script::call(&mut self.follower, &call);
+        self.state = self.follower.state();
+        let frame = match &call {
+            Call::Octets { octets, .. } => Some(octets.clone()),
+            Call::Line { text, .. } => hexadecimal::read(text, crate::fault::Fault::None),
+            _ => None,
+        };
+        if let (Some(octets), true) = (frame, self.state.position != before) {
+            self.executed.push(octets);
+        }
+        self.calls.push(call);
+    }
+
+    fn make(mut self, most: usize, any_call: bool) -> Vec<Call> {
+        if matches!(self.theme, Theme::Limits) {
+            self.fill();
+        }
+        if matches!(self.theme, Theme::Images) && any_call {
+            self.restore_sound();
+        }
+        if matches!(self.theme, Theme::LongTicks) {
+            self.add_slow();
+        }
+        while self.calls.len() < most {
+            let action = self.action(any_call);
+            self.act(action);
+        }
+        self.calls.truncate(most.max(1));
+        coverage::take();
+        self.calls
+    }
+
+    /// The next step, by the theme's weights.
+    fn action(&mut self, any_call: bool) -> Action {
+        use Action::*;
+        // The weights of: Add, AddEdge, Cancel, Filter, OtherCommand, Packet, NewDevice, Ticks, Save,
+        // BadLine, BadPayload, OtherOpcode, Seen, Gap, ShortOutput,
+        // WriteLine, Failover, Restore, RestoreDamaged, Unsound, Replay, StartAgain.
+        let actions = [
+            Add,
+            AddEdge,
+            Cancel,
+            Filter,
+            OtherCommand,
+            Packet,
+            NewDevice,
+            Ticks,
+            Save,
+            BadLine,
+            BadPayload,
+            OtherOpcode,
+            Seen,
+            Gap,
+            ShortOutput,
+            WriteLine,
+            Failover,
+            Restore,
+            RestoreDamaged,
+            Unsound,
+            Replay,
+            StartAgain,
+        ];
+        let weights: [usize; 22] = match self.theme {
+            Theme::Mixed => [9, 2, 2, 5, 2, 40, 3, 14, 3, 1, 1, 1, 1, 1, 1, 1, 2, 0, 0, 0, 1, 0],
+            Theme::Commands => [30, 40, 14, 14, 14, 8, 1, 3, 2, 1, 1, 1, 1, 1, 1, 0, 1, 0, 0, 0, 0, 0],
+            Theme::Conditions => [12, 4, 3, 2, 0, 70, 3, 3, 1, 0, 0, 0, 0, 0, 0, 0, 0, 0, 0, 0, 0, 0],
+            Theme::Limits => [4, 2, 3, 4, 0, 30, 20, 10, 2, 0, 0, 0, 1, 1, 0, 0, 1, 0, 0, 0, 0, 0],
+            Theme::Windows => [4, 0, 1, 4, 0, 50, 2, 34, 2, 0, 0, 0, 0, 0, 0, 0, 2, 0, 0, 0, 1, 0],
+            Theme::LongTicks => [1, 0, 0, 1, 0, 6, 1, 60, 1, 0, 0, 0, 0, 0, 0, 0, 1, 0, 0, 0, 0, 0],
+            Theme::Lines => [6, 2, 1, 3, 2, 12, 1, 8, 6, 20, 24, 6, 10, 8, 8, 6, 1, 0, 0, 0, 2, 2],
+            Theme::Images => [6, 1, 2, 4, 1, 24, 2, 20, 4, 0, 1, 0, 2, 1, 1, 0, 4, 10, 12, 6, 2, 1],
+            Theme::Failover => [8, 1, 2, 4, 1, 34, 2, 14, 3, 1, 1, 0, 2, 1, 0, 0, 8, 1, 1, 0, 20, 0],
+        };
+        let offered = if any_call { weights.len() } else { 15 };
+        let total: usize = weights[..offered].iter().sum();
+        let mut drawn = self.random.below(total);
+        for (action, weight) in actions.into_iter().zip(weights) {
+            if drawn < weight {
+                return action;
+            }
+            drawn -= weight;
+        }
+        Packet
+    }
+
+    fn act(&mut self, action: Action) {
+        match action {
+            Action::Add => self.add(),
+            Action::AddEdge => self.add_edge(),
+            Action::Cancel => self.cancel(),
+            Action::Filter => self.filter(),
+            Action::OtherCommand => self.other_command(),
+            Action::Packet => self.packet(),
+            Action::NewDevice => self.new_device(),
+            Action::Ticks => self.ticks(),
+            Action::Save => self.save(),
+            Action::BadLine => self.bad_line(),
+            Action::BadPayload => self.bad_payload(),
+            Action::OtherOpcode => self.other_opcode(),
+            Action::Seen => self.seen(),
+            Action::Gap => self.gap(),
+            Action::ShortOutput => self.short_output(),
+            Action::WriteLine => self.write_line(),
+            Action::Failover => self.make_call(Call::Failover),
+            Action::Restore => self.restore_sound(),
+            Action::RestoreDamaged => self.restore_damaged(),
+            Action::Unsound => self.unsound(),
+            Action::Replay => self.replay(),
+            Action::StartAgain => self.start_again(),
+        }
+    }
+}

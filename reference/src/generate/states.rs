@@ -1,0 +1,218 @@
+//! Random sound states, and states that break one clause of "Sound".
+
+use super::conditions;
+use crate::condition::{form, Form};
+use crate::limits::{Seconds, CONDITION, DATA, MONITORS, PAIRS, PREFIX};
+use crate::random::Random;
+use crate::state::{Device, Monitor, Pair, State};
+
+pub fn device(random: &mut Random) -> Device {
+    Device { kind: random.below(2) as u8, address: random.octets(6).try_into().unwrap() }
+}
+
+/// A few devices, two of them alike but for the address type.
+pub fn devices(random: &mut Random) -> Vec<Device> {
+    let mut list: Vec<Device> = (0..random.pick(&[1, 2, 3, 5])).map(|_| device(random)).collect();
+    list.push(Device { kind: 1 - list[0].kind, ..list[0] });
+    list
+}
+
+fn monitor(random: &mut Random, handle: u8, known: &[Device]) -> Monitor {
+    let low = random.between(-127, 19) as i8;
+    let high = random.between(low as i64 + 1, 20) as i8;
+    let (kind, condition) = match random.below(8) {
+        0 => (1, conditions::longest(random)),
+        1..=3 => conditions::flags(),
+        _ => conditions::well_formed(random, known),
+    };
+    let mut octets = [0; CONDITION];
+    octets[..condition.len()].copy_from_slice(&condition);
+    Monitor {
+        handle,
+        high,
+        low,
+        interval: random.pick(&[1, 1, 2, 3, 59, 60]),
+        sampling: random.pick(&[0, 1, 2, 3, 10, 0xFE, 0xFF]),
+        kind,
+        length: condition.len() as u8,
+        octets,
+    }
+}
+
+fn pair(random: &mut Random, state: &State, known: &[Device]) -> Pair {
+    let monitor = random.pick(state.monitors());
+    let device = match random.percent(60) {
+        true => random.pick(known),
+        false => device(random),
+    };
+    let mut pair = Pair { handle: monitor.handle, device, ..Pair::NONE };
+    let limit = Seconds(monitor.interval).ticks().0;
+    pair.quiet = random.pick(&[0, limit - 1, limit - 2, limit / 2]);
+    let Some(period) = monitor.period() else { return pair };
+    pair.window_ticks = random.pick(&[0, period - 1, period / 2]);
+    if random.percent(30) {
+        return pair;
+    }
+    let most = state.position;
+    pair.packets = random.pick(&[0, 1, 2, 3, 7, 1000, most, most.saturating_sub(1)]).min(most);
+    if pair.packets == 0 {
+        return pair;
+    }
+    let packets = pair.packets as i64;
+    pair.sum = match random.below(4) {
+        0 => -127 * packets,
+        1 => 20 * packets,
+        2 => -packets + random.between(-1, 1).clamp(-126 * packets, 0),
+        _ => random.between(-127 * packets, 20 * packets),
+    };
+    pair.event_type = random.below(4) as u8;
+    let data = conditions::data(random, state.monitors());
+    pair.n = data.len() as u8;
+    pair.data[..data.len()].copy_from_slice(&data);
+    pair
+}
+
+/// A sound state, most often one that no session reaches.
+pub fn sound(random: &mut Random, known: &[Device]) -> State {
+    let length = random.pick(&[0, 1, 2, 31, 32]);
+    let prefix = random.octets(length);
+    let mut state = State::fresh(random.pick(&[0xFC00, 0xFC1E, 0xFFFF]), &prefix);
+    state.position = match random.below(5) {
+        0 => random.word(),
+        1 => u32::MAX - random.pick(&[0, 1, 2, 5, 30]),
+        2 => random.below(4) as u32,
+        _ => random.below(3000) as u32,
+    };
+    state.filter = random.below(2) as u8;
+    let share = random.pick(&[10, 30, 60, 100]);
+    for handle in 0..MONITORS as u8 {
+        if random.percent(share) {
+            let held = monitor(random, handle, known);
+            state.monitors[state.monitor_count as usize] = held;
+            state.monitor_count += 1;
+        }
+    }
+    if state.monitor_count == 0 {
+        return state;
+    }
+    for _ in 0..random.pick(&[0, 1, 3, 10, 64, 80]) {
+        let new = pair(random, &state, known);
+        let known_pair = state.pairs().iter().any(|p| (p.handle, p.device) == (new.handle, new.device));
+        if !known_pair && (state.pair_count as usize) < PAIRS {
+            state.pairs[state.pair_count as usize] = new;
+            state.pair_count += 1;
+        }
+    }
+    state
+}
+
+/// The state with the largest image, one tick before the longest answer.
+pub fn largest(random: &mut Random) -> State {
+    let prefix = random.octets(PREFIX);
+    let mut state = State::fresh(0xFC1E, &prefix);
+    state.filter = 1;
+    state.position = 1000;
+    for handle in 0..MONITORS {
+        let octets = conditions::longest(random).try_into().unwrap();
+        state.monitors[handle] = Monitor {
+            handle: handle as u8,
+            high: -60,
+            low: -80,
+            interval: 60,
+            sampling: 5,
+            kind: 1,
+            length: CONDITION as u8,
+            octets,
+        };
+    }
+    state.monitor_count = MONITORS as u8;
+    for place in 0..PAIRS {
+        state.pairs[place] = Pair {
+            handle: (place % MONITORS) as u8,
+            device: Device { kind: 0, address: [place as u8, 1, 2, 3, 4, 5] },
+            quiet: 0,
+            window_ticks: 4,
+            packets: 2,
+            sum: -121,
+            event_type: 3,
+            n: DATA as u8,
+            data: std::array::from_fn(|_| random.octet()),
+        };
+    }
+    state.pair_count = PAIRS as u8;
+    state
+}
+
+/// How many ways of breaking a state `broken` knows.
+pub const WAYS: usize = 42;
+
+/// A sound state with one clause of "Sound" broken in way `way`, if the state has the place for it.
+pub fn broken(random: &mut Random, sound: &State, way: usize) -> Option<State> {
+    let mut s = sound.clone();
+    let (monitors, pairs) = (s.monitor_count as usize, s.pair_count as usize);
+    if (8..=21).contains(&way) && monitors == 0 || way >= 25 && pairs == 0 {
+        return None;
+    }
+    let m = random.below(monitors.max(1));
+    let p = random.below(pairs.max(1));
+    let watcher = s.monitor(s.pairs[p].handle).copied().unwrap_or(Monitor::NONE);
+    let sampled = watcher.period();
+    match way {
+        0 => s.opcode = random.pick(&[0xFBFF, 0]),
+        1 => s.filter = random.pick(&[2, 255]),
+        2 => s.prefix_length = 33,
+        3 if s.prefix_length < 32 => s.prefix[31] = 1,
+        4 => s.monitor_count = random.pick(&[17, 255]),
+        5 => s.pair_count = random.pick(&[65, 255]),
+        6 if monitors < 16 => s.monitors[15].high = 1,
+        7 if pairs < 64 => s.pairs[63].data[30] = 1,
+        8 if monitors > 1 => s.monitors.swap(0, 1),
+        9 if monitors > 1 && pairs == 0 => s.monitors[1] = s.monitors[0],
+        10 => s.monitors[monitors - 1].handle = random.pick(&[16, 255]),
+        11 => s.monitors[m].high = s.monitors[m].low,
+        12 => s.monitors[m].high = random.pick(&[21, 127]),
+        13 => s.monitors[m].low = -128,
+        14 if pairs == 0 => s.monitors[m].interval = 0,
+        15 => s.monitors[m].interval = random.pick(&[61, 255]),
+        16 => s.monitors[m].kind = random.pick(&[0, 3, 5]),
+        17 => s.monitors[m].octets[0] = s.monitors[m].octets[0].wrapping_add(5),
+        18 => s.monitors[m].length = random.pick(&[65, 255]),
+        19 if s.monitors[m].length < 64 => s.monitors[m].octets[63] = 1,
+        20 => s.monitors[m].length -= 1,
+        21 => s.monitors[m].high = s.monitors[m].low.saturating_sub(1),
+        22 => s.pairs[63].handle ^= 0x10,
+        23 if monitors > 0 => s.monitor_count -= 1,
+        24 => s.prefix_length = 255,
+        25 if pairs < 64 => {
+            s.pairs[pairs] = s.pairs[p];
+            s.pair_count += 1;
+        }
+        26 => s.pairs[p].handle = random.pick(&[16, 31, 255]),
+        27 => s.pairs[p].device.kind = random.pick(&[2, 255]),
+        28 => s.pairs[p].event_type = random.pick(&[4, 255]),
+        29 => s.pairs[p].n = random.pick(&[32, 255]),
+        30 => s.pairs[p].quiet = Seconds(watcher.interval).ticks().0,
+        31 => s.pairs[p].quiet = u16::MAX,
+        32 => s.pairs[p].window_ticks = sampled.unwrap_or(1),
+        33 if s.position < u32::MAX => {
+            s.pairs[p].packets = s.position + 1;
+            s.pairs[p].sum = 0;
+        }
+        34 => s.pairs[p].sum = 20 * s.pairs[p].packets as i64 + 1,
+        35 => s.pairs[p].sum = -127 * s.pairs[p].packets as i64 - 1,
+        36 if sampled.is_none() => s.pairs[p].packets = 1.min(s.position),
+        37 if s.pairs[p].packets == 0 => s.pairs[p].event_type = 1,
+        38 if s.pairs[p].packets == 0 => s.pairs[p].n = 1,
+        39 if s.pairs[p].n < 31 => s.pairs[p].data[30] = 1,
+        40 => s.pairs[p].sum = random.pick(&[i64::MIN, i64::MAX]),
+        41 => {
+            let handles: Vec<u8> = s.monitors().iter().map(|m| m.handle).collect();
+            s.pairs[p].handle = (0..16).find(|h| !handles.contains(h))?;
+        }
+        _ => return None,
+    }
+    // Another octet may make another well-formed condition.
+    let changed = &s.monitors[m];
+    let harmless = way == 17 && form(changed.kind, changed.condition()) == Form::WellFormed;
+    (s != *sound && !harmless).then_some(s)
+}

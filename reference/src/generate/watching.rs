@@ -1,0 +1,105 @@
+//! Packets and ticks, aimed at thresholds, ends of watches and windows, and the 16 and 64 limits.
+
+use super::frames::{frame, monitor, packet, PACKET};
+use super::{conditions, states, Generator, Theme};
+use crate::limits::Seconds;
+use crate::state::Device;
+
+impl Generator {
+    /// A device: one under watch, one of a condition, or any.
+    fn device(&mut self) -> Device {
+        if !self.state.pairs().is_empty() && self.random.percent(30) {
+            return self.state.pairs()[self.random.below(self.state.pairs().len())].device;
+        }
+        self.random.pick(&self.devices)
+    }
+
+    /// An RSSI: at the edges of a live monitor's thresholds, at those of the range, or any.
+    fn rssi(&mut self) -> i8 {
+        let monitors = self.state.monitors();
+        if !monitors.is_empty() && self.random.percent(80) {
+            let m = &monitors[self.random.below(monitors.len())];
+            let near = [
+                m.high,
+                m.high,
+                m.high.saturating_sub(1),
+                m.high.saturating_add(1),
+                m.low,
+                m.low.saturating_add(1),
+            ];
+            return self.random.pick(&near).clamp(-127, 20);
+        }
+        match self.random.below(4) {
+            0 => self.random.pick(&[-127, 20, -1, 0, 1]),
+            _ => self.random.between(-127, 20) as i8,
+        }
+    }
+
+    pub(super) fn packet_payload(&mut self) -> Vec<u8> {
+        let device = self.device();
+        let data = conditions::data(&mut self.random, self.state.monitors());
+        packet(self.random.below(4) as u8, &device, &data, self.rssi())
+    }
+
+    pub(super) fn give_packet(&mut self, device: &Device, data: &[u8], rssi: i8) {
+        let event_type = self.random.below(4) as u8;
+        let octets = frame(PACKET, self.next_number(), &packet(event_type, device, data, rssi));
+        self.give(octets);
+    }
+
+    pub(super) fn packet(&mut self) {
+        let payload = self.packet_payload();
+        let octets = frame(PACKET, self.next_number(), &payload);
+        self.give(octets);
+    }
+
+    /// A strong packet of a device not seen before.
+    pub(super) fn new_device(&mut self) {
+        let device = states::device(&mut self.random);
+        self.give_packet(&device, &[2, 1, 6], 20);
+    }
+
+    /// A run of ticks, aimed at the end of a watch or of a window.
+    pub(super) fn ticks(&mut self) {
+        let most = if self.theme == Theme::LongTicks { 620 } else { 40 };
+        let mut run = self.random.pick(&[1, 1, 2, 3, 9, 10, 11]);
+        if !self.state.pairs().is_empty() && self.random.percent(60) {
+            let pair = self.state.pairs()[self.random.below(self.state.pairs().len())];
+            if let Some(monitor) = self.state.monitor(pair.handle) {
+                let left = (Seconds(monitor.interval).ticks().0 - pair.quiet.min(600)) as usize;
+                run = match monitor.period() {
+                    Some(period) if self.random.percent(50) => {
+                        (period - pair.window_ticks.min(period)) as usize
+                    }
+                    _ => left,
+                };
+                run = (run + self.random.below(3)).saturating_sub(1);
+            }
+        }
+        if run > most {
+            run = self.random.below(most);
+        }
+        (0..run).for_each(|_| self.tick());
+    }
+
+    /// Fill the 16 monitors, and the 64 pairs or nearly.
+    pub(super) fn fill(&mut self) {
+        let (kind, condition) = conditions::flags();
+        for _ in 0..self.random.pick(&[13, 15, 16, 16, 17]) {
+            let sampling = self.random.pick(&[0, 1, 2, 10, 0xFF]);
+            let interval = self.random.pick(&[1, 1, 2, 60]);
+            let longest = conditions::longest(&mut self.random);
+            let parameters = match self.random.percent(10) {
+                true => monitor(-60, -80, interval, sampling, 1, &longest),
+                false => monitor(-60, -80, interval, sampling, kind, &condition),
+            };
+            self.command(&parameters);
+        }
+        if self.random.percent(50) {
+            self.command(&[0x05, 1]);
+        }
+        for _ in 0..self.random.pick(&[3, 4, 5, 5]) {
+            self.new_device();
+        }
+    }
+}

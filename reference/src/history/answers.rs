@@ -1,0 +1,108 @@
+//! The answer to the last frame and the image, by the history rule.
+
+use super::facts::filter_after;
+use super::rule::{Past, Window};
+use super::History;
+use crate::event;
+use crate::frame::{Packet, Payload};
+use crate::limits::DATA;
+use crate::state::{Device, Pair, State};
+
+impl History {
+    fn past(&self) -> Past<'_> {
+        Past { base: &self.base, frames: &self.frames, facts: &self.facts }
+    }
+
+    /// All octets that the last executed frame writes.
+    pub(super) fn answer_to_last(&self) -> Vec<u8> {
+        match self.frames.last().expect("a frame was executed") {
+            Payload::Command { opcode, .. } => event::command_complete(*opcode, &self.facts.returns),
+            Payload::Packet(packet) => self.answer_to_packet(packet),
+            Payload::Tick => self.answer_to_tick(),
+        }
+    }
+
+    /// "Packet, handles ascending: a start event for each start. Then one report .."
+    fn answer_to_packet(&self, packet: &Packet) -> Vec<u8> {
+        let past = self.past();
+        let now = self.frames.len();
+        let starts: Vec<_> = self.facts.starts.iter().filter(|s| s.at == now).collect();
+        let mut answer = Vec::new();
+        for start in &starts {
+            answer.extend(event::device(self.base.prefix(), &start.device, past.monitor(start).handle, true));
+        }
+        let filter_off = filter_after(&self.base, &self.frames) == 0;
+        let sampled_at_once = self.facts.starts.iter().any(|start| {
+            let monitor = past.monitor(start);
+            let matching = self.facts.matching[now] >> monitor.handle & 1 == 1;
+            start.device == packet.device
+                && matching
+                && monitor.sampling == 0
+                && past.watched_since(start, now)
+        });
+        if filter_off || sampled_at_once || !starts.is_empty() {
+            answer.extend(event::report(packet.event_type, &packet.device, &packet.data, packet.rssi));
+        }
+        answer
+    }
+
+    /// "Tick, pairs in the order they started: if the watch ends, a stop event and no report. Otherwise .."
+    fn answer_to_tick(&self) -> Vec<u8> {
+        let past = self.past();
+        let now = self.frames.len();
+        let filter_on = filter_after(&self.base, &self.frames) == 1;
+        let mut answer = Vec::new();
+        for start in past.under_watch(now - 1).into_iter().map(|s| &self.facts.starts[s]) {
+            if !past.watched_since(start, now) {
+                answer.extend(event::device(
+                    self.base.prefix(),
+                    &start.device,
+                    past.monitor(start).handle,
+                    false,
+                ));
+            } else if let Some(window) = past.closed_window(start, now) {
+                if filter_on && window.count > 0 {
+                    answer.extend(report(&start.device, &window));
+                }
+            }
+        }
+        answer
+    }
+
+    /// The state whose image this is, every field from the past frames.
+    pub(super) fn image_state(&self) -> State {
+        let past = self.past();
+        let now = self.frames.len();
+        let mut state = State::fresh(self.base.opcode, self.base.prefix());
+        state.position = self.position();
+        state.filter = filter_after(&self.base, &self.frames);
+        for (place, life) in self.facts.live().into_iter().enumerate() {
+            state.monitors[place] = self.facts.lives[life].monitor;
+            state.monitor_count += 1;
+        }
+        for (place, start) in past.under_watch(now).into_iter().map(|s| &self.facts.starts[s]).enumerate() {
+            let monitor = past.monitor(start);
+            let mut pair = Pair { handle: monitor.handle, device: start.device, ..Pair::NONE };
+            pair.quiet = past.quiet(start, now) as u16;
+            if let Some(period) = monitor.period() {
+                let window = past.open_window(start, now);
+                pair.window_ticks = (past.age(start, now) % period as usize) as u8;
+                pair.packets = window.count as u32;
+                pair.sum = window.sum;
+                pair.event_type = window.event_type;
+                pair.n = window.data.len() as u8;
+                pair.data = std::array::from_fn::<u8, DATA, _>(|i| window.data.get(i).copied().unwrap_or(0));
+            }
+            state.pairs[place] = pair;
+            state.pair_count += 1;
+        }
+        state
+    }
+}
+
+/// "One report: the latest of them, with RSSI the greatest whole number not above sum / count."
+fn report(device: &Device, window: &Window) -> Vec<u8> {
+    let not_above = |mean: &i64| mean * window.count as i64 <= window.sum;
+    let mean = (-127..=20).rev().find(not_above).expect("every RSSI is at least -127");
+    event::report(window.event_type, device, &window.data, mean as i8)
+}

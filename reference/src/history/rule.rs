@@ -1,0 +1,130 @@
+//! Document 01, "Watching, by history": watching and windows, read off the past frames. Frames are
+//! numbered from 1; `upto` is the last frame looked at.
+
+use super::facts::{Facts, Start};
+use crate::frame::{Packet, Payload};
+use crate::state::{Monitor, State};
+
+/// The past frames, with what they say.
+pub struct Past<'a> {
+    pub base: &'a State,
+    pub frames: &'a [Payload],
+    pub facts: &'a Facts,
+}
+
+/// What a window holds: how many matching packets, their RSSI's sum, and the latest.
+pub struct Window {
+    pub count: u64,
+    pub sum: i64,
+    pub event_type: u8,
+    pub data: Vec<u8>,
+}
+
+impl Past<'_> {
+    pub fn monitor(&self, start: &Start) -> &Monitor {
+        &self.facts.lives[start.life].monitor
+    }
+
+    /// How many ticks stand after frame `after`, up to and with frame `upto`.
+    fn ticks(&self, after: usize, upto: usize) -> usize {
+        self.facts.ticks[upto] - self.facts.ticks[after]
+    }
+
+    /// The packets after a start that count for it: of its device, matching its monitor's condition.
+    fn counting<'s>(&'s self, start: &'s Start, upto: usize) -> impl Iterator<Item = (usize, &'s Packet)> {
+        let handle = self.monitor(start).handle;
+        (start.at + 1..=upto).filter_map(move |i| match &self.frames[i - 1] {
+            Payload::Packet(packet) => (self.facts.matching[i] >> handle & 1 == 1
+                && packet.device == start.device)
+                .then_some((i, packet)),
+            _ => None,
+        })
+    }
+
+    /// "A packet is good if its RSSI is above low."
+    fn good<'s>(&'s self, start: &'s Start, upto: usize) -> impl Iterator<Item = usize> + 's {
+        let low = self.monitor(start).low;
+        self.counting(start, upto).filter(move |(_, packet)| packet.rssi > low).map(|(i, _)| i)
+    }
+
+    /// The runs of ticks without a good packet since a start: their lengths, the last one still open. What
+    /// a pair of the base holds stands for the ticks before the first frame.
+    fn runs(&self, start: &Start, upto: usize) -> Vec<usize> {
+        let mut ends: Vec<usize> = self.good(start, upto).collect();
+        ends.push(upto);
+        let mut begin = start.at;
+        let mut lengths = Vec::with_capacity(ends.len());
+        for end in ends {
+            lengths.push(self.ticks(begin, end));
+            begin = end;
+        }
+        if let Some(place) = start.held {
+            lengths[0] += self.base.pairs[place].quiet as usize;
+        }
+        lengths
+    }
+
+    /// "The pair is under watch if there is a start since which no run of 10 x interval ticks has passed
+    /// without a good packet." A cancelled monitor's pairs are forgotten.
+    pub fn watched_since(&self, start: &Start, upto: usize) -> bool {
+        let live = self.facts.lives[start.life].until.is_none_or(|cancelled| cancelled > upto);
+        let limit = 10 * self.monitor(start).interval as usize;
+        live && self.runs(start, upto).iter().all(|run| *run < limit)
+    }
+
+    /// The starts whose pairs are under watch after frame `upto`, in the order they started.
+    pub fn under_watch(&self, upto: usize) -> Vec<usize> {
+        let starts = self.facts.starts.iter().enumerate();
+        starts.filter(|(_, s)| s.at <= upto && self.watched_since(s, upto)).map(|(place, _)| place).collect()
+    }
+
+    /// Ticks since a good packet: the run still open.
+    pub fn quiet(&self, start: &Start, upto: usize) -> usize {
+        *self.runs(start, upto).last().unwrap()
+    }
+
+    /// Ticks since the start; for a pair of the base, since its open window began.
+    pub fn age(&self, start: &Start, upto: usize) -> usize {
+        let before = start.held.map_or(0, |place| self.base.pairs[place].window_ticks as usize);
+        before + self.ticks(start.at, upto)
+    }
+
+    /// The window with this number (0 is the first): the packets that count, in ticks number x P and up to
+    /// the next P. The start packet is in no window.
+    pub fn window(&self, start: &Start, number: usize, upto: usize) -> Window {
+        let period = self.monitor(start).sampling as usize;
+        let mut window = Window { count: 0, sum: 0, event_type: 0, data: Vec::new() };
+        if let (Some(place), 0) = (start.held, number) {
+            let held = &self.base.pairs[place];
+            window.count = held.packets as u64;
+            window.sum = held.sum;
+            window.event_type = held.event_type;
+            window.data = held.latest().to_vec();
+        }
+        for (i, packet) in self.counting(start, upto) {
+            if self.age(start, i) / period == number {
+                window.count += 1;
+                window.sum += packet.rssi as i64;
+                window.event_type = packet.event_type;
+                window.data = packet.data.clone();
+            }
+        }
+        window
+    }
+
+    /// The window that is open after frame `upto`.
+    pub fn open_window(&self, start: &Start, upto: usize) -> Window {
+        let period = self.monitor(start).sampling as usize;
+        self.window(start, self.age(start, upto) / period, upto)
+    }
+
+    /// The window that frame `upto`, a tick, closes: "each P-th tick since the start closes a window".
+    pub fn closed_window(&self, start: &Start, upto: usize) -> Option<Window> {
+        let period = self.monitor(start).period()? as usize;
+        let age = self.age(start, upto);
+        match age % period {
+            0 => Some(self.window(start, age / period - 1, upto)),
+            _ => None,
+        }
+    }
+}

@@ -1,0 +1,148 @@
+//! Document 01, "The image": the text of a state, and reading records from a text line by line.
+
+use crate::fault::Fault;
+use crate::limits::{CONDITION, DATA, MONITORS, PAIRS, PREFIX};
+use crate::lines;
+use crate::state::{Device, Monitor, Pair, State};
+
+/// The text of a state: A0, the A1s, the A2s, AF.
+pub fn text(state: &State) -> Vec<u8> {
+    let mut text = lines::write(&a0(state));
+    for monitor in state.monitors() {
+        text.extend(lines::write(&a1(monitor)));
+    }
+    for pair in state.pairs() {
+        text.extend(lines::write(&a2(pair)));
+    }
+    text.extend(lines::write(&[0xAF, state.monitor_count, state.pair_count]));
+    text
+}
+
+/// A0: position (4), filter, opcode (2), prefix length, prefix.
+fn a0(state: &State) -> Vec<u8> {
+    let mut octets = vec![0xA0];
+    octets.extend(state.position.to_le_bytes());
+    octets.push(state.filter);
+    octets.extend(state.opcode.to_le_bytes());
+    octets.push(state.prefix_length);
+    octets.extend(state.prefix());
+    octets
+}
+
+/// A1: handle, high, low, interval, sampling, type, condition length, condition.
+fn a1(m: &Monitor) -> Vec<u8> {
+    let mut octets =
+        vec![0xA1, m.handle, m.high as u8, m.low as u8, m.interval, m.sampling, m.kind, m.length];
+    octets.extend(m.condition());
+    octets
+}
+
+/// A2: handle, address type, address, ticks since a good packet (2), ticks in the window (1), packets (4),
+/// sum (8), event type, n, data of the latest packet in the window.
+fn a2(p: &Pair) -> Vec<u8> {
+    let mut octets = vec![0xA2, p.handle, p.device.kind];
+    octets.extend(p.device.address);
+    octets.extend(p.quiet.to_le_bytes());
+    octets.push(p.window_ticks);
+    octets.extend(p.packets.to_le_bytes());
+    octets.extend(p.sum.to_le_bytes());
+    octets.extend([p.event_type, p.n]);
+    octets.extend(p.latest());
+    octets
+}
+
+/// The fields of one line, taken from the front.
+struct Fields(Vec<u8>);
+
+impl Fields {
+    /// The fields of a line whose first octet is `kind`.
+    fn of(line: &[u8], kind: u8) -> Option<Fields> {
+        let octets = lines::read(line, Fault::None)?;
+        (octets.first() == Some(&kind)).then(|| Fields(octets[1..].to_vec()))
+    }
+
+    fn take<const N: usize>(&mut self) -> Option<[u8; N]> {
+        let octets = self.0.get(..N)?.try_into().unwrap();
+        self.0.drain(..N);
+        Some(octets)
+    }
+
+    fn octet(&mut self) -> Option<u8> {
+        self.take::<1>().map(|[o]| o)
+    }
+
+    /// The rest: exactly `length` octets, in a place of N.
+    fn rest<const N: usize>(&mut self, length: u8) -> Option<[u8; N]> {
+        if self.0.len() != length as usize || self.0.len() > N {
+            return None;
+        }
+        let mut place = [0; N];
+        place[..self.0.len()].copy_from_slice(&self.0);
+        Some(place)
+    }
+}
+
+/// The records of a text, if it is lines A0, A1s, A2s, AF with right lengths and counts and nothing after
+/// (READINGS 24). Whether they are those of a sound state is another question.
+pub fn read(text: &[u8], fault: Fault) -> Option<State> {
+    let mut rest = text.split_inclusive(|c| *c == lines::LF).peekable();
+    let mut state = read_a0(rest.next()?)?;
+    let mut monitors = Vec::new();
+    while let Some(monitor) = rest.peek().and_then(|line| read_a1(line)) {
+        monitors.push(monitor);
+        rest.next();
+    }
+    let mut pairs = Vec::new();
+    while let Some(pair) = rest.peek().and_then(|line| read_a2(line)) {
+        pairs.push(pair);
+        rest.next();
+    }
+    let mut end = Fields::of(rest.next()?, 0xAF)?;
+    let counts = end.take::<2>()?;
+    end.rest::<0>(0)?;
+    if monitors.len() > MONITORS || pairs.len() > PAIRS {
+        return None;
+    }
+    state.monitor_count = monitors.len() as u8;
+    state.monitors[..monitors.len()].copy_from_slice(&monitors);
+    state.pair_count = pairs.len() as u8;
+    state.pairs[..pairs.len()].copy_from_slice(&pairs);
+    if counts != [state.monitor_count, state.pair_count] && fault != Fault::CountsNotRead {
+        return None;
+    }
+    if rest.next().is_some() && fault != Fault::RestAfterEnd {
+        return None;
+    }
+    Some(state)
+}
+
+fn read_a0(line: &[u8]) -> Option<State> {
+    let mut fields = Fields::of(line, 0xA0)?;
+    let mut state = State::blank();
+    state.position = u32::from_le_bytes(fields.take()?);
+    state.filter = fields.octet()?;
+    state.opcode = u16::from_le_bytes(fields.take()?);
+    state.prefix_length = fields.octet()?;
+    state.prefix = fields.rest::<PREFIX>(state.prefix_length)?;
+    Some(state)
+}
+
+fn read_a1(line: &[u8]) -> Option<Monitor> {
+    let mut fields = Fields::of(line, 0xA1)?;
+    let [handle, high, low, interval, sampling, kind, length] = fields.take()?;
+    let octets = fields.rest::<CONDITION>(length)?;
+    Some(Monitor { handle, high: high as i8, low: low as i8, interval, sampling, kind, length, octets })
+}
+
+fn read_a2(line: &[u8]) -> Option<Pair> {
+    let mut fields = Fields::of(line, 0xA2)?;
+    let handle = fields.octet()?;
+    let device = Device { kind: fields.octet()?, address: fields.take()? };
+    let quiet = u16::from_le_bytes(fields.take()?);
+    let window_ticks = fields.octet()?;
+    let packets = u32::from_le_bytes(fields.take()?);
+    let sum = i64::from_le_bytes(fields.take()?);
+    let [event_type, n] = fields.take()?;
+    let data = fields.rest::<DATA>(n)?;
+    Some(Pair { handle, device, quiet, window_ticks, packets, sum, event_type, n, data })
+}

@@ -1,0 +1,23 @@
+//! Document 01 implemented a second time, by other means than proof: two engines, a generator of
+//! sessions, and what is compared with what. All expected answers of the project's tests come from here.
+
+pub mod cases;
+pub mod command;
+pub mod compare;
+pub mod condition;
+pub mod coverage;
+pub mod engine;
+pub mod event;
+pub mod fault;
+pub mod frame;
+pub mod generate;
+pub mod history;
+pub mod image;
+pub mod limits;
+pub mod lines;
+pub mod program;
+pub mod random;
+pub mod refusal;
+pub mod script;
+pub mod state;
+pub mod timers;

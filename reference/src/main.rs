@@ -1,0 +1,109 @@
+//! The command line of the reference.
+
+use reference::{cases, compare, fault::Fault, history::History, program, timers::Timers};
+use std::io::{self, Write};
+use std::path::Path;
+use std::process::ExitCode;
+use std::{env, fs};
+
+const USAGE: &str = "\
+reference replay IMAGE JOURNAL      what document 01 says the program writes (engine with stored timers)
+reference replay IMAGE JOURNAL N    the same with wrong build N switched on (docs/RELIABILITY.md)
+reference history IMAGE JOURNAL     the same by the history rule
+reference cases DIR SEED COUNT      writes COUNT cases: DIR/N.image, N.journal, N.expected
+reference vectors KIND SEED COUNT   COUNT vectors, KIND: lines frames conditions commands images means
+reference coverage SEED COUNT       how often COUNT scripts reach each rule, status and refusal
+reference agree SEED COUNT          compares the two engines on COUNT sessions and COUNT scripts
+reference faults SEED COUNT         how many of COUNT scripts notice each wrong build
+";
+
+fn main() -> ExitCode {
+    let arguments: Vec<String> = env::args().skip(1).collect();
+    let arguments: Vec<&str> = arguments.iter().map(String::as_str).collect();
+    match run(&arguments) {
+        Ok(text) => match io::stdout().write_all(&text) {
+            Ok(()) => ExitCode::SUCCESS,
+            Err(_) => ExitCode::from(3),
+        },
+        Err((status, message)) => {
+            eprint!("{message}");
+            ExitCode::from(status)
+        }
+    }
+}
+
+fn run(arguments: &[&str]) -> Result<Vec<u8>, (u8, String)> {
+    match arguments {
+        ["replay", image, journal] => {
+            Ok(program::output(&mut Timers::default(), &read(image)?, &read(journal)?))
+        }
+        ["replay", image, journal, fault] => {
+            let fault = Fault::of_number(number(fault)? as usize).ok_or_else(usage)?;
+            Ok(program::output(&mut Timers::with_fault(fault), &read(image)?, &read(journal)?))
+        }
+        ["history", image, journal] => {
+            Ok(program::output(&mut History::default(), &read(image)?, &read(journal)?))
+        }
+        ["cases", folder, seed, count] => write_cases(Path::new(folder), number(seed)?, number(count)?),
+        ["vectors", kind, seed, count] => {
+            let rows = cases::vectors(kind, number(seed)?, number(count)? as usize).ok_or_else(usage)?;
+            Ok((rows.join("\n") + "\n").into_bytes())
+        }
+        ["coverage", seed, count] => {
+            let rules = compare::reached(number(seed)?, number(count)?);
+            Ok(rules
+                .iter()
+                .map(|(_, words, n)| format!("{n:>10} {words}\n"))
+                .collect::<String>()
+                .into_bytes())
+        }
+        ["agree", seed, count] => {
+            let (seed, count) = (number(seed)?, number(count)?);
+            let mut text = String::new();
+            for (kind, differ) in [
+                ("session", compare::session_disagreements(seed, count)),
+                ("script", compare::disagreements(seed, count)),
+            ] {
+                text += &format!("{} of {count} {kind}s differ\n", differ.len());
+                for (index, place) in differ.iter().take(10) {
+                    text += &format!("{kind} {index} at call {place}\n");
+                }
+            }
+            Ok(text.into_bytes())
+        }
+        ["faults", seed, count] => {
+            let mut text = String::from("| No. | Fault | Sessions |\n|---|---|---|\n");
+            for (place, (_, words, n)) in compare::noticed(number(seed)?, number(count)?).iter().enumerate() {
+                text += &format!("| {} | {words} | {n} |\n", place + 1);
+            }
+            Ok(text.into_bytes())
+        }
+        _ => Err(usage()),
+    }
+}
+
+fn usage() -> (u8, String) {
+    (2, USAGE.to_string())
+}
+
+fn number(text: &str) -> Result<u64, (u8, String)> {
+    text.parse().map_err(|_| usage())
+}
+
+fn read(path: &str) -> Result<Vec<u8>, (u8, String)> {
+    fs::read(path).map_err(|error| (3, format!("{path}: {error}\n")))
+}
+
+fn write_cases(folder: &Path, seed: u64, count: u64) -> Result<Vec<u8>, (u8, String)> {
+    let failed = |error: io::Error| (3, format!("{}: {error}\n", folder.display()));
+    fs::create_dir_all(folder).map_err(failed)?;
+    for index in 1..=count {
+        let case = cases::case(seed, index);
+        for (ending, text) in
+            [("image", &case.image), ("journal", &case.journal), ("expected", &case.expected)]
+        {
+            fs::write(folder.join(format!("{index:06}.{ending}")), text).map_err(failed)?;
+        }
+    }
+    Ok(Vec::new())
+}

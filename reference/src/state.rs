@@ -1,0 +1,138 @@
+//! The state as document 01's records: what the lines A0, A1 and A2 hold ("The image"), in places of
+//! fixed size, so that every unused octet and place can be asked to be 0 ("Sound").
+
+use crate::limits::{CONDITION, DATA, MONITORS, PAIRS, PREFIX};
+
+/// A device is an address type and an address (READINGS 17).
+#[derive(Clone, Copy, PartialEq, Eq, PartialOrd, Ord, Debug, Default)]
+pub struct Device {
+    pub kind: u8,
+    pub address: [u8; 6],
+}
+
+/// An A1 record: a monitor as its 0x03 command gave it.
+#[derive(Clone, Copy, PartialEq, Eq, Debug)]
+pub struct Monitor {
+    pub handle: u8,
+    pub high: i8,
+    pub low: i8,
+    pub interval: u8,
+    pub sampling: u8,
+    pub kind: u8,
+    pub length: u8,
+    pub octets: [u8; CONDITION],
+}
+
+/// An A2 record: a pair under watch.
+#[derive(Clone, Copy, PartialEq, Eq, Debug)]
+pub struct Pair {
+    pub handle: u8,
+    pub device: Device,
+    pub quiet: u16,
+    pub window_ticks: u8,
+    pub packets: u32,
+    pub sum: i64,
+    pub event_type: u8,
+    pub n: u8,
+    pub data: [u8; DATA],
+}
+
+/// The whole state. `monitor_count` and `pair_count` say how many places are used.
+#[derive(Clone, PartialEq, Eq, Debug)]
+pub struct State {
+    pub position: u32,
+    pub filter: u8,
+    pub opcode: u16,
+    pub prefix_length: u8,
+    pub prefix: [u8; PREFIX],
+    pub monitor_count: u8,
+    pub monitors: [Monitor; MONITORS],
+    pub pair_count: u8,
+    pub pairs: [Pair; PAIRS],
+}
+
+impl Monitor {
+    /// An unused place.
+    pub const NONE: Monitor = Monitor {
+        handle: 0,
+        high: 0,
+        low: 0,
+        interval: 0,
+        sampling: 0,
+        kind: 0,
+        length: 0,
+        octets: [0; CONDITION],
+    };
+
+    /// The condition, without the unused octets.
+    pub fn condition(&self) -> &[u8] {
+        &self.octets[..(self.length as usize).min(CONDITION)]
+    }
+
+    /// The sampling period in ticks, for P from 0x01 to 0xFE.
+    pub fn period(&self) -> Option<u8> {
+        (0x01..=0xFE).contains(&self.sampling).then_some(self.sampling)
+    }
+}
+
+impl Pair {
+    /// An unused place.
+    pub const NONE: Pair = Pair {
+        handle: 0,
+        device: Device { kind: 0, address: [0; 6] },
+        quiet: 0,
+        window_ticks: 0,
+        packets: 0,
+        sum: 0,
+        event_type: 0,
+        n: 0,
+        data: [0; DATA],
+    };
+
+    /// The data of the latest packet in the window.
+    pub fn latest(&self) -> &[u8] {
+        &self.data[..(self.n as usize).min(DATA)]
+    }
+}
+
+impl State {
+    /// A fresh state: position 0, filter off, no monitors ("Sizes of the gateway").
+    pub fn fresh(opcode: u16, prefix: &[u8]) -> State {
+        let mut octets = [0; PREFIX];
+        octets[..prefix.len()].copy_from_slice(prefix);
+        State {
+            position: 0,
+            filter: 0,
+            opcode,
+            prefix_length: prefix.len() as u8,
+            prefix: octets,
+            monitor_count: 0,
+            monitors: [Monitor::NONE; MONITORS],
+            pair_count: 0,
+            pairs: [Pair::NONE; PAIRS],
+        }
+    }
+
+    /// The blank state: fresh, opcode 0xFC00, empty prefix ("Refusal numbers").
+    pub fn blank() -> State {
+        State::fresh(0xFC00, &[])
+    }
+
+    /// The used places; counts past the end are cut, so that an unsound state can be looked at.
+    pub fn monitors(&self) -> &[Monitor] {
+        &self.monitors[..(self.monitor_count as usize).min(MONITORS)]
+    }
+
+    pub fn pairs(&self) -> &[Pair] {
+        &self.pairs[..(self.pair_count as usize).min(PAIRS)]
+    }
+
+    pub fn prefix(&self) -> &[u8] {
+        &self.prefix[..(self.prefix_length as usize).min(PREFIX)]
+    }
+
+    /// The live monitor with this handle.
+    pub fn monitor(&self, handle: u8) -> Option<&Monitor> {
+        self.monitors().iter().find(|m| m.handle == handle)
+    }
+}

@@ -1,0 +1,88 @@
+//! Document 01, "The image", the paragraph "Sound", clause by clause over the places of the state.
+
+use crate::condition::{form, Form};
+use crate::fault::Fault;
+use crate::limits::{
+    rssi_in_range, Seconds, CONDITION, DATA, INTERVAL_LEAST, INTERVAL_MOST, MONITORS, OPCODE_LEAST, PAIRS,
+    PREFIX,
+};
+use crate::state::{Monitor, Pair, State};
+
+pub fn sound(state: &State, fault: Fault) -> bool {
+    settings_in_range(state)
+        && state.filter <= 1
+        && monitors_sound(state, fault)
+        && state.pair_count as usize <= PAIRS
+        && state.pairs().iter().all(|pair| pair_sound(state, pair, fault))
+        && pairs_distinct(state)
+        && state.pairs[state.pair_count as usize..].iter().all(|place| *place == Pair::NONE)
+}
+
+fn settings_in_range(state: &State) -> bool {
+    state.opcode >= OPCODE_LEAST
+        && state.prefix_length as usize <= PREFIX
+        && zeros(&state.prefix[state.prefix_length as usize..])
+}
+
+fn zeros(octets: &[u8]) -> bool {
+    octets.iter().all(|o| *o == 0)
+}
+
+/// Monitors in rising handle order, handles 0 to 15, every unused place 0.
+fn monitors_sound(state: &State, fault: Fault) -> bool {
+    let count = state.monitor_count as usize;
+    count <= MONITORS
+        && state.monitors().windows(2).all(|two| two[0].handle < two[1].handle)
+        && state.monitors().iter().all(|m| (m.handle as usize) < MONITORS && monitor_sound(m, fault))
+        && state.monitors[count..].iter().all(|place| *place == Monitor::NONE)
+}
+
+/// Every monitor as 0x03 would accept it.
+fn monitor_sound(m: &Monitor, fault: Fault) -> bool {
+    let thresholds = rssi_in_range(m.high) && rssi_in_range(m.low) && m.high > m.low;
+    let equal = fault == Fault::EqualThresholds && m.high == m.low;
+    let above = fault == Fault::Threshold21 && (m.high == 21 || m.low == 21);
+    let interval = (INTERVAL_LEAST..=INTERVAL_MOST).contains(&m.interval)
+        || (fault == Fault::Interval0 && m.interval == 0)
+        || (fault == Fault::Interval61 && m.interval == 61);
+    (thresholds || equal || above)
+        && interval
+        && m.length as usize <= CONDITION
+        && form(m.kind, m.condition()) == Form::WellFormed
+        && zeros(&m.octets[m.length as usize..])
+}
+
+fn pair_sound(state: &State, pair: &Pair, fault: Fault) -> bool {
+    let Some(monitor) = state.monitor(pair.handle) else { return false };
+    let packets = pair.packets as i64;
+    let window = match monitor.period() {
+        Some(period) => {
+            pair.window_ticks < period
+                && (pair.packets <= state.position || fault == Fault::PacketsNotChecked)
+                && pair.sum >= -127 * packets
+                && pair.sum <= 20 * packets
+        }
+        None if monitor.sampling == 0xFF && fault == Fault::Period255 => true,
+        None => pair.window_ticks == 0 && pair.packets == 0,
+    };
+    let limit = Seconds(monitor.interval).ticks().0;
+    pair.device.kind <= 1
+        && pair.event_type <= 3
+        && pair.n as usize <= DATA
+        && zeros(&pair.data[pair.n as usize..])
+        && (pair.quiet < limit
+            || (pair.quiet == limit && matches!(fault, Fault::QuietNotChecked | Fault::EndsLate)))
+        && window
+        && (pair.packets > 0 || (pair.sum == 0 && pair.event_type == 0 && pair.n == 0))
+}
+
+fn pairs_distinct(state: &State) -> bool {
+    let mut keys = [(0, 0, [0; 6]); PAIRS];
+    let pairs = state.pairs();
+    for (key, pair) in keys.iter_mut().zip(pairs) {
+        *key = (pair.handle, pair.device.kind, pair.device.address);
+    }
+    let keys = &mut keys[..pairs.len()];
+    keys.sort_unstable();
+    keys.windows(2).all(|two| two[0] != two[1])
+}

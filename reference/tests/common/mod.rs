@@ -1,0 +1,132 @@
+//! A host that gives frames to an engine and numbers them, for tests written by hand.
+#![allow(dead_code)]
+
+use reference::engine::Engine;
+use reference::generate::frames;
+use reference::history::History;
+use reference::limits::{ANSWER, IMAGE};
+use reference::lines;
+use reference::state::Device;
+use reference::timers::Timers;
+
+pub const OPCODE: u16 = 0xFC1E;
+pub const PREFIX: [u8; 2] = [0x4D, 0x53];
+
+/// The device of document 01's session.
+pub const DEVICE: Device = Device { kind: 0, address: [6, 5, 4, 3, 2, 1] };
+/// The condition of type 4 that names it.
+pub const ADDRESS: [u8; 7] = [0, 6, 5, 4, 3, 2, 1];
+
+/// Octets from hexadecimal; blanks are left out.
+pub fn octets(text: &str) -> Vec<u8> {
+    let digits: Vec<u32> =
+        text.chars().filter(|c| !c.is_whitespace()).map(|c| c.to_digit(16).unwrap()).collect();
+    digits.chunks(2).map(|two| (two[0] * 16 + two[1]) as u8).collect()
+}
+
+pub struct Host {
+    pub engine: Box<dyn Engine>,
+    pub next: u32,
+}
+
+/// Do the same with both engines, each started with document 01's settings.
+pub fn both(work: impl Fn(&mut Host)) {
+    for engine in [Box::new(Timers::default()) as Box<dyn Engine>, Box::new(History::default())] {
+        let mut host = Host { engine, next: 1 };
+        host.engine.start(OPCODE, &PREFIX).unwrap();
+        work(&mut host);
+    }
+}
+
+impl Host {
+    /// Give octets: the answer, or the refusal's number.
+    pub fn give(&mut self, octets: &[u8]) -> Result<Vec<u8>, u8> {
+        self.give_lending(octets, ANSWER)
+    }
+
+    pub fn give_lending(&mut self, octets: &[u8], lent: usize) -> Result<Vec<u8>, u8> {
+        let mut out = vec![0x77; lent];
+        let result = self.engine.submit(octets, &mut out);
+        let length = result.as_ref().map_or(0, |n| *n);
+        assert!(out[length..].iter().all(|o| *o == 0x77), "octets past the written length stay");
+        result.map(|n| out[..n].to_vec()).map_err(|r| r.number())
+    }
+
+    pub fn give_line(&mut self, text: &[u8]) -> Result<Vec<u8>, u8> {
+        let mut out = vec![0x77; ANSWER];
+        self.engine.submit_line(text, &mut out).map(|n| out[..n].to_vec()).map_err(|r| r.number())
+    }
+
+    fn execute(&mut self, kind: u8, payload: &[u8]) -> Vec<u8> {
+        let answer = self.give(&frames::frame(kind, self.next, payload)).expect("an executed frame");
+        self.next += 1;
+        answer
+    }
+
+    /// Give a command: its return parameters.
+    pub fn command(&mut self, parameters: &[u8]) -> Vec<u8> {
+        let answer = self.execute(1, &frames::command(OPCODE, parameters));
+        assert_eq!(answer[0], 0x0E);
+        assert_eq!(answer[1] as usize, answer.len() - 2);
+        assert_eq!(answer[2..5], [0x01, 0x1E, 0xFC]);
+        answer[5..].to_vec()
+    }
+
+    pub fn add(
+        &mut self,
+        high: i8,
+        low: i8,
+        interval: u8,
+        sampling: u8,
+        kind: u8,
+        condition: &[u8],
+    ) -> Vec<u8> {
+        self.command(&frames::monitor(high, low, interval, sampling, kind, condition))
+    }
+
+    /// A packet of event type 0.
+    pub fn packet(&mut self, device: &Device, data: &[u8], rssi: i8) -> Vec<u8> {
+        self.execute(2, &frames::packet(0, device, data, rssi))
+    }
+
+    pub fn tick(&mut self) -> Vec<u8> {
+        self.execute(3, &[])
+    }
+
+    /// This many ticks that write nothing.
+    pub fn quiet_ticks(&mut self, count: usize) {
+        for i in 0..count {
+            assert_eq!(self.tick(), [], "tick {}", i + 1);
+        }
+    }
+
+    pub fn image(&self) -> Vec<u8> {
+        let mut out = vec![0; IMAGE];
+        let length = self.engine.save(&mut out).expect("a sound state");
+        out.truncate(length);
+        out
+    }
+}
+
+/// A device event with document 01's prefix.
+pub fn event(device: &Device, handle: u8, watched: u8) -> Vec<u8> {
+    let mut event = octets("FF0C4D5302");
+    event.push(device.kind);
+    event.extend(device.address);
+    event.extend([handle, watched]);
+    event
+}
+
+/// A report of event type 0.
+pub fn report(device: &Device, data: &[u8], rssi: i8) -> Vec<u8> {
+    let mut report = vec![0x3E, 12 + data.len() as u8, 0x02, 0x01, 0x00, device.kind];
+    report.extend(device.address);
+    report.push(data.len() as u8);
+    report.extend(data);
+    report.push(rssi as u8);
+    report
+}
+
+pub fn line(octets: &[u8]) -> Vec<u8> {
+    lines::write(octets)
+}
