@@ -1,8 +1,8 @@
 #!/usr/bin/env python3
 """Makes the vectors of the program (stdin) and the answers that it must give (stdout).
 
-Written from document 01, section Conditions; it shares nothing with the crate's definitions and code. Each vector carries
-the answer worked out by hand; the functions below work it out again, and nothing is written where the two differ.
+Written from document 01, section Conditions; it shares nothing with the crate's definitions and code. Each vector
+carries the answer worked out by hand; the functions below work it out again, and nothing is written where the two differ.
 Run it in this directory.
 """
 
@@ -224,7 +224,8 @@ for v in vectors:
     f = form(kind, condition)
     answer = f + (match(kind, condition, address_type, address, adv) if f == "0" else "-")
     assert answer == expected, (v, answer)
-    lines.append("%02X %s %02X %s %s" % (kind, condition.hex().upper(), address_type, address.hex().upper(), adv.hex().upper()))
+    fields = bytes([kind]), condition, bytes([address_type]), address, adv
+    lines.append(" ".join(field.hex().upper() for field in fields))
     answers.append(answer)
 open("stdin", "w").write("\n".join(lines) + "\n")
 open("stdout", "w").write("\n".join(answers) + "\n")

@@ -33,9 +33,10 @@ address-form xs h =
     ap addressForm (drop-cons xs 0 0 h) ∙ rw d
 
 -- a condition of another length is not the packet's address
-pub address-length : (xs : List ℕ) (t : ℕ) (address : List ℕ) → (length xs ≡ length address + 1 → ⊥) → false ≡ addressMeets xs t address
+pub address-other : (xs : List ℕ) (t : ℕ) (address : List ℕ) → (length xs ≡ length address + 1 → ⊥)
+    → false ≡ addressMeets xs t address
 unfolding addressMeets
-address-length xs t address n = go (sames xs (t ∷ address)) refl
+address-other xs t address n = go (sames xs (t ∷ address)) refl
   where
     go : (b : Bool) → sames xs (t ∷ address) ≡ b → false ≡ b
     go false e = refl
@@ -50,8 +51,10 @@ module _ (xs : List ℕ) (t : ℕ) (address : List ℕ) (h : length xs ≡ lengt
       let d : length (drop 1 xs) ≤ length address = simp length-drop (omega arith) in
       let s : sames (drop 1 xs) address ≡ sames address (take (length address) (drop 1 xs)) =
       sames-sym (drop 1 xs) address ∙ ap (sames address) (sym (take-all (length address) (drop 1 xs) d)) in
-      let w : holdsAt 1 address xs ≡ sames address (take (length address) (drop 1 xs)) = holds-within xs address 1 (omega arith) in
-      ap (λ (l : List ℕ). sames l (t ∷ address)) (drop-cons xs 0 0 (omega arith)) ∙ ap (λ (b : Bool). eqb (getD xs 0 0) t && b) (s ∙ sym w)
+      let w : holdsAt 1 address xs ≡ sames address (take (length address) (drop 1 xs)) =
+      holds-within xs address 1 (omega arith) in
+      ap (λ (l : List ℕ). sames l (t ∷ address)) (drop-cons xs 0 0 (omega arith))
+      ∙ ap (λ (b : Bool). eqb (getD xs 0 0) t && b) (s ∙ sym w)
 
 pub address-bounds : (xs : List ℕ) → addressForm xs ≡ true → (length xs ≡ 7) × (getD xs 0 0 ≤ 1)
 unfolding addressForm

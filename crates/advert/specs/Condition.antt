@@ -1,5 +1,5 @@
--- Conditions of every type: their form and their match (document 01, Conditions; the types' statuses are in Commands).
--- Assumes nothing.
+-- Conditions of every type: their form and their match (document 01, Conditions; the types' statuses are in
+-- Commands). Assumes nothing.
 use Prim.Native.Nat.{ℕ}
 use mathlib.Core.List.{List}
 use mathlib.Core.Bool.{Bool, false, _&&_}

@@ -1,6 +1,6 @@
--- Worked examples, computed by the checker as rows of one list: source document 000's appendix (one condition of two patterns,
--- packets A, B, C, D: pass, pass, pass, fail) and document 01's edge P9 (a 16-bit UUID straddling two others: no match), with
--- the two UUIDs that it straddles. Assumes nothing.
+-- Worked examples, computed by the checker as rows of one list: source document 000's appendix (one condition of
+-- two patterns, packets A, B, C, D: pass, pass, pass, fail) and document 01's edge P9 (a 16-bit UUID straddling two
+-- others: no match), with the two UUIDs that it straddles. Assumes nothing.
 use Prim.Native.Nat.{ℕ}
 use mathlib.Core.Path.{_≡_, refl}
 use mathlib.Core.List.{List, [], _∷_}
@@ -22,8 +22,8 @@ pub record Row : Type 0 where
   pub adv : List ℕ
   pub matched : Bool
 
--- whether a row comes out as it says: its condition is well formed, and its packet matches or not; the address does not count
--- for these types
+-- whether a row comes out as it says: its condition is well formed, and its packet matches or not; the address does
+-- not count for these types
 unfoldable pub worked : Row → Bool
 worked r =
     let m = meets (r .kind) (r .condition) 0 [] (r .adv) in
@@ -35,7 +35,8 @@ two = 2 ∷ 3 ∷ 0x01 ∷ 0 ∷ 0x01 ∷ 6 ∷ 0xFF ∷ 0 ∷ 0x00 ∷ 0x06 ∷
 
 -- document 000's packets
 unfoldable pub packetA : List ℕ
-packetA = 2 ∷ 0x01 ∷ 0x01 ∷ 7 ∷ 0x09 ∷ 0x54 ∷ 0x61 ∷ 0x62 ∷ 0x6C ∷ 0x65 ∷ 0x74 ∷ 5 ∷ 0xFF ∷ 0x00 ∷ 0x06 ∷ 0xFF ∷ 0xFF ∷ []
+packetA = 2 ∷ 0x01 ∷ 0x01 ∷ 7 ∷ 0x09 ∷ 0x54 ∷ 0x61 ∷ 0x62 ∷ 0x6C ∷ 0x65 ∷ 0x74 ∷ 5 ∷ 0xFF ∷ 0x00 ∷ 0x06 ∷ 0xFF ∷
+    0xFF ∷ []
 
 unfoldable pub packetB : List ℕ
 packetB = 2 ∷ 0x01 ∷ 0x01 ∷ 7 ∷ 0x09 ∷ 0x54 ∷ 0x61 ∷ 0x62 ∷ 0x6C ∷ 0x65 ∷ 0x74 ∷ 4 ∷ 0xFF ∷ 0x00 ∷ 0x06 ∷ 0xFF ∷ []
@@ -64,5 +65,7 @@ examples =
 
 -- every row comes out as it says
 pub examples-work : every worked examples ≡ true
-unfolding examples worked two packetA packetB packetC packetD twoUuids wellFormed meets pick partsFrom parts sections isType contentsOf contents holdsAt patterns extent fills patternsForm patternMeets patternsMeet uuids listed uuidSize uuidForm uuidMeets addressForm addressMeets every some when rows sames
+unfolding examples worked two packetA packetB packetC packetD twoUuids wellFormed meets pick partsFrom parts
+    sections isType contentsOf contents holdsAt patterns extent fills patternsForm patternMeets patternsMeet uuids
+    listed uuidSize uuidForm uuidMeets addressForm addressMeets every some when rows sames
 examples-work = refl

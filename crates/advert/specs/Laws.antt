@@ -1,5 +1,5 @@
--- Laws of conditions for those who keep them and ask them: which types there are, how long well-formed conditions are, what
--- a match says (document 01, Conditions). Assumes nothing.
+-- Laws of conditions for those who keep them and ask them: which types there are, how long well-formed conditions
+-- are, what a match says (document 01, Conditions). Assumes nothing.
 use Prim.Native.Nat.{ℕ, zero, suc, _+_, _*_, _≤_}
 use mathlib.Core.Path.{_≡_, refl, sym, _∙_}
 use mathlib.Core.List.{List, [], _∷_}
@@ -25,7 +25,8 @@ abbrev pub Built : ℕ → Type 0
 Built kind = (kind ≡ 1) ⊎ ((kind ≡ 2) ⊎ (kind ≡ 4))
 
 -- one of four by the type, as a test: true says that the type is built
-kind-of : (kind : ℕ) (a b d : Bool) → pick (eqb kind 1) a (pick (eqb kind 2) b (pick (eqb kind 4) d false)) ≡ true → Built kind
+kind-of : (kind : ℕ) (a b d : Bool) → pick (eqb kind 1) a (pick (eqb kind 2) b (pick (eqb kind 4) d false)) ≡ true
+    → Built kind
 unfolding pick
 kind-of kind a b d e =
     cases-eq kind 1 (λ z. inl z)
@@ -38,9 +39,11 @@ pub well-kind : (kind : ℕ) (condition : List ℕ) → wellFormed kind conditio
 unfolding wellFormed
 well-kind kind condition e = kind-of kind (patternsForm condition) (uuidForm condition) (addressForm condition) e
 
-pub meets-kind : (kind : ℕ) (condition : List ℕ) (t : ℕ) (address adv : List ℕ) → meets kind condition t address adv ≡ true → Built kind
+pub meets-kind : (kind : ℕ) (condition : List ℕ) (t : ℕ) (address adv : List ℕ)
+    → meets kind condition t address adv ≡ true → Built kind
 unfolding meets
-meets-kind kind condition t address adv e = kind-of kind (patternsMeet condition adv) (uuidMeets condition adv) (addressMeets condition t address) e
+meets-kind kind condition t address adv e =
+    kind-of kind (patternsMeet condition adv) (uuidMeets condition adv) (addressMeets condition t address) e
 
 -- the form and the match of each type
 pub well-pattern : (condition : List ℕ) → wellFormed 1 condition ≡ patternsForm condition
@@ -55,27 +58,33 @@ pub well-address : (condition : List ℕ) → wellFormed 4 condition ≡ address
 unfolding wellFormed pick
 well-address condition = refl
 
-pub meets-pattern : (condition : List ℕ) (t : ℕ) (address adv : List ℕ) → meets 1 condition t address adv ≡ patternsMeet condition adv
+pub meets-pattern : (condition : List ℕ) (t : ℕ) (address adv : List ℕ)
+    → meets 1 condition t address adv ≡ patternsMeet condition adv
 unfolding meets pick
 meets-pattern condition t address adv = refl
 
-pub meets-uuid : (condition : List ℕ) (t : ℕ) (address adv : List ℕ) → meets 2 condition t address adv ≡ uuidMeets condition adv
+pub meets-uuid : (condition : List ℕ) (t : ℕ) (address adv : List ℕ)
+    → meets 2 condition t address adv ≡ uuidMeets condition adv
 unfolding meets pick
 meets-uuid condition t address adv = refl
 
-pub meets-address : (condition : List ℕ) (t : ℕ) (address adv : List ℕ) → meets 4 condition t address adv ≡ sames condition (t ∷ address)
+pub meets-address : (condition : List ℕ) (t : ℕ) (address adv : List ℕ)
+    → meets 4 condition t address adv ≡ sames condition (t ∷ address)
 unfolding meets pick addressMeets
 meets-address condition t address adv = refl
 
 -- a match of type 4 says that the condition is the packet's address type and address, and the other way round
-pub address-is : (condition : List ℕ) (t : ℕ) (address adv : List ℕ) → meets 4 condition t address adv ≡ true → condition ≡ t ∷ address
-address-is condition t address adv e = sames-eq condition (t ∷ address) (sym (meets-address condition t address adv) ∙ e)
+pub address-is : (condition : List ℕ) (t : ℕ) (address adv : List ℕ) → meets 4 condition t address adv ≡ true
+    → condition ≡ t ∷ address
+address-is condition t address adv e =
+    sames-eq condition (t ∷ address) (sym (meets-address condition t address adv) ∙ e)
 
 pub address-same : (t : ℕ) (address adv : List ℕ) → meets 4 (t ∷ address) t address adv ≡ true
 address-same t address adv = meets-address (t ∷ address) t address adv ∙ sames-refl (t ∷ address)
 
 -- only a well-formed UUID condition matches
-pub uuid-well : (condition : List ℕ) (t : ℕ) (address adv : List ℕ) → meets 2 condition t address adv ≡ true → wellFormed 2 condition ≡ true
+pub uuid-well : (condition : List ℕ) (t : ℕ) (address adv : List ℕ) → meets 2 condition t address adv ≡ true
+    → wellFormed 2 condition ≡ true
 uuid-well condition t address adv e = go (uuidForm condition) refl
   where
     go : (b : Bool) → uuidForm condition ≡ b → wellFormed 2 condition ≡ true
@@ -107,14 +116,17 @@ extent-parts (x ∷ xs) zero =
 
 -- a well-formed pattern condition has as many patterns as it counts, one at least, and four octets or more for each
 pub pattern-count : (condition : List ℕ) → wellFormed 1 condition ≡ true
-    → (length (patterns condition) ≡ getD condition 0 0) × (1 ≤ length (patterns condition)) × (4 * length (patterns condition) + 1 ≤ length condition)
+    → (length (patterns condition) ≡ getD condition 0 0) × (1 ≤ length (patterns condition))
+    × (4 * length (patterns condition) + 1 ≤ length condition)
 unfolding wellFormed pick patternsForm fills patterns parts
 pattern-count [] e = absurd (false≢true e)
 pattern-count (n ∷ rest) e =
     let ps = partsFrom 3 rest 0 in
-    let f : (eqb n (length ps) && eqb (length rest) (extent ps)) ≡ true = and-right (leb 1 n) (eqb n (length ps) && eqb (length rest) (extent ps)) e in
+    let f : (eqb n (length ps) && eqb (length rest) (extent ps)) ≡ true =
+    and-right (leb 1 n) (eqb n (length ps) && eqb (length rest) (extent ps)) e in
     let a : n ≡ length ps = eqb-true n (length ps) (and-left (eqb n (length ps)) (eqb (length rest) (extent ps)) f) in
-    let b : length rest ≡ extent ps = eqb-true (length rest) (extent ps) (and-right (eqb n (length ps)) (eqb (length rest) (extent ps)) f) in
+    let b : length rest ≡ extent ps =
+    eqb-true (length rest) (extent ps) (and-right (eqb n (length ps)) (eqb (length rest) (extent ps)) f) in
     let o : 1 ≤ n = leb-true 1 n (and-left (leb 1 n) (eqb n (length ps) && eqb (length rest) (extent ps)) e) in
     (sym a, omega arith, omega (arith, extent-parts rest 0))
 
@@ -122,13 +134,16 @@ pattern-count (n ∷ rest) e =
 pub well-length : (kind : ℕ) (condition : List ℕ) → wellFormed kind condition ≡ true → 3 ≤ length condition
 well-length kind condition e =
     ⊎-elim (λ z. omega (arith, pattern-count condition (rw z at e)))
-    (⊎-elim (λ z. omega (arith, uuid-bounds condition (sym (well-uuid condition) ∙ rw z at e))) (λ z. omega (arith, address-length condition (rw z at e))))
+    (⊎-elim (λ z. omega (arith, uuid-bounds condition (sym (well-uuid condition) ∙ rw z at e)))
+    (λ z. omega (arith, address-length condition (rw z at e))))
     (well-kind kind condition e)
 
-pub well-short : (kind : ℕ) (condition : List ℕ) → wellFormed kind condition ≡ true → (kind ≡ 1 → ⊥) → length condition ≤ 17
+pub well-short : (kind : ℕ) (condition : List ℕ) → wellFormed kind condition ≡ true → (kind ≡ 1 → ⊥)
+    → length condition ≤ 17
 well-short kind condition e n =
     ⊎-elim (λ z. absurd (n z))
-    (⊎-elim (λ z. omega (arith, uuid-bounds condition (sym (well-uuid condition) ∙ rw z at e))) (λ z. omega (arith, address-length condition (rw z at e))))
+    (⊎-elim (λ z. omega (arith, uuid-bounds condition (sym (well-uuid condition) ∙ rw z at e)))
+    (λ z. omega (arith, address-length condition (rw z at e))))
     (well-kind kind condition e)
 
 -- the answer on the form says whether the condition is well formed
@@ -156,11 +171,13 @@ unfolding formOf pick
 form-three condition = refl
 
 -- the status is 0 exactly for a well-formed condition
-pub status-good : (kind : ℕ) (condition : List ℕ) → wellFormed kind condition ≡ true → formStatus (formOf kind condition) ≡ 0
+pub status-good : (kind : ℕ) (condition : List ℕ) → wellFormed kind condition ≡ true
+    → formStatus (formOf kind condition) ≡ 0
 unfolding formStatus
 status-good kind condition e = rw (good-form kind condition e)
 
-pub status-zero : (kind : ℕ) (condition : List ℕ) → formStatus (formOf kind condition) ≡ 0 → wellFormed kind condition ≡ true
+pub status-zero : (kind : ℕ) (condition : List ℕ) → formStatus (formOf kind condition) ≡ 0
+    → wellFormed kind condition ≡ true
 unfolding formStatus
 status-zero kind condition e = form-good kind condition (go (formOf kind condition) e)
   where

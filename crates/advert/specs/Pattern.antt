@@ -1,6 +1,6 @@
--- Conditions of type 1 (document 01, Conditions: "a count of at least 1, then that many patterns, filling the condition
--- exactly. A pattern is Length (at least 3, counting AD type and start byte), AD type, start byte, Length − 2 octets. One
--- matching pattern is enough."). Assumes nothing.
+-- Conditions of type 1 (document 01, Conditions: "a count of at least 1, then that many patterns, filling the
+-- condition exactly. A pattern is Length (at least 3, counting AD type and start byte), AD type, start byte, Length
+-- − 2 octets. One matching pattern is enough."). Assumes nothing.
 use Prim.Native.Nat.{ℕ, suc, _+_, _-_, _≤_, _<_}
 use mathlib.Core.Path.{_≡_, refl, sym, ap, _∙_}
 use mathlib.Core.List.{List, [], _∷_}
@@ -39,8 +39,8 @@ unfoldable pub patternsForm : List ℕ → Bool
 patternsForm [] = false
 patternsForm (n ∷ rest) = leb 1 n && fills n (length rest) (parts 3 rest)
 
--- whether an advertisement matches a pattern: some section of its AD type holds its octets at its start byte, 0 being the
--- first octet after the AD type
+-- whether an advertisement matches a pattern: some section of its AD type holds its octets at its start byte, 0
+-- being the first octet after the AD type
 unfoldable pub patternMeets : List ℕ → List ℕ → Bool
 patternMeets adv [] = false
 patternMeets adv (t ∷ []) = false
@@ -52,7 +52,8 @@ patternsMeet condition adv = some (patternMeets adv) (patterns condition)
 
 -- two tests for equality that hold together
 pub eqb-iff : (a b c d : ℕ) → (a ≡ b → c ≡ d) → (c ≡ d → a ≡ b) → eqb a b ≡ eqb c d
-eqb-iff a b c d f g = cases-eq c d (λ e. eq-eqb a b (g e) ∙ sym (eq-eqb c d e)) (λ n. ne-eqb a b (λ e. n (f e)) ∙ sym (ne-eqb c d n))
+eqb-iff a b c d f g = cases-eq c d (λ e. eq-eqb a b (g e) ∙ sym (eq-eqb c d e))
+    (λ n. ne-eqb a b (λ e. n (f e)) ∙ sym (ne-eqb c d n))
 
 -- octets that would reach past the end of a text are not in it
 pub holds-past : (text octets : List ℕ) (at : ℕ) → length text < at + length octets → false ≡ holdsAt at octets text
@@ -70,7 +71,8 @@ pub holds-start : (text octets : List ℕ) (at : ℕ) → at + length octets ≤
 holds-start text octets at h = rw (add-zero at, sub-zero (length octets)) (holds-within text octets at h)
 
 -- the turns of a loop that compares octets: r is the answer, and what is left at octet j has it too
-module _ (text octets : List ℕ) (at j : ℕ) (r : Bool) (q : r ≡ sames (drop j octets) (take (length octets - j) (drop (at + j) text))) where
+module _ (text octets : List ℕ) (at j : ℕ) (r : Bool)
+    (q : r ≡ sames (drop j octets) (take (length octets - j) (drop (at + j) text))) where
   pub holds-end : length octets ≤ j → true ≡ r
   unfolding sames
   holds-end h =
@@ -78,14 +80,16 @@ module _ (text octets : List ℕ) (at j : ℕ) (r : Bool) (q : r ≡ sames (drop
       sym (q ∙ rw (d, drop-of-length-le octets {i = j} h))
 
   module _ (h : j < length octets) (b : at + length octets ≤ length text) where
-    turn : r ≡ (eqb (getD octets j 0) (getD text (at + j) 0) && sames (drop (j + 1) octets) (take (length octets - (j + 1)) (drop (at + (j + 1)) text)))
+    turn : r ≡ (eqb (getD octets j 0) (getD text (at + j) 0) && sames (drop (j + 1) octets)
+        (take (length octets - (j + 1)) (drop (at + (j + 1)) text)))
     unfolding sames
     turn =
         let d : length octets - j ≡ suc (length octets - (j + 1)) = omega arith in
         let s : at + (j + 1) ≡ suc (at + j) = omega arith in
         q ∙ rw (d, drop-cons octets j 0 h, drop-cons text (at + j) 0 (omega arith), s, add-one j)
 
-    pub holds-step : getD text (at + j) 0 ≡ getD octets j 0 → r ≡ sames (drop (j + 1) octets) (take (length octets - (j + 1)) (drop (at + (j + 1)) text))
+    pub holds-step : getD text (at + j) 0 ≡ getD octets j 0
+        → r ≡ sames (drop (j + 1) octets) (take (length octets - (j + 1)) (drop (at + (j + 1)) text))
     holds-step e = rw (eq-eqb (getD octets j 0) (getD text (at + j) 0) (sym e)) at turn
 
     pub holds-stop : (getD text (at + j) 0 ≡ getD octets j 0 → ⊥) → false ≡ r
@@ -101,13 +105,15 @@ module _ (f : List ℕ → Bool) (xs : List ℕ) (i : ℕ) (r : Bool) (q : r ≡
     asked-none h = sym (q ∙ ap (some f) (p .none h) ∙ some-nil f)
 
     pub asked-hit : i < e → f (take (e - (i + 1)) (drop (i + 1) xs)) ≡ true → true ≡ r
-    asked-hit h y = sym (q ∙ ap (some f) (p .more h) ∙ some-stop f (take (e - (i + 1)) (drop (i + 1) xs)) (parts 3 (drop e xs)) y)
+    asked-hit h y = sym (q ∙ ap (some f) (p .more h)
+        ∙ some-stop f (take (e - (i + 1)) (drop (i + 1) xs)) (parts 3 (drop e xs)) y)
 
     pub asked-miss : i < e → f (take (e - (i + 1)) (drop (i + 1) xs)) ≡ false → r ≡ some f (parts 3 (drop e xs))
-    asked-miss h y = q ∙ ap (some f) (p .more h) ∙ some-step f (take (e - (i + 1)) (drop (i + 1) xs)) (parts 3 (drop e xs)) y
+    asked-miss h y = q ∙ ap (some f) (p .more h)
+        ∙ some-step f (take (e - (i + 1)) (drop (i + 1) xs)) (parts 3 (drop e xs)) y
 
--- the turns of a loop that counts the patterns of a condition down: left are still to come, and what is left at index i has
--- the answer
+-- the turns of a loop that counts the patterns of a condition down: left are still to come, and what is left at
+-- index i has the answer
 module _ (xs : List ℕ) (i left : ℕ) (r : Bool) (q : r ≡ fills left (length xs - i) (parts 3 (drop i xs))) where
   pub filled-end : i ≡ length xs → eqb left 0 ≡ r
   unfolding fills extent
@@ -120,7 +126,8 @@ module _ (xs : List ℕ) (i left : ℕ) (r : Bool) (q : r ≡ fills left (length
     pub filled-none : i < length xs → e ≡ i → false ≡ r
     unfolding fills extent
     filled-none b h =
-        sym (q ∙ rw (p .none h) (Rattle.laws.specs.Tests.and-not-right (eqb left 0) (eqb (length xs - i) 0) (ne-eqb (length xs - i) 0 (λ z. omega arith))))
+        sym (q ∙ rw (p .none h) (Rattle.laws.specs.Tests.and-not-right (eqb left 0) (eqb (length xs - i) 0)
+        (ne-eqb (length xs - i) 0 (λ z. omega arith))))
 
     pub filled-over : i < e → left ≡ 0 → false ≡ r
     unfolding fills
@@ -130,9 +137,12 @@ module _ (xs : List ℕ) (i left : ℕ) (r : Bool) (q : r ≡ fills left (length
     unfolding fills extent
     filled-more rest h z =
         let f : e ≤ length xs = p .high in
-        let n : length (take (e - (i + 1)) (drop (i + 1) xs)) ≡ e - (i + 1) = length-take-le (e - (i + 1)) (drop (i + 1) xs) (simp length-drop (omega arith)) in
-        let a = eqb-iff left (suc (length (parts 3 (drop e xs)))) rest (length (parts 3 (drop e xs))) (λ g. omega arith) (λ g. omega arith) in
-        let b = eqb-iff (length xs - i) (1 + (e - (i + 1)) + extent (parts 3 (drop e xs))) (length xs - e) (extent (parts 3 (drop e xs)))
+        let n : length (take (e - (i + 1)) (drop (i + 1) xs)) ≡ e - (i + 1) =
+        length-take-le (e - (i + 1)) (drop (i + 1) xs) (simp length-drop (omega arith)) in
+        let a = eqb-iff left (suc (length (parts 3 (drop e xs)))) rest (length (parts 3 (drop e xs)))
+        (λ g. omega arith) (λ g. omega arith) in
+        let b = eqb-iff (length xs - i) (1 + (e - (i + 1)) + extent (parts 3 (drop e xs))) (length xs - e)
+        (extent (parts 3 (drop e xs)))
         (λ g. omega arith) (λ g. omega arith) in
         q ∙ rw (p .more h, n, a, b)
 
@@ -162,5 +172,6 @@ pattern-split adv (t ∷ []) h = absurd (omega arith)
 pattern-split adv (t ∷ start ∷ octets) h = refl
 
 pub pattern-of : (adv p : List ℕ) (start : ℕ) {r : Bool} → 2 ≤ length p → start ≡ getD p 1 0
-    → r ≡ some (holdsAt start (take (length p - 2) (drop 2 p))) (contents (getD p 0 0) (getD p 0 0) adv) → r ≡ patternMeets adv p
+    → r ≡ some (holdsAt start (take (length p - 2) (drop 2 p))) (contents (getD p 0 0) (getD p 0 0) adv)
+    → r ≡ patternMeets adv p
 pattern-of adv p start h s e = rw (s, rest-whole 2 p) at e ∙ sym (pattern-split adv p h)

@@ -1,6 +1,6 @@
 -- The AD structures of an advertisement, and the one lookup of them by AD type through which every match goes
--- (document 01, Conditions: "AD structures: length L, then L octets, the first the AD type. L = 0 or a structure past the
--- end ends the list; earlier ones count."). Assumes nothing.
+-- (document 01, Conditions: "AD structures: length L, then L octets, the first the AD type. L = 0 or a structure
+-- past the end ends the list; earlier ones count."). Assumes nothing.
 use Prim.Native.Nat.{ℕ, suc, _+_, _-_, _≤_, _<_}
 use mathlib.Core.Path.{_≡_, sym, ap, _∙_}
 use mathlib.Core.List.{List, [], _∷_}
@@ -31,8 +31,8 @@ contentsOf t u ((x ∷ content) ∷ ss) = pick (isType t u x) (content ∷ conte
 unfoldable pub contents : ℕ → ℕ → List ℕ → List (List ℕ)
 contents t u adv = contentsOf t u (sections adv)
 
--- the first section of type t or u at index `at` of a text or later: its content is from index `from` on and ends before
--- index `to`, where the next structure begins
+-- the first section of type t or u at index `at` of a text or later: its content is from index `from` on and ends
+-- before index `to`, where the next structure begins
 pub record Lookup (t u : ℕ) (xs : List ℕ) (at : ℕ) (found : Bool) (from to : ℕ) : Type 0 where
   pub none : found ≡ false → contents t u (drop at xs) ≡ []
   pub low : found ≡ true → at < from
@@ -54,7 +54,8 @@ module _ (t u : ℕ) (xs : List ℕ) (i e : ℕ) (p : PartAt 1 xs i e) where
   contents-none h = rw (p .none h)
 
   -- a structure is its AD type and its content
-  section-at : i < e → parts 1 (drop i xs) ≡ (getD xs (i + 1) 0 ∷ take (e - (i + 2)) (drop (i + 2) xs)) ∷ parts 1 (drop e xs)
+  section-at : i < e → parts 1 (drop i xs) ≡ (getD xs (i + 1) 0 ∷ take (e - (i + 2)) (drop (i + 2) xs)) ∷ parts 1
+      (drop e xs)
   section-at h =
       let r : i + 1 < e = p .room h in
       let f : e ≤ length xs = p .high in
@@ -65,7 +66,8 @@ module _ (t u : ℕ) (xs : List ℕ) (i e : ℕ) (p : PartAt 1 xs i e) where
       p .more h ∙ ap (λ (l : List ℕ). l ∷ parts 1 (drop e xs)) m
 
   -- a structure of another AD type is passed over
-  pub contents-skip : i < e → isType t u (getD xs (i + 1) 0) ≡ false → contents t u (drop i xs) ≡ contents t u (drop e xs)
+  pub contents-skip : i < e → isType t u (getD xs (i + 1) 0) ≡ false
+      → contents t u (drop i xs) ≡ contents t u (drop e xs)
   unfolding contents contentsOf sections pick
   contents-skip h b = rw (section-at h, b)
 
@@ -98,7 +100,8 @@ module _ (t u : ℕ) (xs : List ℕ) (at : ℕ) where
   }
 
 -- the turns of a loop that tries each section found: r is the answer, and what is left at index i has it too
-module _ (f : List ℕ → Bool) (t u : ℕ) (xs : List ℕ) (i : ℕ) (r : Bool) (q : r ≡ some f (contents t u (drop i xs))) where
+module _ (f : List ℕ → Bool) (t u : ℕ) (xs : List ℕ) (i : ℕ) (r : Bool)
+    (q : r ≡ some f (contents t u (drop i xs))) where
   pub tried-end : length xs ≤ i → false ≡ r
   tried-end h = sym (q ∙ ap (some f) (contents-end t u xs i h) ∙ some-nil f)
 
@@ -107,7 +110,10 @@ module _ (f : List ℕ → Bool) (t u : ℕ) (xs : List ℕ) (i : ℕ) (r : Bool
     tried-none e = sym (q ∙ ap (some f) (p .none e) ∙ some-nil f)
 
     pub tried-hit : found ≡ true → f (take (to - from) (drop from xs)) ≡ true → true ≡ r
-    tried-hit e y = sym (q ∙ ap (some f) (p .more e) ∙ some-stop f (take (to - from) (drop from xs)) (contents t u (drop to xs)) y)
+    tried-hit e y = sym (q ∙ ap (some f) (p .more e)
+        ∙ some-stop f (take (to - from) (drop from xs)) (contents t u (drop to xs)) y)
 
-    pub tried-miss : found ≡ true → f (take (to - from) (drop from xs)) ≡ false → r ≡ some f (contents t u (drop to xs))
-    tried-miss e y = q ∙ ap (some f) (p .more e) ∙ some-step f (take (to - from) (drop from xs)) (contents t u (drop to xs)) y
+    pub tried-miss : found ≡ true → f (take (to - from) (drop from xs)) ≡ false
+        → r ≡ some f (contents t u (drop to xs))
+    tried-miss e y = q ∙ ap (some f) (p .more e)
+        ∙ some-step f (take (to - from) (drop from xs)) (contents t u (drop to xs)) y

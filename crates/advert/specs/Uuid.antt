@@ -1,5 +1,6 @@
--- Conditions of type 2 (document 01, Conditions: "UUID type 1, 2, 3, then 2, 4, 16 octets. Looked for in AD types 02 and 03,
--- 04 and 05, 06 and 07, at offsets that are multiples of its size only; octets compared as sent."). Assumes nothing.
+-- Conditions of type 2 (document 01, Conditions: "UUID type 1, 2, 3, then 2, 4, 16 octets. Looked for in AD types
+-- 02 and 03, 04 and 05, 06 and 07, at offsets that are multiples of its size only; octets compared as sent.").
+-- Assumes nothing.
 use Prim.Native.Nat.{ℕ, suc, _+_, _-_, _*_, _/_, _≤_, _<_}
 use mathlib.Core.Path.{_≡_, refl, sym, ap, _∙_}
 use mathlib.Core.List.{List, [], _∷_}
@@ -41,7 +42,8 @@ unfoldable pub uuidMeets : List ℕ → List ℕ → Bool
 uuidMeets [] adv = false
 uuidMeets (t ∷ uuid) adv = uuidSize t (length uuid) && some (listed uuid) (contents (2 * t) (2 * t + 1) adv)
 
-pub uuids-more : (size : ℕ) (l : List ℕ) → 0 < size → size ≤ length l → uuids size l ≡ take size l ∷ uuids size (drop size l)
+pub uuids-more : (size : ℕ) (l : List ℕ) → 0 < size → size ≤ length l
+    → uuids size l ≡ take size l ∷ uuids size (drop size l)
 unfolding uuids rows
 uuids-more size l p h =
     let d : length (drop size l) ≡ length l - size = length-drop size l in
@@ -65,13 +67,17 @@ module _ (uuid content : List ℕ) (i : ℕ) (r : Bool) (q : r ≡ listed uuid (
     unfolding listed
     listed-hit e =
         sym (q ∙ rw (uuids-more (length uuid) (drop i content) p (simp length-drop h))
-        (some-stop (sames uuid) (take (length uuid) (drop i content)) (uuids (length uuid) (drop (length uuid) (drop i content))) (sym (holds-within content uuid i (omega arith)) ∙ e)))
+        (some-stop (sames uuid) (take (length uuid) (drop i content))
+        (uuids (length uuid) (drop (length uuid) (drop i content)))
+        (sym (holds-within content uuid i (omega arith)) ∙ e)))
 
     pub listed-miss : holdsAt i uuid content ≡ false → r ≡ listed uuid (drop (i + length uuid) content)
     unfolding listed
     listed-miss e =
         q ∙ rw (uuids-more (length uuid) (drop i content) p (simp length-drop h), ← drop-drop (length uuid) i content)
-        (some-step (sames uuid) (take (length uuid) (drop i content)) (uuids (length uuid) (drop (length uuid) (drop i content))) (sym (holds-within content uuid i (omega arith)) ∙ e))
+        (some-step (sames uuid) (take (length uuid) (drop i content))
+        (uuids (length uuid) (drop (length uuid) (drop i content)))
+        (sym (holds-within content uuid i (omega arith)) ∙ e))
 
 -- a condition that has no UUID type, and one that has one
 pub uuid-none : (xs : List ℕ) → length xs ≡ 0 → false ≡ uuidForm xs
@@ -90,7 +96,8 @@ pub size-cases : (t n : ℕ) → uuidSize t n ≡ true → ((t ≡ 1) × (n ≡ 
 unfolding uuidSize
 size-cases t n e =
     ⊎-elim (λ a. inl (equal 1 2 a))
-    (λ b. inr (⊎-elim (λ a. inl (equal 2 4 a)) (λ a. inr (equal 3 16 a)) (either (eqb t 2 && eqb n 4) (eqb t 3 && eqb n 16) b)))
+    (λ b. inr (⊎-elim (λ a. inl (equal 2 4 a)) (λ a. inr (equal 3 16 a))
+    (either (eqb t 2 && eqb n 4) (eqb t 3 && eqb n 16) b)))
     (either (eqb t 1 && eqb n 2) ((eqb t 2 && eqb n 4) || (eqb t 3 && eqb n 16)) e)
   where
     either : (a b : Bool) → (a || b) ≡ true → (a ≡ true) ⊎ (b ≡ true)
@@ -101,11 +108,13 @@ size-cases t n e =
     equal k m a = (eqb-true t k (and-left (eqb t k) (eqb n m) a), eqb-true n m (and-right (eqb t k) (eqb n m) a))
 
 pub uuid-cases : (xs : List ℕ) → uuidForm xs ≡ true
-    → ((getD xs 0 0 ≡ 1) × (length xs ≡ 3)) ⊎ (((getD xs 0 0 ≡ 2) × (length xs ≡ 5)) ⊎ ((getD xs 0 0 ≡ 3) × (length xs ≡ 17)))
+    → ((getD xs 0 0 ≡ 1) × (length xs ≡ 3))
+    ⊎ (((getD xs 0 0 ≡ 2) × (length xs ≡ 5)) ⊎ ((getD xs 0 0 ≡ 3) × (length xs ≡ 17)))
 unfolding uuidForm
 uuid-cases [] e = absurd (false≢true e)
 uuid-cases (t ∷ uuid) e =
-    ⊎-elim (λ a. inl (a .0, omega arith)) (λ b. inr (⊎-elim (λ a. inl (a .0, omega arith)) (λ a. inr (a .0, omega arith)) b))
+    ⊎-elim (λ a. inl (a .0, omega arith))
+    (λ b. inr (⊎-elim (λ a. inl (a .0, omega arith)) (λ a. inr (a .0, omega arith)) b))
     (size-cases t (length uuid) e)
 
 pub uuid-bounds : (xs : List ℕ) → uuidForm xs ≡ true → (3 ≤ length xs) × (length xs ≤ 17) × (getD xs 0 0 ≤ 3)
@@ -121,7 +130,8 @@ uuid-bad [] adv e = refl
 uuid-bad (t ∷ uuid) adv e = rw e
 
 pub uuid-of : (xs adv : List ℕ) {r : Bool} → uuidForm xs ≡ true
-    → r ≡ some (listed (take (length xs - 1) (drop 1 xs))) (contents (2 * getD xs 0 0) (2 * getD xs 0 0 + 1) adv) → r ≡ uuidMeets xs adv
+    → r ≡ some (listed (take (length xs - 1) (drop 1 xs))) (contents (2 * getD xs 0 0) (2 * getD xs 0 0 + 1) adv)
+    → r ≡ uuidMeets xs adv
 unfolding uuidForm uuidMeets
 uuid-of xs adv {r} f e = go xs f (rw (rest-whole 1 xs) at e)
   where

@@ -315,7 +315,8 @@ pub fn match_packet(
     address: &[u8],
     adv: &[u8],
 ) -> Match
-    ensures { λ r. ⌜ r .found ≡ meets kind (now (condition .entry)) «address_type» (now (address .entry)) (now (adv .entry)) ⌝ }
+    ensures { λ r. ⌜ r .found
+        ≡ meets kind (now (condition .entry)) «address_type» (now (address .entry)) (now (adv .entry)) ⌝ }
 {
     if kind == 1 {
         let found = patterns_meet(condition, adv);

@@ -1,9 +1,9 @@
-// Runs vectors for the form and the match of conditions. Standard input holds a vector a line, its fields in hexadecimal with
-// a blank between them: condition type, condition, address type, address, advertisement. Other lines are passed over. For
-// each vector a line is written: 0 well formed, 1 malformed, 2 not built, 3 unknown; then, for a well-formed condition, 1 if
-// the packet matches and 0 if not, and a dash for any other.
-// The vectors and their answers are made by vectors.py, an independent program written from document 01; there each answer
-// is worked out by hand too, and the two are compared.
+// Runs vectors for the form and the match of conditions. Standard input holds a vector a line, its fields in
+// hexadecimal with a blank between them: condition type, condition, address type, address, advertisement. Other
+// lines are passed over. For each vector a line is written: 0 well formed, 1 malformed, 2 not built, 3 unknown;
+// then, for a well-formed condition, 1 if the packet matches and 0 if not, and a dash for any other. The vectors
+// and their answers are made by vectors.py, an independent program written from document 01; there each answer is
+// worked out by hand too, and the two are compared.
 ghost use Prim.Native.Nat.{_≤_};
 ghost use mathlib.Core.Path.{_≡_};
 ghost use lib.ListN.{length};

@@ -1,18 +1,18 @@
 use mathlib.Core.Path.{sym}
 use native.Mathlib.Omega.{arith}
 use borrow.Author.Needs.{needs}
-use Rattle.advert.specs.Address.{address-length, address-meets}
+use Rattle.advert.specs.Address.{address-other, address-meets}
 use Rattle.advert.proofs.address_meets.Statement.{statement}
 use Rattle.advert.proofs.address_meets.Tie as tie
 
 returns : tie.Need-returns
-returns c = address-length _ _ _ (λ z. omega arith)
+returns c = address-other _ _ _ (λ z. omega arith)
 
 sub-if2 : tie.Need-sub-if2
 sub-if2 c = search needs
 
 returns-2 : tie.Need-returns-2
-returns-2 c = address-length _ _ _ (λ z. c .if2 .taken (omega arith))
+returns-2 c = address-other _ _ _ (λ z. c .if2 .taken (omega arith))
 
 shared-slice-read-t : tie.Need-shared-slice-read-t
 shared-slice-read-t c = search needs
@@ -21,7 +21,9 @@ holds-requires : tie.Need-holds-requires
 holds-requires c κs = search needs
 
 returns-3 : tie.Need-returns-3
-returns-3 c = let a = c .before .before .before .before .before .before .args in rw (c .holds .ensures) (sym (address-meets (a .condition .now) (a .address-type) (a .address .now) (omega arith)))
+returns-3 c = let a = c .before .before .before .before .before .before .args in
+    rw (c .holds .ensures) (sym (address-meets (a .condition .now) (a .address-type) (a .address .now)
+    (omega arith)))
 
 pub address-meets-spec : {M : Type 1} → statement M
 address-meets-spec =

@@ -3,7 +3,15 @@ use mathlib.Core.Path.{_≡_, refl, _∙_}
 use native.Mathlib.Omega.{arith}
 use borrow.Author.Needs.{needs}
 use lib.ListN.{length, drop}
-use Rattle.advert.specs.Sections.{contents, isType, contents-end, contents-none, contents-skip, lookup-none, lookup-hit}
+use Rattle.advert.specs.Sections.{
+  contents,
+  isType,
+  contents-end,
+  contents-none,
+  contents-skip,
+  lookup-none,
+  lookup-hit,
+}
 use Rattle.advert.proofs.find_section.Statement.{statement}
 use Rattle.advert.proofs.find_section.Tie as tie
 
@@ -20,7 +28,8 @@ part-end-requires : tie.Need-part-end-requires Inv-loop μ-loop
 part-end-requires c κs = search needs
 
 returns : tie.Need-returns Inv-loop μ-loop
-returns c = lookup-none _ _ _ _ (c .before .before .before .loop .i) _ _ (c .before .before .before .loop .inv .2) (contents-none _ _ _ (c .before .before .before .loop .i) _ (c .before .part-end .ensures) (c .if1 .taken))
+returns c = lookup-none _ _ _ _ (c .before .before .before .loop .i) _ _ (c .before .before .before .loop .inv .2)
+    (contents-none _ _ _ (c .before .before .before .loop .i) _ (c .before .part-end .ensures) (c .if1 .taken))
 
 add-x : tie.Need-add-x Inv-loop μ-loop
 add-x c = omega arith
@@ -33,17 +42,24 @@ add-t14 c = omega arith
 
 returns-2 : tie.Need-returns-2 Inv-loop μ-loop
 unfolding isType
-returns-2 c = lookup-hit _ _ _ _ _ _ (omega arith) (c .before .before .before .part-end .ensures) (omega arith) (c .before .before .before .before .before .loop .inv .2) (c .if2 .taken)
+returns-2 c = lookup-hit _ _ _ _ _ _ (omega arith) (c .before .before .before .part-end .ensures) (omega arith)
+    (c .before .before .before .before .before .loop .inv .2) (c .if2 .taken)
 
 loop-less : tie.Need-loop-less Inv-loop μ-loop
 loop-less c = omega arith
 
 loop-again : tie.Need-loop-again Inv-loop μ-loop
 unfolding isType
-loop-again c = let p = c .before .before .before .part-end .ensures in (omega arith, omega arith, c .before .before .before .before .before .loop .inv .2 ∙ contents-skip _ _ _ (c .before .before .before .before .before .loop .i) _ p (omega arith) (c .if2 .left))
+loop-again c = let p = c .before .before .before .part-end .ensures in (
+  omega arith,
+  omega arith,
+  c .before .before .before .before .before .loop .inv .2
+      ∙ contents-skip _ _ _ (c .before .before .before .before .before .loop .i) _ p (omega arith) (c .if2 .left),
+)
 
 returns-3 : tie.Need-returns-3 Inv-loop μ-loop
-returns-3 c = lookup-none _ _ _ _ (c .before .loop .i) _ _ (c .before .loop .inv .2) (contents-end _ _ _ (c .before .loop .i) (omega arith))
+returns-3 c = lookup-none _ _ _ _ (c .before .loop .i) _ _ (c .before .loop .inv .2)
+    (contents-end _ _ _ (c .before .loop .i) (omega arith))
 
 pub find-section-spec : {M : Type 1} → statement M
 find-section-spec =

@@ -8,7 +8,8 @@ use Rattle.advert.proofs.holds.Statement.{statement}
 use Rattle.advert.proofs.holds.Tie as tie
 
 abbrev Inv-loop : tie.InvT-loop
-Inv-loop text at octets n j₀ j = (j ≤ n) × (holdsAt at octets text ≡ sames (drop j octets) (take (length octets - j) (drop (at + j) text)))
+Inv-loop text at octets n j₀ j = (j ≤ n)
+    × (holdsAt at octets text ≡ sames (drop j octets) (take (length octets - j) (drop (at + j) text)))
 
 abbrev μ-loop : tie.MeasureT-loop
 μ-loop text at octets n j₀ j = n - j
@@ -35,7 +36,8 @@ shared-slice-read-if3-2 : tie.Need-shared-slice-read-if3-2 Inv-loop μ-loop
 shared-slice-read-if3-2 c = omega arith
 
 returns-3 : tie.Need-returns-3 Inv-loop μ-loop
-returns-3 c = holds-stop _ _ _ (c .before .before .before .before .loop .j) _ (c .before .before .before .before .loop .inv .1) (omega arith) (omega arith) (c .if3 .taken)
+returns-3 c = holds-stop _ _ _ (c .before .before .before .before .loop .j) _
+    (c .before .before .before .before .loop .inv .1) (omega arith) (omega arith) (c .if3 .taken)
 
 add-j : tie.Need-add-j Inv-loop μ-loop
 add-j c = omega arith
@@ -44,7 +46,11 @@ loop-less : tie.Need-loop-less Inv-loop μ-loop
 loop-less c = omega arith
 
 loop-again : tie.Need-loop-again Inv-loop μ-loop
-loop-again c = (omega arith, holds-step _ _ _ (c .before .before .before .before .loop .j) _ (c .before .before .before .before .loop .inv .1) (omega arith) (omega arith) (c .if3 .left))
+loop-again c = (
+  omega arith,
+  holds-step _ _ _ (c .before .before .before .before .loop .j) _
+      (c .before .before .before .before .loop .inv .1) (omega arith) (omega arith) (c .if3 .left),
+)
 
 returns-4 : tie.Need-returns-4 Inv-loop μ-loop
 returns-4 c = holds-end _ _ _ (c .before .loop .j) _ (c .before .loop .inv .1) (omega arith)

@@ -23,7 +23,8 @@ holds-requires : tie.Need-holds-requires Inv-loop μ-loop
 holds-requires c κs = search needs
 
 returns : tie.Need-returns Inv-loop μ-loop
-returns c = listed-hit _ _ (c .before .before .before .loop .i) _ (c .before .before .before .loop .inv .1) (omega arith) (omega arith) (sym (c .before .holds .ensures) ∙ c .if1 .taken)
+returns c = listed-hit _ _ (c .before .before .before .loop .i) _ (c .before .before .before .loop .inv .1)
+    (omega arith) (omega arith) (sym (c .before .holds .ensures) ∙ c .if1 .taken)
 
 add-i : tie.Need-add-i Inv-loop μ-loop
 add-i c = omega arith
@@ -32,7 +33,12 @@ loop-less : tie.Need-loop-less Inv-loop μ-loop
 loop-less c = omega arith
 
 loop-again : tie.Need-loop-again Inv-loop μ-loop
-loop-again c = (omega arith, listed-miss _ _ (c .before .before .before .loop .i) _ (c .before .before .before .loop .inv .1) (omega arith) (omega arith) (sym (c .before .holds .ensures) ∙ c .if1 .left))
+loop-again c = (
+  omega arith,
+  listed-miss _ _ (c .before .before .before .loop .i) _
+      (c .before .before .before .loop .inv .1) (omega arith) (omega arith)
+      (sym (c .before .holds .ensures) ∙ c .if1 .left),
+)
 
 returns-2 : tie.Need-returns-2 Inv-loop μ-loop
 returns-2 c = listed-end _ _ (c .before .loop .i) _ (c .before .loop .inv .1) (omega arith)

@@ -6,7 +6,15 @@ use lib.ListN.{length, drop}
 use Rattle.laws.specs.Loops.{some}
 use Rattle.advert.specs.Parts.{part-least}
 use Rattle.advert.specs.Parts.{parts}
-use Rattle.advert.specs.Pattern.{patternsMeet, patterns, patternMeets, asked-end, asked-none, asked-hit, asked-miss}
+use Rattle.advert.specs.Pattern.{
+  patternsMeet,
+  patterns,
+  patternMeets,
+  asked-end,
+  asked-none,
+  asked-hit,
+  asked-miss,
+}
 use Rattle.advert.proofs.patterns_meet.Statement.{statement}
 use Rattle.advert.proofs.patterns_meet.Tie as tie
 
@@ -24,7 +32,8 @@ part-end-requires : tie.Need-part-end-requires Inv-loop μ-loop
 part-end-requires c κs = search needs
 
 returns : tie.Need-returns Inv-loop μ-loop
-returns c = asked-none _ _ (c .before .before .before .loop .i) _ (c .before .before .before .loop .inv) _ (c .before .part-end .ensures) (c .if1 .taken)
+returns c = asked-none _ _ (c .before .before .before .loop .i) _ (c .before .before .before .loop .inv) _
+    (c .before .part-end .ensures) (c .if1 .taken)
 
 add-b : tie.Need-add-b Inv-loop μ-loop
 add-b c = omega arith
@@ -42,13 +51,19 @@ pattern-meets-requires : tie.Need-pattern-meets-requires Inv-loop μ-loop
 pattern-meets-requires c κs = omega (arith, part-least _ _ _ _ (c .before .before .part-end .ensures) (omega arith))
 
 returns-2 : tie.Need-returns-2 Inv-loop μ-loop
-returns-2 c = asked-hit _ _ (c .before .before .before .before .before .before .loop .i) _ (c .before .before .before .before .before .before .loop .inv) _ (c .before .before .before .before .part-end .ensures) (omega arith) (sym (c .before .pattern-meets .ensures) ∙ c .if2 .taken)
+returns-2 c = asked-hit _ _ (c .before .before .before .before .before .before .loop .i) _
+    (c .before .before .before .before .before .before .loop .inv) _
+    (c .before .before .before .before .part-end .ensures) (omega arith)
+    (sym (c .before .pattern-meets .ensures) ∙ c .if2 .taken)
 
 loop-less : tie.Need-loop-less Inv-loop μ-loop
 loop-less c = omega arith
 
 loop-again : tie.Need-loop-again Inv-loop μ-loop
-loop-again c = asked-miss _ _ (c .before .before .before .before .before .before .loop .i) _ (c .before .before .before .before .before .before .loop .inv) _ (c .before .before .before .before .part-end .ensures) (omega arith) (sym (c .before .pattern-meets .ensures) ∙ c .if2 .left)
+loop-again c = asked-miss _ _ (c .before .before .before .before .before .before .loop .i) _
+    (c .before .before .before .before .before .before .loop .inv) _
+    (c .before .before .before .before .part-end .ensures) (omega arith)
+    (sym (c .before .pattern-meets .ensures) ∙ c .if2 .left)
 
 returns-3 : tie.Need-returns-3 Inv-loop μ-loop
 returns-3 c = asked-end _ _ (c .before .loop .i) _ (c .before .loop .inv) (omega arith)

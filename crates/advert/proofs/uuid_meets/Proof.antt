@@ -15,13 +15,16 @@ use Rattle.advert.proofs.uuid_meets.Statement.{statement}
 use Rattle.advert.proofs.uuid_meets.Tie as tie
 
 -- what is known of the condition once its form was asked
-formed : (c : lts.After-shared-slice-known3 (uuid-form-reads.Asked, uuid-form-reads.Learnt, some-lists-reads.Asked, some-lists-reads.Learnt) reads.Pre reads.Post)
+formed : (c : lts.After-shared-slice-known3
+    (uuid-form-reads.Asked, uuid-form-reads.Learnt, some-lists-reads.Asked, some-lists-reads.Learnt) reads.Pre
+    reads.Post)
     → (3 ≤ length (c .before .before .before .before .before .args .condition .now))
     × (length (c .before .before .before .before .before .args .condition .now) ≤ 17)
     × (getD (c .before .before .before .before .before .args .condition .now) 0 0 ≤ 3)
 formed c =
     uuid-bounds (c .before .before .before .before .before .args .condition .now)
-    (sym (c .before .before .uuid-form .ensures) ∙ not-false (c .before .before .uuid-form .result) (c .before .if1 .left))
+    (sym (c .before .before .uuid-form .ensures)
+    ∙ not-false (c .before .before .uuid-form .result) (c .before .if1 .left))
 
 uuid-form-requires : tie.Need-uuid-form-requires
 uuid-form-requires c κs = search needs
@@ -51,10 +54,15 @@ part-some-lists-end : tie.Need-part-some-lists-end
 part-some-lists-end c = search needs
 
 some-lists-requires : tie.Need-some-lists-requires
-some-lists-requires c κs = let xs = c .before .before .before .before .before .before .args .condition .now in let f : uuidForm xs ≡ true = sym (c .before .before .before .uuid-form .ensures) ∙ not-false (c .before .before .before .uuid-form .result) (c .before .before .if1 .left) in rw (rest-whole 1 xs) (simp length-drop (omega (arith, uuid-bounds xs f)))
+some-lists-requires c κs = let xs = c .before .before .before .before .before .before .args .condition .now in
+    let f : uuidForm xs ≡ true = sym (c .before .before .before .uuid-form .ensures)
+    ∙ not-false (c .before .before .before .uuid-form .result) (c .before .before .if1 .left) in
+    rw (rest-whole 1 xs) (simp length-drop (omega (arith, uuid-bounds xs f)))
 
 returns-2 : tie.Need-returns-2
-returns-2 c = uuid-of _ _ (sym (c .before .before .before .before .uuid-form .ensures) ∙ not-false (c .before .before .before .before .uuid-form .result) (c .before .before .before .if1 .left)) (c .some-lists .ensures)
+returns-2 c = uuid-of _ _ (sym (c .before .before .before .before .uuid-form .ensures)
+    ∙ not-false (c .before .before .before .before .uuid-form .result) (c .before .before .before .if1 .left))
+    (c .some-lists .ensures)
 
 pub uuid-meets-spec : {M : Type 1} → statement M
 uuid-meets-spec =

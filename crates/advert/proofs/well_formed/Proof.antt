@@ -18,18 +18,22 @@ uuid-form-requires c κs = search needs
 
 returns-2 : tie.Need-returns-2
 unfolding wellFormed pick
-returns-2 c = let k = c .before .before .before .before .args .kind in rw (ne-eqb k 1 (λ z. omega arith), eq-eqb k 2 (omega arith)) (c .uuid-form .ensures)
+returns-2 c = let k = c .before .before .before .before .args .kind in
+    rw (ne-eqb k 1 (λ z. omega arith), eq-eqb k 2 (omega arith)) (c .uuid-form .ensures)
 
 address-form-requires : tie.Need-address-form-requires
 address-form-requires c κs = search needs
 
 returns-3 : tie.Need-returns-3
 unfolding wellFormed pick
-returns-3 c = let k = c .before .before .before .before .before .args .kind in rw (ne-eqb k 1 (λ z. omega arith), ne-eqb k 2 (λ z. omega arith), eq-eqb k 4 (omega arith)) (c .address-form .ensures)
+returns-3 c = let k = c .before .before .before .before .before .args .kind in
+    rw (ne-eqb k 1 (λ z. omega arith), ne-eqb k 2 (λ z. omega arith), eq-eqb k 4 (omega arith))
+    (c .address-form .ensures)
 
 returns-4 : tie.Need-returns-4
 unfolding wellFormed pick
-returns-4 c = let k = c .before .before .before .before .args .kind in rw (ne-eqb k 1 (λ z. omega arith), ne-eqb k 2 (λ z. omega arith), ne-eqb k 4 (λ z. omega arith))
+returns-4 c = let k = c .before .before .before .before .args .kind in
+    rw (ne-eqb k 1 (λ z. omega arith), ne-eqb k 2 (λ z. omega arith), ne-eqb k 4 (λ z. omega arith))
 
 pub well-formed-spec : {M : Type 1} → statement M
 well-formed-spec =

@@ -77,7 +77,8 @@ array-share-prefix-condition : tie.Need-array-share-prefix-condition
 array-share-prefix-condition c = search needs
 
 slice-aggregate-answer : tie.Need-slice-aggregate-answer
-slice-aggregate-answer c = sym (length-take-le (c .before .before .before .before .before .before .before .before .before .before .before .field2 .result) (c .before .before .before .before .before .before .before .before .before .before .before .field2 .last .1 .1 .0) (c .before .before .before .before .before .before .before .before .before .before .before .field2 .ensures .0))
+slice-aggregate-answer c = let f = c .before .before .before .before .before .before .before .before .before .before .before .field2 in
+    sym (length-take-le (f .result) (f .last .1 .1 .0) (f .ensures .0))
 
 array-read-answer-2 : tie.Need-array-read-answer-2
 array-read-answer-2 c = search needs
@@ -86,13 +87,15 @@ array-share-prefix-address : tie.Need-array-share-prefix-address
 array-share-prefix-address c = search needs
 
 slice-aggregate-answer-2 : tie.Need-slice-aggregate-answer-2
-slice-aggregate-answer-2 c = sym (length-take-le (c .before .before .before .before .before .before .field4 .result) (c .before .before .before .before .before .before .field4 .last .1 .1 .0) (c .before .before .before .before .before .before .field4 .ensures .0))
+slice-aggregate-answer-2 c = let f = c .before .before .before .before .before .before .field4 in
+    sym (length-take-le (f .result) (f .last .1 .1 .0) (f .ensures .0))
 
 array-share-prefix-adv : tie.Need-array-share-prefix-adv
 array-share-prefix-adv c = search needs
 
 slice-aggregate-answer-3 : tie.Need-slice-aggregate-answer-3
-slice-aggregate-answer-3 c = sym (length-take-le (c .before .before .before .before .field5 .result) (c .before .before .before .before .field5 .last .1 .1 .0) (c .before .before .before .before .field5 .ensures .0))
+slice-aggregate-answer-3 c = let f = c .before .before .before .before .field5 in
+    sym (length-take-le (f .result) (f .last .1 .1 .0) (f .ensures .0))
 
 answer-requires : tie.Need-answer-requires
 answer-requires c κs = search needs
