@@ -1,0 +1,2 @@
+-- Laws of the tests of payloads.
+pub mod Forms
