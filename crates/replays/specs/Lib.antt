@@ -2,3 +2,4 @@
 pub mod Into
 pub mod Pieces
 pub mod Whole
+pub mod GoesOn

@@ -1,0 +1,114 @@
+-- The contract of a vendor command on the lent block, and what it takes to meet it. Document 01, Commands. Assumes
+-- nothing.
+use Prim.Native.Nat.{ℕ, _+_, _≤_, _<_}
+use mathlib.Core.Path.{_≡_, refl, sym, ap, _∙_}
+use mathlib.Core.Bool.{Bool, true, false, _&&_, false≢true}
+use mathlib.Core.List.{List, [], _∷_}
+use native.Mathlib.Omega.{arith}
+use lib.Dec.{leb, eqb}
+use lib.ListN.{length}
+use borrow.Author.Tests.{eq-eqb, ne-eqb, le-leb}
+use Rattle.laws.specs.Tests.{pick-false, and-both}
+use Rattle.laws.specs.Put.{put, putIf, put-of}
+use Rattle.octets.specs.Little.{little, octetsOf}
+use Rattle.octets.specs.Numbers.{numberAt, number-of}
+use Rattle.sessions.specs.Machine.{answerRoom, lastNumber}
+use Rattle.model.specs.Types.{Model, moved}
+use Rattle.model.specs.Frames.{command}
+use Rattle.model.specs.Commands.{subOf, status, failure, commanded}
+use Rattle.model.specs.Events.{complete}
+use Rattle.model.specs.Step.{stepTyped, answerTyped}
+use Rattle.model.specs.Sound.{soundModel}
+use Rattle.model.specs.Block.{blockSize, padded}
+use Rattle.blocks.specs.Block.{padded-length, read-position}
+use Rattle.blocks.specs.Updates.{put-position}
+use Rattle.steps.specs.Executed.{commanded-same}
+use Rattle.stepped.specs.Stepped.{Stepped}
+use Rattle.statuses.specs.Answers.{octet-at}
+use Rattle.commands.specs.Replies.{Replied}
+use Rattle.commands.specs.Ran.{Ran, ran-failed, opcode-at}
+
+-- whether the block and the output have their lengths
+unfoldable pub fits : List ℕ → List ℕ → Bool
+fits s out = eqb (length s) blockSize && leb answerRoom (length out)
+
+-- The command l took the block from s to `after` and the output from `out` to `wrote`, n octets of it written: on the
+-- block of a sound state that has a frame number left, the model's step; where a length is wrong, nothing.
+pub record Answered (l s after out wrote : List ℕ) (n : ℕ) : Type 0 where
+  pub stepped : (m : Model) → soundModel m ≡ true → s ≡ padded m → m .position < lastNumber
+      → answerRoom ≤ length out → (o : ℕ)
+      → Stepped m (command o l) after out wrote n
+  pub refused : fits s out ≡ false → (after ≡ s) × (wrote ≡ out) × (n ≡ 0)
+
+-- the sub-opcode that was read
+pub sub-is : (l : List ℕ) (n : ℕ) {k : ℕ} → k ≡ numberAt 1 l 0 → k ≡ n → subOf l ≡ n
+unfolding subOf
+sub-is l n g e = sym (octet-at l 0 g) ∙ e
+
+-- every other sub-opcode
+pub other-failed : (m : Model) (s l out : List ℕ) {after wrote : List ℕ} {n o k : ℕ} → soundModel m ≡ true → s
+    ≡ padded m
+    → o ≡ numberAt 2 s 5 → k ≡ numberAt 1 l 0 → (k ≡ 0 → ⊥) → (k ≡ 3 → ⊥) → (k ≡ 4 → ⊥) → (k ≡ 5 → ⊥) → after ≡ s
+    → Replied out wrote n (complete o (1 ∷ k ∷ [])) → Ran m l after out wrote n
+unfolding status failure subOf
+other-failed m s l out {after} {wrote} {n} {o} {k} e q p g a b c d w r =
+    let u : subOf l ≡ k = sym (octet-at l 0 g) in
+    let t : status m l ≡ 1 =
+    pick-false _ _ (ne-eqb (subOf l) 0 (λ y. a (sym u ∙ y))) ∙ pick-false _ _ (ne-eqb (subOf l) 3 (λ y. b (sym u ∙ y)))
+    ∙ pick-false _ _ (ne-eqb (subOf l) 4 (λ y. c (sym u ∙ y))) ∙ pick-false _ _ (ne-eqb (subOf l) 5 (λ y. d (sym u
+    ∙ y))) in
+    let f : failure (status m l) l ≡ 1 ∷ k ∷ [] =
+    pick-false _ _ (ne-eqb (subOf l) 3 (λ y. b (sym u ∙ y))) ∙ ap (λ (x : ℕ). x ∷ subOf l ∷ []) t
+    ∙ ap (λ (x : ℕ). 1 ∷ x ∷ []) u in
+    ran-failed m l out (λ (y : status m l ≡ 0). omega arith) f (w ∙ q) (rw (opcode-at m s e q p) at r)
+
+-- the position, moved by one
+pub position-moved : (m : Model) (s : List ℕ) {s1 : List ℕ} {p : ℕ} {r : Bool} → s ≡ padded m → length s ≡ 4761
+    → m .position < 4294967295 → p ≡ numberAt 4 s 0
+    → (r ≡ leb (0 + 4) (length s)) × (s1 ≡ putIf r s 0 (octetsOf 4 (p + 1))) → s1 ≡ padded (moved m)
+position-moved m s {s1} {p} {r} q l h g w =
+    let n : p ≡ m .position =
+    number-of 4 s 0 g (omega arith) ∙ ap (λ (x : List ℕ). little 4 x 0) q ∙ read-position m (omega arith) in
+    put-of s 0 (octetsOf 4 (p + 1)) 4 (length s) (w .0) (omega arith) (w .1)
+    ∙ ap (λ (x : ℕ). put s 0 (octetsOf 4 (x + 1))) n ∙ ap (λ (x : List ℕ). put x 0 (octetsOf 4 (m .position + 1))) q
+    ∙ put-position m
+
+-- a position that does not move: the last frame number is reached
+pub position-last : (m : Model) (s : List ℕ) {p : ℕ} {a : List ℕ} → s ≡ padded m → length s ≡ 4761
+    → m .position < 4294967295
+    → p ≡ numberAt 4 s 0 → p ≡ 4294967295 → a ≡ padded (moved m)
+position-last m s {p} q l h g z =
+    let n : p ≡ m .position =
+    number-of 4 s 0 g (omega arith) ∙ ap (λ (x : List ℕ). little 4 x 0) q ∙ read-position m (omega arith) in
+    absurd (omega arith)
+
+-- the whole: executed, then moved
+pub answered : (l s out : List ℕ) {s1 s2 wrote : List ℕ} {n : ℕ} → length s ≡ 4761 → 2880 ≤ length out
+    → ((m : Model) → soundModel m ≡ true → s ≡ padded m → Ran m l s1 out wrote n)
+    → ((m : Model) → s1 ≡ padded m → m .position < 4294967295 → s2 ≡ padded (moved m)) → Answered l s s2 out wrote n
+unfolding fits stepTyped answerTyped blockSize answerRoom lastNumber
+answered l s out h b f g =
+    record {
+      stepped = λ m e q p r o.
+          let x = f m e q in
+          let k : commanded m l .position ≡ m .position = commanded-same m l .position in
+          record {
+            block = g (commanded m l) (x .block) (omega arith);
+            octets = x .reply .octets;
+            count = x .reply .count;
+          };
+      refused = λ t. absurd (false≢true (sym t ∙ and-both (eq-eqb (length s) 4761 h) (le-leb 2880 (length out) b)));
+    }
+
+-- nothing done where a length is wrong
+module _ (l s out : List ℕ) where
+  pub wrong-block : (length s ≡ 4761 → ⊥) → Answered l s s out out 0
+  wrong-block h =
+      record {
+        stepped = λ m e q p r o. absurd (h (ap length q ∙ padded-length m e));
+        refused = λ t. (refl, refl, refl);
+      }
+
+  pub wrong-room : length out < 2880 → Answered l s s out out 0
+  unfolding answerRoom
+  wrong-room h = record { stepped = λ m e q p r o. absurd (omega arith); refused = λ t. (refl, refl, refl) }

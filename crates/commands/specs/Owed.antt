@@ -1,0 +1,71 @@
+-- What a status of 0 says of the parameters: what the changes ask for. Document 01, Commands. Assumes nothing.
+use Prim.Native.Nat.{ℕ, _-_, _≤_, _<_}
+use mathlib.Core.Path.{_≡_, refl, sym, ap, _∙_}
+use mathlib.Core.Logic.{inl, inr}
+use mathlib.Core.Bool.{Bool, true, false, not, false≢true}
+use mathlib.Core.List.{List}
+use native.Mathlib.Omega.{arith}
+use lib.Dec.{ltb, eqb}
+use lib.ListN.{length, drop, length-drop}
+use borrow.Author.Tests.{eqb-true, eq-eqb, ltb-true, ltb-false}
+use Rattle.laws.specs.Tests.{pick, both}
+use Rattle.model.specs.Monitors.{faultOf, monitorOf, accepts, invalid, full}
+use Rattle.model.specs.Accepted.{Accepted, accepted, pick-none}
+use Rattle.model.specs.Commands.{table, paramsIn}
+use Rattle.statuses.specs.Statuses.{addOf, cancelOf}
+use Rattle.commands.specs.Handles.{liveAt}
+
+-- a status that is none: the test held, and what it then gives is none
+pick-zero : (t : Bool) (a b : ℕ) → 0 < b → pick t a b ≡ 0 → (t ≡ true) × (a ≡ 0)
+unfolding pick
+pick-zero true a b h e = (refl, e)
+pick-zero false a b h e = absurd (omega arith)
+
+-- 03: room, and parameters that fit the row
+module _ (h : ℕ) (l : List ℕ) {r : ℕ} (f : r ≡ addOf (ltb h 16) l) (z : r ≡ 0) where
+  said : (ltb (length l) (paramsIn table 3) ≡ false) × (faultOf (monitorOf l) ≡ 0) × (ltb h 16 ≡ true)
+  unfolding addOf
+  said =
+      let n : ℕ = faultOf (monitorOf l) in
+      let a = pick-none (ltb (length l) (paramsIn table 3)) invalid _ (omega arith) (sym f ∙ z) in
+      go n refl (a .0) (a .1)
+    where
+      go : (n : ℕ) → faultOf (monitorOf l) ≡ n → ltb (length l) (paramsIn table 3) ≡ false
+          → pick (not (eqb (faultOf (monitorOf l)) 0)) (faultOf (monitorOf l)) (pick (ltb h 16) 0 full) ≡ 0
+          → (ltb (length l) (paramsIn table 3) ≡ false) × (faultOf (monitorOf l) ≡ 0) × (ltb h 16 ≡ true)
+      go n e a b = elim (both (eqb (faultOf (monitorOf l)) 0)) [
+        | inl t ↦ (
+          a,
+          eqb-true (faultOf (monitorOf l)) 0 t,
+          pick-zero (ltb h 16) 0 full (omega arith) (sym (Rattle.laws.specs.Tests.pick-false _ _ (ap not t)) ∙ b) .0,
+        )
+        | inr t ↦ absurd (false≢true (sym t ∙ eq-eqb (faultOf (monitorOf l)) 0
+            (sym (Rattle.laws.specs.Tests.pick-true _ _ (ap not t)) ∙ b)))
+      ]
+
+  pub add-handle : h < 16
+  add-handle = ltb-true h 16 (said .2)
+
+  pub add-enough : 6 ≤ length l
+  unfolding table paramsIn pick
+  add-enough = ltb-false (length l) 6 (said .0)
+
+  pub add-most : length l ≤ 70
+  unfolding accepts monitorOf
+  add-most =
+      let a : Accepted (monitorOf l) = accepted (monitorOf l) (eq-eqb (faultOf (monitorOf l)) 0 (said .1)) in
+      let n : length (drop 6 l) ≡ length l - 6 = length-drop 6 l in
+      omega (arith, a .short)
+
+-- 04: a handle that is live
+module _ (s l : List ℕ) (h : ℕ) {t : Bool} {r : ℕ} (v : t ≡ liveAt s h) (f : r ≡ cancelOf t l) (z : r ≡ 0) where
+  pub cancel-handle : h < 16
+  unfolding cancelOf liveAt
+  cancel-handle =
+      let a = pick-zero (eqb (length l) (paramsIn table 4)) _ invalid (omega arith) (sym f ∙ z) in
+      let b = pick-zero t 0 invalid (omega arith) (a .1) in
+      go (ltb h 16) refl (sym v ∙ b .0)
+    where
+      go : (x : Bool) → ltb h 16 ≡ x → pick x (Rattle.commands.specs.Handles.busyAt s h) false ≡ true → h < 16
+      go true e q = ltb-true h 16 e
+      go false e q = absurd (false≢true (sym (Rattle.laws.specs.Tests.pick-false _ false refl) ∙ q))

@@ -1,0 +1,179 @@
+#!/usr/bin/env python3
+"""Makes the sessions of the program (stdin) and what it must write (stdout): vectors.py REFERENCE, in this directory.
+
+REFERENCE is the independent implementation, built (reference/README.md). It is given each session as an image and a
+journal, and what it writes is what the program must write. The edges are those of document 01, Commands, on both
+sides; the rest are commands that the independent implementation makes up, and images with pairs whose monitors are
+then cancelled.
+"""
+import os
+import subprocess
+import sys
+import tempfile
+
+REFERENCE = sys.argv[1]
+LIMIT = 65536
+
+
+def octets(text):
+    return bytes.fromhex(text)
+
+
+def run(*words):
+    return subprocess.run([REFERENCE, *words], capture_output=True, text=True, check=False).stdout
+
+
+def fresh(prefix, filter_on=0):
+    head = bytes(4) + bytes([filter_on]) + octets("1EFC") + bytes([len(prefix)]) + prefix
+    return "A0" + head.hex().upper() + "\nAF0000\n"
+
+
+def replayed(image, commands):
+    """What the independent implementation writes for the image and the commands in the frames that follow it."""
+    head = octets(image.split("\n")[0])
+    number, opcode = int.from_bytes(head[1:5], "little"), head[6:8]
+    lines = []
+    for params in commands:
+        number += 1
+        frame = b"\x01" + number.to_bytes(4, "little") + opcode + bytes([len(params)]) + params
+        lines.append(frame.hex().upper() + "\n")
+    with tempfile.TemporaryDirectory() as folder:
+        paths = [os.path.join(folder, name) for name in ("image", "journal")]
+        for path, text in zip(paths, (image, "".join(lines))):
+            with open(path, "w", encoding="ascii") as file:
+                file.write(text)
+        return run("replay", *paths)
+
+
+def poke(at, row):
+    return "01" + at.to_bytes(2, "little").hex().upper() + row.hex().upper() + "\n"
+
+
+def session(image, commands):
+    """The program's lines: an empty block, the rows of the image, the commands, the image."""
+    lines, pairs = ["00\n"], 0
+    for text in image.split():
+        row = octets(text)[1:]
+        if text.startswith("A0"):
+            lines.append(poke(0, row))
+        elif text.startswith("A1"):
+            lines.append(poke(40 + 71 * row[0], row))
+        elif text.startswith("A2"):
+            lines.append(poke(1176 + 56 * pairs, row))
+            pairs += 1
+        else:
+            lines.append(poke(4760, row[1:]))
+    lines += ["02" + params.hex().upper() + "\n" for params in commands]
+    return "".join(lines + ["03\n"])
+
+
+GOOD = "C4B00300"
+ADDRESS = "0400060504030201"
+
+
+def pattern(size):
+    """A condition of type 1 of that many octets: one pattern."""
+    return "01" + bytes([1, size - 2, 9, 0] + [0x41] * (size - 4)).hex()
+
+
+ADD = "03" + GOOD + ADDRESS
+
+THRESHOLDS = (
+    "8081 8180 8181 8281 1413 1414 1514 1415 1314 7F00 007F 00FF FF00 1481 1581 1480"
+).split()
+
+CONDITIONS = ["", "00", "010F", "01020301", "0103090041", "010309004100", "0203090041", "020309004103090142"]
+CONDITIONS += ["0104090041", "0002", "011810", "0118", "01181000", "0201020304", "02010203", "03" + "07" * 16]
+CONDITIONS += ["03" + "07" * 15, "04" + "07" * 16, "00060504030201", "01060504030201", "02060504030201"]
+CONDITIONS += ["000605040302", "0006050403020100"]
+
+
+def edges():
+    """Sessions of commands, from document 01, Commands, with the edge on both sides."""
+    yield b"", ["00", "0000", "01", "0102", "02", "06", "0F", "0F00", "FF", "80AABB"]
+    yield bytes(range(1, 33)), ["00", "000000"]
+    # lengths of 03, 04 and 05
+    yield b"MS", ["03", "03C4", "03C4B0", "03C4B003", "03C4B00300", "03C4B0030004", ADD]
+    yield b"MS", [ADD, "04", "0400FF", "0400", "05", "050100", "0501"]
+    # thresholds, high above low
+    for high_low in THRESHOLDS:
+        yield b"MS", ["03" + high_low + "0300" + ADDRESS]
+    # interval, sampling
+    for interval in ("00", "01", "3C", "3D", "FF"):
+        yield b"MS", ["03C4B0" + interval + sampling + ADDRESS for sampling in ("00", "01", "FE", "FF")]
+    # types 0 to 5, and malformed conditions of each type
+    for kind in ("00", "01", "02", "03", "04", "05", "FF"):
+        yield b"MS", ["03" + GOOD + kind + condition for condition in CONDITIONS]
+    # conditions of 64 and 65 octets; types 2 to 4 over 64
+    yield b"MS", ["03" + GOOD + pattern(size) for size in (63, 64, 65, 120)]
+    yield b"MS", ["03" + GOOD + kind + "00" * 65 for kind in ("03", "02", "04")]
+    # the 16th monitor and the 17th; with 16 live, the other statuses come first
+    first = ["03" + GOOD + "03", "03" + GOOD + "0402", "03C4C40300" + ADDRESS, "03" + GOOD + pattern(65), "03C4B0"]
+    yield b"MS", [ADD] * 17 + first + ["0410", "040F", "040F", ADD, ADD, "0400", "0407", ADD, ADD, ADD]
+    # the next handle is the lowest not live
+    yield b"MS", [ADD, ADD, ADD, "0401", ADD, "0402", "0400", ADD, ADD, ADD]
+    yield b"MS", [ADD, ADD, ADD, ADD, "0403", "0402", "0401", "0400", "0400", ADD]
+    yield b"MS", ["0400", "0401", "040F", "0410", "04FF"]
+    # enable, in both states
+    yield b"MS", ["0500", "0502", "05FF", "0501", "0501", "0502", "0500", "0500"]
+    # the order of 03's statuses: a threshold, the order, the interval, the type come before type 3
+    yield b"MS", ["0315B0030003", "03C4B0000003", "03B0C4030003", "0315B0000005", "03C4B0003D0400", "0315"]
+
+
+def made_up(count):
+    """Sessions of the commands that the independent implementation makes up."""
+    prefix, commands = None, []
+    for row in run("vectors", "commands", "7", str(count)).split("\n"):
+        if not row:
+            continue
+        _, _, settings, params, _ = row.split(" ")
+        if settings != prefix and commands:
+            yield octets("" if prefix == "-" else prefix), commands
+            commands = []
+        prefix = settings
+        commands.append(octets(params))
+    yield octets("" if prefix == "-" else prefix), commands
+
+
+def with_pairs(count):
+    """Images with pairs, and commands that cancel their monitors."""
+    with tempfile.TemporaryDirectory() as folder:
+        run("cases", folder, "5", "400")
+        names = sorted(name for name in os.listdir(folder) if name.endswith(".image"))
+        images = []
+        for name in names:
+            with open(os.path.join(folder, name), encoding="ascii") as file:
+                image = file.read()
+            handles = [line[2:4] for line in image.split() if line.startswith("A2")]
+            if len(handles) > 2 and len(set(handles)) > 1:
+                images.append(image)
+        images.sort(key=len)
+        step = max(1, len(images) // count)
+        for image in images[::step][:count] + images[-1:]:
+            live = [line[2:4] for line in image.split() if line.startswith("A1")]
+            yield image, [octets("04" + handle) for handle in live[1::2]]
+            yield image, [octets("04" + handle) for handle in reversed(live)] + [octets("03" + GOOD + ADDRESS)]
+
+
+def main():
+    given, told = [], []
+    plans = [(fresh(prefix), [octets(c) for c in commands]) for prefix, commands in edges()]
+    plans += [(fresh(prefix), commands) for prefix, commands in made_up(260)]
+    plans += list(with_pairs(5))
+    for image, commands in plans:
+        answers = replayed(image, commands)
+        if answers.strip() == "10":
+            continue
+        given.append(session(image, commands))
+        told.append(answers)
+    text = "".join(given)
+    if len(text) > LIMIT:
+        sys.exit(f"{len(text)} characters are too many")
+    with open("stdin", "w", encoding="ascii") as file:
+        file.write(text)
+    with open("stdout", "w", encoding="ascii") as file:
+        file.write("".join(told))
+    print(f"{len(plans)} sessions, {text.count(chr(10) + '02')} commands, {len(text)} characters")
+
+
+main()

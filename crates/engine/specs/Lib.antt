@@ -1,0 +1,13 @@
+-- What the calls answer and leave, and the laws of their branches.
+pub mod Calls
+pub mod Acts
+pub mod Ends
+pub mod Turns
+pub mod Texts
+pub mod Replays
+pub mod Keeps
+pub mod Loop
+pub mod Placing
+pub mod Runs
+pub mod Judges
+pub mod Public

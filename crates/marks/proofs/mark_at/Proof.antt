@@ -1,0 +1,174 @@
+use Prim.Native.Nat.{ℕ, _+_, _-_, _*_}
+use mathlib.Core.List.{List}
+use mathlib.Core.Path.{_≡_, refl, ap}
+use native.Mathlib.Omega.{arith}
+use lib.ListN.{take, drop, getD}
+use borrow.Author.Needs.{needs}
+use Rattle.marks.specs.Monitors.{mark-unused, mark-unmatched, mark-matched}
+use Rattle.marks.proofs.mark_at.Statement.{statement}
+use Rattle.marks.proofs.mark_at.Tie as tie
+
+mul-at : tie.Need-mul-at
+mul-at c = search needs
+
+add-at : tie.Need-add-at
+add-at c = search needs
+
+add-if1 : tie.Need-add-if1
+add-if1 c = search needs
+
+shared-slice-read-if1 : tie.Need-shared-slice-read-if1
+shared-slice-read-if1 c = search needs
+
+returns : tie.Need-returns
+returns c = let a = c .before .before .before .before .args in mark-unused (a .s .now) (a .h) (a .payload .now) (c .if1 .taken)
+
+add-from : tie.Need-add-from
+add-from c = search needs
+
+add-clamp : tie.Need-add-clamp
+add-clamp c = search needs
+
+shared-slice-read-clamp : tie.Need-shared-slice-read-clamp
+shared-slice-read-clamp c = search needs
+
+clamp-requires : tie.Need-clamp-requires
+clamp-requires c κs = search needs
+
+add-to : tie.Need-add-to
+add-to c = search needs
+
+shared-slice-read-index : tie.Need-shared-slice-read-index
+shared-slice-read-index c = search needs
+
+index-requires : tie.Need-index-requires
+index-requires c κs = search needs
+
+add-end : tie.Need-add-end
+add-end c = search needs
+
+add-match-packet : tie.Need-add-match-packet
+add-match-packet c = search needs
+
+shared-slice-read-match-packet : tie.Need-shared-slice-read-match-packet
+shared-slice-read-match-packet c = search needs
+
+sub-match-packet : tie.Need-sub-match-packet
+sub-match-packet c = search needs
+
+part-match-packet-start : tie.Need-part-match-packet-start
+part-match-packet-start c = search needs
+
+part-match-packet-end : tie.Need-part-match-packet-end
+part-match-packet-end c = search needs
+
+shared-slice-read-match-packet-2 : tie.Need-shared-slice-read-match-packet-2
+shared-slice-read-match-packet-2 c = search needs
+
+sub-match-packet-2 : tie.Need-sub-match-packet-2
+sub-match-packet-2 c = search needs
+
+part-match-packet-start-2 : tie.Need-part-match-packet-start-2
+part-match-packet-start-2 c = search needs
+
+part-match-packet-end-2 : tie.Need-part-match-packet-end-2
+part-match-packet-end-2 c = search needs
+
+sub-match-packet-3 : tie.Need-sub-match-packet-3
+sub-match-packet-3 c = search needs
+
+part-match-packet-start-3 : tie.Need-part-match-packet-start-3
+part-match-packet-start-3 c = search needs
+
+part-match-packet-end-3 : tie.Need-part-match-packet-end-3
+part-match-packet-end-3 c = search needs
+
+match-packet-requires : tie.Need-match-packet-requires
+match-packet-requires c κs = search needs
+
+add-row-bits : tie.Need-add-row-bits
+add-row-bits c = search needs
+
+shared-slice-read-row-bits : tie.Need-shared-slice-read-row-bits
+shared-slice-read-row-bits c = search needs
+
+add-row-bits-2 : tie.Need-add-row-bits-2
+add-row-bits-2 c = search needs
+
+shared-slice-read-row-bits-2 : tie.Need-shared-slice-read-row-bits-2
+shared-slice-read-row-bits-2 c = search needs
+
+add-row-bits-3 : tie.Need-add-row-bits-3
+add-row-bits-3 c = search needs
+
+shared-slice-read-row-bits-3 : tie.Need-shared-slice-read-row-bits-3
+shared-slice-read-row-bits-3 c = search needs
+
+shared-slice-read-row-bits-4 : tie.Need-shared-slice-read-row-bits-4
+shared-slice-read-row-bits-4 c = search needs
+
+row-bits-requires : tie.Need-row-bits-requires
+row-bits-requires c κs = search needs
+
+returns-2 : tie.Need-returns-2
+returns-2 c = let a = c .before .before .before .before .before .before .before .before .before .before .before .before .before .before .before .before .before .before .before .before .args in
+    let s : List ℕ = a .s .now in
+    let l : List ℕ = a .payload .now in
+    let n : ℕ = c .before .before .before .before .before .before .before .before .before .before .before .before .before .before .clamp .result in
+    let k : 40 + 71 * a .h + 7 + n - (40 + 71 * a .h + 7) ≡ n = omega arith in
+    let e : c .before .before .before .before .before .before .before .before .before .before .before .before .index .result ≡ getD l 8 0 = c .before .before .before .before .before .before .before .before .before .before .before .before .index .ensures .0 in
+    let j : 9 + c .before .before .before .before .before .before .before .before .before .before .before .before .index .result - 9 ≡ getD l 8 0 = omega arith in
+    mark-matched s (a .h) l n (c .before .before .before .before .before .before .before .before .before .before .before .before .before .before .before .before .if1 .left) (c .before .before .before .before .before .before .before .before .before .before .before .before .before .before .clamp .ensures) (ap (λ (i : ℕ). take i (drop (40 + 71 * a .h + 7) s)) k) refl
+    (ap (λ (i : ℕ). take i (drop 9 l)) j) (c .before .before .before .before .before .before .match-packet .ensures) (c .before .before .before .before .before .if2 .taken)
+    (rw e at (c .row-bits .ensures))
+
+returns-3 : tie.Need-returns-3
+returns-3 c = let a = c .before .before .before .before .before .before .before .before .before .before .before .before .before .before .before .args in
+    let s : List ℕ = a .s .now in
+    let l : List ℕ = a .payload .now in
+    let n : ℕ = c .before .before .before .before .before .before .before .before .before .clamp .result in
+    let k : 40 + 71 * a .h + 7 + n - (40 + 71 * a .h + 7) ≡ n = omega arith in
+    let j : 9 + c .before .before .before .before .before .before .before .index .result - 9 ≡ getD l 8 0 = omega (arith, c .before .before .before .before .before .before .before .index .ensures .0) in
+    mark-unmatched s (a .h) l n (c .before .before .before .before .before .before .before .before .before .before .before .if1 .left) (c .before .before .before .before .before .before .before .before .before .clamp .ensures) (ap (λ (i : ℕ). take i (drop (40 + 71 * a .h + 7) s)) k) refl
+    (ap (λ (i : ℕ). take i (drop 9 l)) j) (c .before .match-packet .ensures) (c .if2 .left)
+
+pub mark-at-spec : {M : Type 1} → statement M
+mark-at-spec =
+    tie.close
+    (tie.spec
+    mul-at
+    add-at
+    add-if1
+    shared-slice-read-if1
+    returns
+    add-from
+    add-clamp
+    shared-slice-read-clamp
+    clamp-requires
+    add-to
+    shared-slice-read-index
+    index-requires
+    add-end
+    add-match-packet
+    shared-slice-read-match-packet
+    sub-match-packet
+    part-match-packet-start
+    part-match-packet-end
+    shared-slice-read-match-packet-2
+    sub-match-packet-2
+    part-match-packet-start-2
+    part-match-packet-end-2
+    sub-match-packet-3
+    part-match-packet-start-3
+    part-match-packet-end-3
+    match-packet-requires
+    add-row-bits
+    shared-slice-read-row-bits
+    add-row-bits-2
+    shared-slice-read-row-bits-2
+    add-row-bits-3
+    shared-slice-read-row-bits-3
+    shared-slice-read-row-bits-4
+    row-bits-requires
+    returns-2
+    returns-3)

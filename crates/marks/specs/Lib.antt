@@ -1,0 +1,4 @@
+-- What a packet means to each monitor, as one octet a handle (document 01, Conditions, Watching, by history).
+pub mod Marks
+pub mod Fields
+pub mod Monitors

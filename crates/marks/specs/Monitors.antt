@@ -1,0 +1,115 @@
+-- A handle's octet, read from its monitor's row in the block. Document 01, Conditions, Watching, by history. Assumes
+-- nothing.
+use Prim.Native.Nat.{ℕ, _+_, _*_, _≤_, _<_}
+use mathlib.Core.Path.{_≡_, refl, sym, ap, _∙_}
+use mathlib.Core.Bool.{Bool, true, false, _&&_, not}
+use mathlib.Core.List.{List, [], _++_, append-nil}
+use native.Mathlib.Omega.{arith}
+use lib.Dec.{leb, ltb, eqb}
+use lib.ListN.{length, take, drop, getD}
+use lib.Seq.{getD-drop, drop-drop, take-take, take-all, length-take-le}
+use borrow.Author.Tests.{eq-eqb, ne-eqb}
+use Rattle.laws.specs.Tests.{pick-true, pick-false, cases-le}
+use Rattle.laws.specs.Rows.{row, getD-row}
+use Rattle.advert.specs.Condition.{meets}
+use Rattle.model.specs.Level.{level}
+use Rattle.model.specs.Frames.{packetOf}
+use Rattle.model.specs.Monitors.{matches, good, strong, windowed}
+use Rattle.model.specs.Image.{monitorIn}
+use Rattle.model.specs.Block.{inUse}
+use Rattle.marks.specs.Marks.{flag, bits, markOf, markRow}
+use Rattle.marks.specs.Fields.{Clamped}
+
+-- the octet of a packet that matches, from the octets of the monitor's row and the packet's RSSI
+unfoldable pub rowBits : ℕ → ℕ → ℕ → ℕ → ℕ
+rowBits high low sampling rssi =
+    bits (ltb (level low) (level rssi)) (leb 1 sampling && leb sampling 254) (leb (level high) (level rssi))
+    (eqb sampling 0)
+
+pub bits-made : (high low sampling rssi : ℕ) {v u w a b c d : ℕ} → v ≡ level rssi → u ≡ level low → w ≡ level high
+    → a ≡ flag (ltb u v) → b ≡ flag (leb 1 sampling && leb sampling 254) → c ≡ flag (leb w v)
+    → d ≡ flag (eqb sampling 0)
+    → a + 2 * b + 4 * c + 8 * d ≡ rowBits high low sampling rssi
+unfolding rowBits bits
+bits-made high low sampling rssi e f g p q r s = rw (p, q, r, s, e, f, g)
+
+-- a field of the row of a handle
+pub row-field : (s : List ℕ) (h j : ℕ) → j < 71 → getD (row 71 h (drop 40 s)) j 0 ≡ getD s (40 + 71 * h + j) 0
+row-field s h j b =
+    let e : 40 + (71 * h + j) ≡ 40 + 71 * h + j = omega arith in
+    getD-row 71 h j (drop 40 s) 0 b ∙ getD-drop 40 s (71 * h + j) 0 ∙ ap (λ (i : ℕ). getD s i 0) e
+
+drop-take : (k n : ℕ) (l : List ℕ) → drop k (take (k + n) l) ≡ take n (drop k l)
+drop-take k n l = ap (λ (x : List ℕ). drop k x) (lib.Seq.take-add k n l) ∙ cases-le k (length l) inside outside
+  where
+    inside : k ≤ length l → drop k (take k l ++ take n (drop k l)) ≡ take n (drop k l)
+    inside h = lib.Seq.drop-at (take k l) (take n (drop k l)) k (length-take-le k l h)
+
+    outside : length l < k → drop k (take k l ++ take n (drop k l)) ≡ take n (drop k l)
+    outside h =
+        let e : drop k l ≡ [] = lib.ListN.drop-of-length-le l {i = k} (omega arith) in
+        rw (e, lib.Seq.take-nil n, append-nil (take k l), take-all k l (omega arith)) e
+
+-- the condition of the row of a handle
+row-condition : (s : List ℕ) (h n : ℕ) → Clamped (getD s (40 + 71 * h + 6) 0) 64 n
+    → take n (drop (40 + 71 * h + 7) s) ≡ take (getD (row 71 h (drop 40 s)) 6 0) (drop 7 (row 71 h (drop 40 s)))
+unfolding row
+row-condition s h n c =
+    let x : ℕ = getD s (40 + 71 * h + 6) 0 in
+    let d : List ℕ = drop (40 + 71 * h + 7) s in
+    let a : 40 + 71 * h + 7 ≡ 40 + (71 * h + 7) = omega arith in
+    let e : drop 7 (take 71 (drop (71 * h) (drop 40 s))) ≡ take 64 d =
+    drop-take 7 64 (drop (71 * h) (drop 40 s))
+    ∙ ap (λ (l : List ℕ). take 64 l) (drop-drop 7 (71 * h) (drop 40 s) ∙ drop-drop (71 * h + 7) 40 s
+    ∙ ap (λ (i : ℕ). drop i s) (sym a)) in
+    let f : getD (take 71 (drop (71 * h) (drop 40 s))) 6 0 ≡ x = row-field s h 6 (omega arith) in
+    sym (ap (λ (k : ℕ). take k (drop 7 (take 71 (drop (71 * h) (drop 40 s))))) f ∙ ap (λ (l : List ℕ). take x l) e
+    ∙ cases-le x 64 (λ u. take-take x 64 d u ∙ ap (λ (k : ℕ). take k d) (sym (c .within u)))
+    (λ u. take-all x (take 64 d) (short u) ∙ ap (λ (k : ℕ). take k d) (sym (c .above u))))
+  where
+    short : 64 < getD s (40 + 71 * h + 6) 0 → length (take 64 (drop (40 + 71 * h + 7) s)) ≤ getD s (40 + 71 * h + 6) 0
+    short u = simp lib.ListN.length-take (omega arith)
+
+module _ (s : List ℕ) (h : ℕ) (l : List ℕ) where
+  pub mark-unused : getD s (40 + 71 * h + 3) 0 ≡ 0 → 0 ≡ markRow (row 71 h (drop 40 s)) (packetOf l)
+  unfolding markRow inUse
+  mark-unused e =
+      sym (pick-false _ 0 (ap not (eq-eqb _ 0 (row-field s h 3 (omega arith) ∙ e))))
+
+  -- what the match was asked
+  match-asked : (n : ℕ) {cond adr adv : List ℕ} {found : Bool} → Clamped (getD s (40 + 71 * h + 6) 0) 64 n
+      → cond ≡ take n (drop (40 + 71 * h + 7) s) → adr ≡ take 6 (drop 2 l) → adv ≡ take (getD l 8 0) (drop 9 l)
+      → found ≡ meets (getD s (40 + 71 * h + 5) 0) cond (getD l 1 0) adr adv
+      → found ≡ matches (monitorIn (row 71 h (drop 40 s)) .1) (packetOf l)
+  unfolding matches monitorIn packetOf
+  match-asked n {cond} {adr} {adv} {found} c ec ea ed f =
+      let r : List ℕ = row 71 h (drop 40 s) in
+      f ∙ ap (λ (k : ℕ). meets k cond (getD l 1 0) adr adv) (sym (row-field s h 5 (omega arith)))
+      ∙ ap (λ (x : List ℕ). meets (getD r 5 0) x (getD l 1 0) adr adv) (ec ∙ row-condition s h n c)
+      ∙ ap (λ (x : List ℕ). meets (getD r 5 0) (take (getD r 6 0) (drop 7 r)) (getD l 1 0) x adv) ea
+      ∙ ap (λ (x : List ℕ). meets (getD r 5 0) (take (getD r 6 0) (drop 7 r)) (getD l 1 0) (take 6 (drop 2 l)) x) ed
+
+  used : (getD s (40 + 71 * h + 3) 0 ≡ 0 → ⊥) → inUse (row 71 h (drop 40 s)) ≡ true
+  unfolding inUse
+  used u = ap not (ne-eqb _ 0 (λ e. u (sym (row-field s h 3 (omega arith)) ∙ e)))
+
+  pub mark-unmatched : (n : ℕ) {cond adr adv : List ℕ} {found : Bool} → (getD s (40 + 71 * h + 3) 0 ≡ 0 → ⊥)
+      → Clamped (getD s (40 + 71 * h + 6) 0) 64 n
+      → cond ≡ take n (drop (40 + 71 * h + 7) s) → adr ≡ take 6 (drop 2 l) → adv ≡ take (getD l 8 0) (drop 9 l)
+      → found ≡ meets (getD s (40 + 71 * h + 5) 0) cond (getD l 1 0) adr adv → found ≡ false
+      → 0 ≡ markRow (row 71 h (drop 40 s)) (packetOf l)
+  unfolding markRow markOf
+  mark-unmatched n u c ec ea ed f e =
+      sym (pick-true _ 0 (used u) ∙ pick-false _ 0 (sym (match-asked n c ec ea ed f) ∙ e))
+
+  pub mark-matched : (n : ℕ) {cond adr adv : List ℕ} {found : Bool} {r : ℕ} → (getD s (40 + 71 * h + 3) 0 ≡ 0 → ⊥)
+      → Clamped (getD s (40 + 71 * h + 6) 0) 64 n
+      → cond ≡ take n (drop (40 + 71 * h + 7) s) → adr ≡ take 6 (drop 2 l) → adv ≡ take (getD l 8 0) (drop 9 l)
+      → found ≡ meets (getD s (40 + 71 * h + 5) 0) cond (getD l 1 0) adr adv → found ≡ true
+      → r ≡ rowBits (getD s (40 + 71 * h + 1) 0) (getD s (40 + 71 * h + 2) 0) (getD s (40 + 71 * h + 4) 0) (getD l
+      (9 + getD l 8 0) 0)
+      → r ≡ markRow (row 71 h (drop 40 s)) (packetOf l)
+  unfolding markRow markOf rowBits good windowed strong monitorIn packetOf
+  mark-matched n u c ec ea ed f e b =
+      b ∙ rw (← row-field s h 1 (omega arith), ← row-field s h 2 (omega arith), ← row-field s h 4 (omega arith)) refl
+      ∙ sym (pick-true _ 0 (used u) ∙ pick-true _ 0 (sym (match-asked n c ec ea ed f) ∙ e))

@@ -1,0 +1,88 @@
+use Prim.Native.Nat.{ℕ, _+_, _-_, _*_, _≤_}
+use mathlib.Core.List.{List}
+use mathlib.Core.Path.{_≡_, ap}
+use native.Mathlib.Omega.{arith}
+use lib.ListN.{length, take, drop, length-take, length-drop}
+use borrow.Author.Needs.{needs}
+use Rattle.packets.specs.Answers.{event-most, start-wrote}
+use Rattle.packets.proofs.put_start.Statement.{statement}
+use Rattle.packets.proofs.put_start.Tie as tie
+
+shared-slice-read-clamp : tie.Need-shared-slice-read-clamp
+shared-slice-read-clamp c = search needs
+
+clamp-requires : tie.Need-clamp-requires
+clamp-requires c κs = search needs
+
+add-end : tie.Need-add-end
+add-end c = search needs
+
+mul-from : tie.Need-mul-from
+mul-from c = search needs
+
+add-from : tie.Need-add-from
+add-from c = search needs
+
+add-to : tie.Need-add-to
+add-to c = search needs
+
+sub-put-event : tie.Need-sub-put-event
+sub-put-event c = search needs
+
+part-put-event-start : tie.Need-part-put-event-start
+part-put-event-start c = search needs
+
+part-put-event-end : tie.Need-part-put-event-end
+part-put-event-end c = search needs
+
+sub-put-event-2 : tie.Need-sub-put-event-2
+sub-put-event-2 c = search needs
+
+part-put-event-start-2 : tie.Need-part-put-event-start-2
+part-put-event-start-2 c = search needs
+
+part-put-event-end-2 : tie.Need-part-put-event-end-2
+part-put-event-end-2 c = search needs
+
+put-event-requires : tie.Need-put-event-requires
+put-event-requires c κs = search needs
+
+same-length : tie.Need-same-length
+same-length c = search needs
+
+returns : tie.Need-returns
+returns c = let a = c .before .before .before .before .before .before .before .before .before .before .args in
+    let s : List ℕ = a .s .now in
+    let n : ℕ = c .before .before .before .before .before .before .clamp .result in
+    let e : 8 + n - 8 ≡ n = omega arith in
+    let f : 1176 + 56 * a .i + 8 - (1176 + 56 * a .i) ≡ 8 = omega arith in
+    let b : n ≤ 32 = c .before .before .before .before .before .before .clamp .ensures .most in
+    let pre : List ℕ = take (8 + n - 8) (drop 8 s) in
+    let r8 : List ℕ = take (1176 + 56 * a .i + 8 - (1176 + 56 * a .i)) (drop (1176 + 56 * a .i) s) in
+    let lp : length pre ≤ 32 = simp (length-take, length-drop) (omega arith) in
+    let lr : 8 ≤ length r8 = simp (length-take, length-drop) (omega arith) in (
+      event-most (a .out .now) (a .at) pre r8 lp lr (c .before .before .put-event .ensures .0),
+      λ m w h.
+          start-wrote m s (a .i) w (a .out .now) (a .at) n (c .before .before .before .before .before .before .clamp .ensures) h (omega arith) (omega arith)
+          (ap (λ (k : ℕ). take k (drop 8 s)) e) (ap (λ (k : ℕ). take k (drop (1176 + 56 * a .i) s)) f) (c .before .before .put-event .ensures),
+    )
+
+pub put-start-spec : {M : Type 1} → statement M
+put-start-spec =
+    tie.close
+    (tie.spec
+    shared-slice-read-clamp
+    clamp-requires
+    add-end
+    mul-from
+    add-from
+    add-to
+    sub-put-event
+    part-put-event-start
+    part-put-event-end
+    sub-put-event-2
+    part-put-event-start-2
+    part-put-event-end-2
+    put-event-requires
+    same-length
+    returns)

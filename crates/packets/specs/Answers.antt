@@ -1,0 +1,195 @@
+-- What a packet writes: a start event for each pair behind those that were held, then one report. Document 01,
+-- Watching, by history (Event, Report). Assumes nothing.
+use Prim.Native.Nat.{ℕ, _+_, _-_, _*_, _≤_, _<_}
+use mathlib.Core.Path.{_≡_, refl, sym, ap, _∙_}
+use mathlib.Core.Bool.{Bool, true, false}
+use mathlib.Core.List.{List, _∷_, _++_}
+use native.Mathlib.Omega.{arith}
+use lib.ListN.{length, take, drop, getD, length-append, length-drop}
+use lib.Seq.{take-take, drop-cons, getD-drop, take-all, length-take-le}
+use borrow.Author.Tests.{le-leb, eq-eqb}
+use Rattle.laws.specs.Tests.{pick, and-both}
+use Rattle.laws.specs.Loops.{each, each-take, when, when-true, when-false}
+use Rattle.laws.specs.Put.{put, putIf, put-nil, put-then}
+use Rattle.model.specs.Types.{Model, Pair}
+use Rattle.model.specs.Frames.{packetOf}
+use Rattle.model.specs.Events.{startEvent, packetReport, event, report}
+use Rattle.model.specs.Block.{padded}
+use Rattle.blocks.specs.Bounds.{Fits}
+use Rattle.blocks.specs.Block.{row-pairs, read-count, read-prefix}
+use Rattle.events.specs.Octets.{eventOctets, reportOctets, eventFits, reportFits, length-event, length-report}
+use Rattle.events.specs.Octets.{event-opens, event-pair, report-device}
+use Rattle.marks.specs.Fields.{Clamped, Framed}
+use Rattle.packets.specs.Writes.{part-row}
+use Rattle.packets.specs.Moves.{noPair, pairAt, AtPair, pair-fits}
+use Rattle.packets.specs.Starts.{Holding}
+
+-- ys written into out at an index, and how many
+pub record Wrote (out : List ℕ) (at : ℕ) (ys after : List ℕ) (n : ℕ) : Type 0 where
+  pub octets : after ≡ put out at ys
+  pub count : n ≡ length ys
+
+fits-wrote : (t : Bool) (out : List ℕ) (at : ℕ) (ys : List ℕ) {o : List ℕ} {r : ℕ} → t ≡ true
+    → (r ≡ pick t (length ys) 0) × (o ≡ putIf t out at ys) → Wrote out at ys o r
+unfolding pick putIf
+fits-wrote t out at ys e w = let v = rw e at w in record { octets = v .1; count = v .0 }
+
+-- the event of pair i: from the prefix and the row's first 8 octets
+module _ (m : Model) (s : List ℕ) (i : ℕ) (w : AtPair m s i) where
+  prefix-count : getD s 7 0 ≡ length (m .prefix)
+  prefix-count = ap (λ (l : List ℕ). getD l 7 0) (w .block) ∙ read-count m
+
+  prefix-part : (n : ℕ) → Clamped (getD s 7 0) 32 n → take n (drop 8 s) ≡ m .prefix
+  prefix-part n c =
+      let e : n ≡ length (m .prefix) = c .within (omega (arith, prefix-count, w .measured .prefix-most))
+      ∙ prefix-count in
+      ap (λ (k : ℕ). take k (drop 8 s)) e ∙ ap (λ (l : List ℕ). take (length (m .prefix)) (drop 8 l)) (w .block)
+      ∙ read-prefix m
+
+  event-part : eventOctets (m .prefix) (take 8 (drop (1176 + 56 * i) s)) 1 ≡ startEvent (m .prefix) (pairAt m i)
+  unfolding startEvent pairAt
+  event-part =
+      let f : Fits (pairAt m i) = pair-fits w in
+      let r : List ℕ = take 56 (drop (1176 + 56 * i) s) in
+      ap (λ (l : List ℕ). eventOctets (m .prefix) l 1) (sym (take-take 8 56 (drop (1176 + 56 * i) s) (omega arith)))
+      ∙ event-opens (m .prefix) r 1
+      ∙ ap (λ (l : List ℕ). eventOctets (m .prefix) l 1)
+      (ap (λ (l : List ℕ). take 56 (drop (1176 + 56 * i) l)) (w .block) ∙ part-row (padded m) i
+      ∙ row-pairs m (w .measured) i noPair (w .within))
+      ∙ event-pair (m .prefix) (getD (m .pairs) i noPair) 1 (f .address-length)
+
+  pub start-wrote : (out : List ℕ) (at n : ℕ) {o pre r8 : List ℕ} {r : ℕ} → Clamped (getD s 7 0) 32 n
+      → at + 44 ≤ length out
+      → length s ≡ 4761 → i < 64
+      → pre ≡ take n (drop 8 s) → r8 ≡ take 8 (drop (1176 + 56 * i) s)
+      → (r ≡ pick (eventFits (length out) at pre r8 1) (length (eventOctets pre r8 1)) 0)
+      × (o ≡ putIf (eventFits (length out) at pre r8 1) out at (eventOctets pre r8 1))
+      → Wrote out at (startEvent (m .prefix) (pairAt m i)) o r
+  unfolding eventFits
+  start-wrote out at n {o} {pre} {r8} {r} c h l b ep er x =
+      let d : length (drop (1176 + 56 * i) s) ≡ length s - (1176 + 56 * i) = length-drop (1176 + 56 * i) s in
+      let k : length r8 ≡ 8 = ap (λ (y : List ℕ). length y) er
+      ∙ length-take-le 8 (drop (1176 + 56 * i) s) (omega arith) in
+      let p : pre ≡ m .prefix = ep ∙ prefix-part n c in
+      let q : length pre ≡ length (m .prefix) = ap (λ (y : List ℕ). length y) p in
+      let u : length (eventOctets pre r8 1) ≡ 12 + length pre = length-event pre r8 1 (omega arith) in
+      let v : eventOctets pre r8 1 ≡ startEvent (m .prefix) (pairAt m i) =
+      ap (λ (y : List ℕ). eventOctets y r8 1) p ∙ ap (λ (y : List ℕ). eventOctets (m .prefix) y 1) er ∙ event-part in
+      let z : Wrote out at (eventOctets pre r8 1) o r =
+      fits-wrote (eventFits (length out) at pre r8 1) out at (eventOctets pre r8 1)
+      (and-both (le-leb (length pre) 32 (omega (arith, w .measured .prefix-most)))
+      (and-both (le-leb 8 (length r8) (omega arith))
+      (le-leb (at + length (eventOctets pre r8 1)) (length out) (omega (arith, w .measured .prefix-most))))) x in
+      record { octets = z .octets ∙ ap (put out at) v; count = z .count ∙ ap (λ (y : List ℕ). length y) v }
+
+-- an event's length, whatever the octets
+pub event-most : (out : List ℕ) (at : ℕ) (pre r8 : List ℕ) {r : ℕ} → length pre ≤ 32 → 8 ≤ length r8
+    → r ≡ pick (eventFits (length out) at pre r8 1) (length (eventOctets pre r8 1)) 0 → r ≤ 44
+unfolding pick
+event-most out at pre r8 {r} h b e = go (eventFits (length out) at pre r8 1) e
+  where
+    go : (t : Bool) → r ≡ pick t (length (eventOctets pre r8 1)) 0 → r ≤ 44
+    go true e = omega (arith, length-event pre r8 1 b)
+    go false e = omega arith
+
+-- a turn of the loop over the starts
+module _ (m : Model) (s : List ℕ) (from count : ℕ) (w : Holding m s (from + count)) where
+  pub starts-none : (out : List ℕ) → Wrote out 0 (each (startEvent (m .prefix)) (take 0 (drop from (m .pairs)))) out 0
+  unfolding each
+  starts-none out = record { octets = sym (put-nil out 0); count = refl }
+
+  pub starts-turn : (out : List ℕ) (j : ℕ) {o u : List ℕ} {n r : ℕ} → j < count
+      → Wrote out 0 (each (startEvent (m .prefix)) (take j (drop from (m .pairs)))) o n
+      → (AtPair m s (from + j) → Wrote o n (startEvent (m .prefix) (pairAt m (from + j))) u r)
+      → Wrote out 0 (each (startEvent (m .prefix)) (take (j + 1) (drop from (m .pairs)))) u (n + r)
+  unfolding pairAt
+  starts-turn out j {o} {u} {n} {r} b x y =
+      let f : Pair → List ℕ = startEvent (m .prefix) in
+      let l : List Pair = drop from (m .pairs) in
+      let k : length l ≡ length (m .pairs) - from = length-drop from (m .pairs) in
+      let q : AtPair m s (from + j) = record {
+        measured = w .measured;
+        block = w .block;
+        within = omega
+            (arith, w .count);
+      } in
+      let z : Wrote o n (f (getD (m .pairs) (from + j) noPair)) u r = y q in
+      let g : each f (take j l) ++ f (getD (m .pairs) (from + j) noPair) ≡ each f (take (j + 1) l) =
+      ap (λ (t : Pair). each f (take j l) ++ f t) (sym (getD-drop from (m .pairs) j noPair))
+      ∙ sym (each-take f l j noPair (omega (arith, w .count))) in
+      record {
+        octets = put-then out 0 (each f (take j l)) n (f (getD (m .pairs) (from + j) noPair)) (omega arith) (x .octets)
+            (x .count ∙ sym (native.Mathlib.Nat.zero-add (length (each f (take j l))))) (z .octets) g;
+        count = ap (λ (t : ℕ). t + r) (x .count) ∙ ap (λ (t : ℕ). length (each f (take j l)) + t) (z .count)
+            ∙ sym (length-append (each f (take j l)) (f (getD (m .pairs) (from + j) noPair)))
+            ∙ ap (λ (t : List ℕ). length t) g;
+      }
+
+  pub starts-end : (out : List ℕ) (j : ℕ) {o : List ℕ} {n : ℕ} → count ≤ j
+      → Wrote out 0 (each (startEvent (m .prefix)) (take j (drop from (m .pairs)))) o n
+      → Wrote out 0 (each (startEvent (m .prefix)) (drop from (m .pairs))) o n
+  starts-end out j {o} {n} b x =
+      let k : length (drop from (m .pairs)) ≡ length (m .pairs) - from = length-drop from (m .pairs) in
+      let e : take j (drop from (m .pairs)) ≡ drop from (m .pairs) =
+      take-all j (drop from (m .pairs)) (omega (arith, w .count)) in
+      record {
+        octets = x .octets ∙ ap (λ (l : List Pair). put out 0 (each (startEvent (m .prefix)) l)) e;
+        count = x .count ∙ ap (λ (l : List Pair). length (each (startEvent (m .prefix)) l)) e;
+      }
+
+-- the report of a packet
+pub report-wrote : (out : List ℕ) (at : ℕ) (l : List ℕ) {o dev adv : List ℕ} {r : ℕ} → Framed l → at + 45 ≤ length out
+    → dev ≡ take 7 (drop 1 l) → adv ≡ take (getD l 8 0) (drop 9 l)
+    → (r ≡ pick (reportFits (length out) at (getD l 0 0) dev adv (getD l (9 + getD l 8 0) 0))
+    (length (reportOctets (getD l 0 0) dev adv (getD l (9 + getD l 8 0) 0))) 0)
+    × (o ≡ putIf (reportFits (length out) at (getD l 0 0) dev adv (getD l (9 + getD l 8 0) 0)) out at
+    (reportOctets (getD l 0 0) dev adv (getD l (9 + getD l 8 0) 0)))
+    → Wrote out at (packetReport (packetOf l)) o r
+unfolding reportFits packetReport packetOf
+report-wrote out at l {o} {dev} {adv} {r} f h ed ea x =
+    let n : ℕ = getD l 8 0 in
+    let e : ℕ = getD l 0 0 in
+    let s : ℕ = getD l (9 + n) 0 in
+    let d1 : length (drop 1 l) ≡ length l - 1 = length-drop 1 l in
+    let d9 : length (drop 9 l) ≡ length l - 9 = length-drop 9 l in
+    let k : length dev ≡ 7 = ap (λ (y : List ℕ). length y) ed ∙ length-take-le 7 (drop 1 l) (omega arith) in
+    let j : length adv ≡ n = ap (λ (y : List ℕ). length y) ea ∙ length-take-le n (drop 9 l) (omega arith) in
+    let g : dev ≡ getD l 1 0 ∷ take 6 (drop 2 l) = ed ∙ ap (λ (y : List ℕ). take 7 y) (drop-cons l 1 0 (omega arith)) in
+    let u : length (reportOctets e dev adv s) ≡ 14 + length adv = length-report e dev adv s k in
+    let v : reportOctets e dev adv s ≡ report e (getD l 1 0) (take 6 (drop 2 l)) (take n (drop 9 l)) s =
+    ap (λ (y : List ℕ). reportOctets e y adv s) g ∙ ap (λ (y : List ℕ). reportOctets e (getD l 1 0 ∷ take 6
+    (drop 2 l)) y s) ea
+    ∙ report-device e (getD l 1 0) (take 6 (drop 2 l)) (take n (drop 9 l)) s in
+    let z : Wrote out at (reportOctets e dev adv s) o r =
+    fits-wrote (reportFits (length out) at e dev adv s) out at (reportOctets e dev adv s)
+    (and-both (eq-eqb (length dev) 7 k) (and-both (le-leb (length adv) 31 (omega arith))
+    (le-leb (at + length (reportOctets e dev adv s)) (length out) (omega arith)))) x in
+    record { octets = z .octets ∙ ap (put out at) v; count = z .count ∙ ap (λ (y : List ℕ). length y) v }
+
+-- a report's length
+pub report-most : (out : List ℕ) (at event : ℕ) (dev adv : List ℕ) (rssi : ℕ) {r : ℕ} → length dev ≡ 7 → length adv ≤ 31
+    → r ≡ pick (reportFits (length out) at event dev adv rssi) (length (reportOctets event dev adv rssi)) 0 → r ≤ 45
+unfolding pick
+report-most out at event dev adv rssi {r} h b e = go (reportFits (length out) at event dev adv rssi) e
+  where
+    go : (t : Bool) → r ≡ pick t (length (reportOctets event dev adv rssi)) 0 → r ≤ 45
+    go true e = omega (arith, length-report event dev adv rssi h)
+    go false e = omega arith
+
+-- the report, or nothing
+pub told-wrote : (out : List ℕ) (at : ℕ) (ys : List ℕ) {t : Bool} {o : List ℕ} {r : ℕ} → t ≡ true → Wrote out at ys o r
+    → Wrote out at (when t ys) o r
+told-wrote out at ys e w =
+    record {
+      octets = w .octets ∙ ap (put out at) (sym (when-true ys e));
+      count = w .count ∙ ap (λ (y : List ℕ). length y)
+          (sym (when-true ys e));
+    }
+
+pub untold-wrote : (out : List ℕ) (at : ℕ) (ys : List ℕ) {t : Bool} → t ≡ false → Wrote out at (when t ys) out 0
+untold-wrote out at ys e =
+    record {
+      octets = sym (put-nil out at) ∙ ap (put out at) (sym (when-false ys e));
+      count = ap (λ (y : List ℕ). length y)
+          (sym (when-false ys e));
+    }

@@ -1,0 +1,11 @@
+-- What a packet does, octet by octet (document 01, Watching, by history).
+pub mod Changes
+pub mod Keys
+pub mod Writes
+pub mod Moves
+pub mod Held
+pub mod Starts
+pub mod Reports
+pub mod Answers
+pub mod Whole
+pub mod Windows

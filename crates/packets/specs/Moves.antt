@@ -1,0 +1,141 @@
+-- The held pairs over a packet, one row after another: what one row's turn leaves, and the turn of the loop over them.
+-- Document 01, Watching, by history. Assumes nothing.
+use Prim.Native.Nat.{ℕ, zero, suc, _+_, _*_, _/_, _%_, _<_}
+use mathlib.Core.Path.{_≡_, refl, sym, ap, _∙_, subst}
+use mathlib.Core.List.{List, [], _∷_}
+use native.Mathlib.Omega.{arith}
+use lib.ListN.{length, getD, set, length-set}
+use lib.Seq.{getD-set-same, set-set}
+use borrow.Author.Tests.{eq-eqb, ne-eqb}
+use Rattle.laws.specs.Tests.{pick-true, pick-false, sames}
+use Rattle.laws.specs.Put.{put}
+use Rattle.octets.specs.Little.{little, octetsOf}
+use Rattle.rule.specs.Base.{All}
+use Rattle.rule.specs.Engine.{find}
+use Rattle.model.specs.Types.{Model, Monitor, Packet, Pair, deviceOf, watched, withLists}
+use Rattle.model.specs.Level.{addRssi}
+use Rattle.model.specs.Watch.{withSilent, gathered, packetMove}
+use Rattle.model.specs.Block.{padded}
+use Rattle.blocks.specs.Bounds.{Fits}
+use Rattle.blocks.specs.Block.{Measured}
+use Rattle.blocks.specs.Updates.{measured-pairs}
+use Rattle.blocks.specs.Ends.{all-set}
+use Rattle.blocks.specs.Fields.{windowOf}
+use Rattle.steps.specs.Typed.{pick-both, Sent}
+use Rattle.marks.specs.Marks.{refreshes, takes, mark}
+use Rattle.packets.specs.Changes.{freshened, collected, changed, move-changed}
+use Rattle.packets.specs.Writes.{same-row, fits-silent, fits-gathered, row-silent, row-gathered}
+
+-- the pair read past the end
+unfoldable pub noPair : Pair
+noPair =
+    record { handle = 0; kind = 0; address = []; silent = 0; ticks = 0; packets = 0; sum = 0; event = 0; adv = [] }
+
+-- pair i of a state, and the state with another in its place
+unfoldable pub pairAt : Model → ℕ → Pair
+pairAt m i = getD (m .pairs) i noPair
+
+unfoldable pub withPair : Model → ℕ → Pair → Model
+withPair m i q = withLists m (m .mons) (set (m .pairs) i q)
+
+-- s is the block of the state m, and m has a pair i
+pub record AtPair (m : Model) (s : List ℕ) (i : ℕ) : Type 0 where
+  pub measured : Measured m
+  pub block : s ≡ padded m
+  pub within : i < length (m .pairs)
+
+all-at : (P : Pair → Type 0) (qs : List Pair) → All P qs → (i : ℕ) → i < length qs → P (getD qs i noPair)
+all-at P [] a i h = absurd (omega arith)
+all-at P (q ∷ qs) a zero h = a .0
+all-at P (q ∷ qs) a (suc i) h = all-at P qs (a .1) i (omega arith)
+
+pub pair-fits : {m : Model} {s : List ℕ} {i : ℕ} → AtPair m s i → Fits (pairAt m i)
+unfolding pairAt
+pair-fits {m} {s} {i} a = all-at Fits (m .pairs) (a .measured .fit) i (a .within)
+
+-- the count of ticks since a good packet starts anew, or is left
+module _ (m : Model) (s : List ℕ) (i a : ℕ) (w : AtPair m s i) where
+  pub refresh-done : {t : List ℕ} → a % 2 ≡ 1 → t ≡ put s (1176 + 56 * i + 8) (octetsOf 2 0)
+      → t ≡ padded (withPair m i (freshened a (pairAt m i)))
+  unfolding withPair freshened refreshes pairAt
+  refresh-done h e =
+      e ∙ ap (λ (l : List ℕ). put l (1176 + 56 * i + 8) (octetsOf 2 0)) (w .block)
+      ∙ row-silent m (w .measured) i noPair (w .within) (pair-fits w)
+      ∙ ap (λ (q : Pair). padded (withLists m (m .mons) (set (m .pairs) i q)))
+      (sym (pick-true (withSilent (getD (m .pairs) i noPair) 0) (getD (m .pairs) i noPair) (eq-eqb (a % 2) 1 h)))
+
+  pub refresh-left : (a % 2 ≡ 1 → ⊥) → s ≡ padded (withPair m i (freshened a (pairAt m i)))
+  unfolding withPair freshened refreshes pairAt
+  refresh-left h =
+      w .block ∙ same-row m (w .measured) i noPair
+      ∙ ap (λ (q : Pair). padded (withLists m (m .mons) (set (m .pairs) i q)))
+      (sym (pick-false (withSilent (getD (m .pairs) i noPair) 0) (getD (m .pairs) i noPair) (ne-eqb (a % 2) 1 h)))
+
+-- the window takes the packet, or is left
+module _ (m : Model) (s : List ℕ) (i a : ℕ) (p : Packet) (w : AtPair m s i) where
+  pub gather-done : {t : List ℕ} → Sent p → pairAt m i .packets < 4294967295 → a / 2 % 2 ≡ 1
+      → t ≡ put s (1176 + 56 * i + 11) (windowOf (little 4 s (1176 + 56 * i + 11) + 1)
+      (addRssi (little 8 s (1176 + 56 * i + 15)) (p .rssi)) (p .event) (p .adv))
+      → t ≡ padded (withPair m i (collected a p (pairAt m i)))
+  unfolding withPair collected takes pairAt
+  gather-done x r h e =
+      e ∙ ap (λ (l : List ℕ). put l (1176 + 56 * i + 11) (windowOf (little 4 l (1176 + 56 * i + 11) + 1)
+      (addRssi (little 8 l (1176 + 56 * i + 15)) (p .rssi)) (p .event) (p .adv))) (w .block)
+      ∙ row-gathered m (w .measured) i noPair (w .within) (pair-fits w) p x r
+      ∙ ap (λ (q : Pair). padded (withLists m (m .mons) (set (m .pairs) i q)))
+      (sym (pick-true (gathered p (getD (m .pairs) i noPair)) (getD (m .pairs) i noPair) (eq-eqb (a / 2 % 2) 1 h)))
+
+  pub gather-left : (a / 2 % 2 ≡ 1 → ⊥) → s ≡ padded (withPair m i (collected a p (pairAt m i)))
+  unfolding withPair collected takes pairAt
+  gather-left h =
+      w .block ∙ same-row m (w .measured) i noPair
+      ∙ ap (λ (q : Pair). padded (withLists m (m .mons) (set (m .pairs) i q)))
+      (sym (pick-false (gathered p (getD (m .pairs) i noPair)) (getD (m .pairs) i noPair) (ne-eqb (a / 2 % 2) 1 h)))
+
+-- a pair changed stays one that fits
+freshened-packets : (a : ℕ) (q : Pair) → freshened a q .packets ≡ q .packets
+unfolding freshened withSilent
+freshened-packets a q = pick-both (λ (r : Pair). r .packets ≡ q .packets) (refreshes a) _ _ (λ e. refl) (λ e. refl)
+
+freshened-fits : (a : ℕ) (q : Pair) → Fits q → Fits (freshened a q)
+unfolding freshened
+freshened-fits a q f = pick-both Fits (refreshes a) (withSilent q 0) q (λ e. fits-silent q f) (λ e. f)
+
+collected-fits : (a : ℕ) (p : Packet) (q : Pair) → Sent p → Fits q → q .packets < 4294967295 → Fits (collected a p q)
+unfolding collected
+collected-fits a p q t f h =
+    pick-both Fits (takes a) (gathered p q) q (λ e. fits-gathered p q t f h) (λ e. f)
+
+pub moved-fits : (mons : List (ℕ × Monitor)) (p : Packet) (q : Pair) → Sent p → Fits q → q .packets < 4294967295
+    → Fits (packetMove mons p q)
+unfolding changed
+moved-fits mons p q t f h =
+    let a : ℕ = mark (find mons (q .handle)) p in
+    subst Fits (sym (move-changed mons p q))
+    (pick-both Fits (sames (deviceOf p) (watched q)) (collected a p (freshened a q)) q
+    (λ e. collected-fits a p (freshened a q) t (freshened-fits a q f) (rw (freshened-packets a q) h))
+    (λ e. f))
+
+-- both, one after the other
+pub change-both : (m : Model) (s : List ℕ) (i a : ℕ) (p : Packet) {u t : List ℕ} → AtPair m s i → Sent p
+    → pairAt m i .packets < 4294967295
+    → u ≡ padded (withPair m i (freshened a (pairAt m i)))
+    → ((n : Model) → AtPair n u i → pairAt n i .packets < 4294967295
+    → t ≡ padded (withPair n i (collected a p (pairAt n i))))
+    → t ≡ padded (withPair m i (changed a p (pairAt m i)))
+unfolding withPair withLists changed pairAt
+change-both m s i a p {u} {t} w x r e f =
+    let q : Pair = getD (m .pairs) i noPair in
+    let qs : List Pair = set (m .pairs) i (freshened a q) in
+    let n : Model = withLists m (m .mons) qs in
+    let l : length qs ≡ length (m .pairs) = length-set (m .pairs) i (freshened a q) in
+    let g : getD qs i noPair ≡ freshened a q = getD-set-same (m .pairs) i (freshened a q) noPair (w .within) in
+    let k : Measured n =
+    measured-pairs m (w .measured) qs
+    (all-set (m .pairs) (w .measured .fit) i (freshened a q) (freshened-fits a q (pair-fits w)))
+    (omega (arith, w .measured .pairs-most)) in
+    let v : AtPair n u i = record { measured = k; block = e; within = omega (arith, w .within) } in
+    f n v (rw (g, freshened-packets a q) r)
+    ∙ ap (λ (y : Pair). padded (withLists m (m .mons) (set qs i (collected a p y)))) g
+    ∙ ap (λ (y : List Pair). padded (withLists m (m .mons) y)) (set-set (m .pairs) i (freshened a q) (collected a p
+    (freshened a q)))

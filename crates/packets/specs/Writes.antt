@@ -1,0 +1,198 @@
+-- Writes inside the pair rows of a block: a pair changed, a pair at its start. Document 01, The image (A2), Watching,
+-- by history. Assumes nothing.
+use Prim.Native.Nat.{ℕ, _+_, _-_, _*_, _/_, _%_, _≤_, _<_}
+use mathlib.Core.Path.{_≡_, refl, sym, ap, _∙_}
+use mathlib.Core.List.{List, [], _∷_, _++_}
+use native.Mathlib.Omega.{arith}
+use native.Mathlib.Nat.{add-zero}
+use lib.ListN.{length, take, drop, getD, set, length-drop, take-append-drop}
+use lib.Seq.{length-take-le, drop-drop, set-getD}
+use Rattle.laws.specs.Loops.{every-nil}
+use Rattle.laws.specs.Put.{put, put-left, put-right, length-put}
+use Rattle.laws.specs.Rows.{row, put-whole}
+use Rattle.octets.specs.Little.{little, octetsOf, value, length-octets, octets-value}
+use Rattle.model.specs.Types.{Model, Packet, Pair, device, deviceOf, withLists}
+use Rattle.model.specs.Level.{addRssi}
+use Rattle.model.specs.Watch.{withSilent, gathered, startPair}
+use Rattle.model.specs.Image.{pairRow, pairIn}
+use Rattle.model.specs.Block.{padTo, padded}
+use Rattle.blocks.specs.Bounds.{Fits}
+use Rattle.blocks.specs.Places.{pairIn-place}
+use Rattle.blocks.specs.Block.{Measured, length-padded, row-pairs, row-pairs-zero}
+use Rattle.blocks.specs.Ends.{change-pair, add-pair}
+use Rattle.blocks.specs.Fields.{windowOf, length-window, put-silent, put-gathered, put-start}
+use Rattle.steps.specs.Typed.{Sent}
+use Rattle.packets.specs.Keys.{deviceNumber, device-octets, device-seven, little-pairs}
+
+-- a write inside a part is that part, with the write in it, written whole
+pub put-inside : {A : Type 0} (t : List A) (at n off : ℕ) (ys : List A) → at + n ≤ length t → off + length ys ≤ n
+    → put t (at + off) ys ≡ put t at (put (take n (drop at t)) off ys)
+put-inside {A} t at n off ys h b =
+    let u : List A = take at t in
+    let v : List A = take n (drop at t) in
+    let w : List A = drop n (drop at t) in
+    let lu : length u ≡ at = length-take-le at t (omega arith) in
+    let ld : length (drop at t) ≡ length t - at = length-drop at t in
+    let lv : length v ≡ n = length-take-le n (drop at t) (omega arith) in
+    let s : t ≡ u ++ (v ++ w) =
+    sym (take-append-drop at t) ∙ ap (λ (x : List A). u ++ x) (sym (take-append-drop n (drop at t))) in
+    let lp : length (put v off ys) ≡ length v = length-put v off ys (omega arith) in
+    let go : (x : List A) → t ≡ x → x ≡ u ++ (v ++ w) → put t (at + off) ys ≡ u ++ (put v off ys ++ w) =
+    λ x e f. ap (λ (y : List A). put y (at + off) ys) (e ∙ f)
+    ∙ ap (λ (k : ℕ). put (u ++ (v ++ w)) (k + off) ys) (sym lu)
+    ∙ put-right u (v ++ w) off ys
+    ∙ ap (λ (y : List A). u ++ y) (put-left v w off ys (omega arith)) in
+    let z : at ≡ length u + 0 = sym lu ∙ sym (add-zero (length u)) in
+    let back : put t at (put v off ys) ≡ u ++ (put v off ys ++ w) =
+    ap (λ (y : List A). put y at (put v off ys)) s
+    ∙ ap (λ (k : ℕ). put (u ++ (v ++ w)) k (put v off ys)) z
+    ∙ put-right u (v ++ w) 0 (put v off ys)
+    ∙ ap (λ (y : List A). u ++ y) (put-left v w 0 (put v off ys) (omega arith)
+    ∙ ap (λ (y : List A). y ++ w) (put-whole v (put v off ys) (sym lp))) in
+    go (u ++ (v ++ w)) s refl ∙ sym back
+
+-- the row of pair i, as a part of the block
+pub part-row : (s : List ℕ) (i : ℕ) → take 56 (drop (1176 + 56 * i) s) ≡ row 56 i (drop 1176 s)
+unfolding row
+part-row s i = ap (λ (l : List ℕ). take 56 l) (sym (drop-drop (56 * i) 1176 s))
+
+module _ (m : Model) (f : Measured m) where
+  -- a write inside the row of pair i that makes it another pair's
+  pub put-row : (i : ℕ) (d q : Pair) → Fits q → i < length (m .pairs) → (off : ℕ) (ys : List ℕ) → off + length ys ≤ 56
+      → put (padTo 56 (pairRow (getD (m .pairs) i d))) off ys ≡ padTo 56 (pairRow q)
+      → put (padded m) (1176 + 56 * i + off) ys ≡ padded (withLists m (m .mons) (set (m .pairs) i q))
+  put-row i d q g b off ys h e =
+      let n : length (padded m) ≡ 4761 = length-padded m f in
+      let k : length (m .pairs) ≤ 64 = f .pairs-most in
+      put-inside (padded m) (1176 + 56 * i) 56 off ys (omega arith) h
+      ∙ ap (λ (r : List ℕ). put (padded m) (1176 + 56 * i) (put r off ys)) (part-row (padded m) i ∙ row-pairs m f i d b)
+      ∙ ap (λ (r : List ℕ). put (padded m) (1176 + 56 * i) r) e
+      ∙ change-pair m f i q g b
+
+  -- a pair written over itself
+  pub same-row : (i : ℕ) (d : Pair) → padded m ≡ padded (withLists m (m .mons) (set (m .pairs) i (getD (m .pairs) i d)))
+  unfolding withLists
+  same-row i d = ap (λ (qs : List Pair). padded (withLists m (m .mons) qs)) (sym (set-getD (m .pairs) i d))
+
+-- a pair with other ticks, with one packet more, at its start, fits its row
+pub fits-silent : (q : Pair) → Fits q → Fits (withSilent q 0)
+unfolding withSilent
+fits-silent q f =
+    record {
+      handle-most = f .handle-most;
+      kind-most = f .kind-most;
+      address-length = f .address-length;
+      address-octets = f .address-octets;
+      silent-most = omega arith;
+      ticks-most = f .ticks-most;
+      packets-most = f .packets-most;
+      sum-most = f .sum-most;
+      event-most = f .event-most;
+      adv-most = f .adv-most;
+      adv-octets = f .adv-octets;
+    }
+
+pub fits-gathered : (p : Packet) (q : Pair) → Sent p → Fits q → q .packets < 4294967295 → Fits (gathered p q)
+unfolding gathered addRssi
+fits-gathered p q t f h =
+    record {
+      handle-most = f .handle-most;
+      kind-most = f .kind-most;
+      address-length = f .address-length;
+      address-octets = f .address-octets;
+      silent-most = f .silent-most;
+      ticks-most = f .ticks-most;
+      packets-most = omega arith;
+      sum-most = native.Mathlib.Nat.mod-lt _ (omega arith);
+      event-most = t .event-most;
+      adv-most = t .adv-short;
+      adv-octets = t .adv-octets;
+    }
+
+pub fits-start : (h : ℕ) (p : Packet) → h < 16 → Sent p → Fits (startPair h p)
+unfolding startPair
+fits-start h p b t =
+    record {
+      handle-most = b;
+      kind-most = t .kind-most;
+      address-length = t .address-six;
+      address-octets = t .address-octets;
+      silent-most = omega arith;
+      ticks-most = omega arith;
+      packets-most = omega arith;
+      sum-most = omega arith;
+      event-most = omega arith;
+      adv-most = omega arith;
+      adv-octets = every-nil Rattle.octets.specs.Little.isOctet;
+    }
+
+-- the writes of one row: the ticks since a good packet, the window from the packets on
+module _ (m : Model) (f : Measured m) (i : ℕ) (d : Pair) (b : i < length (m .pairs)) (g : Fits (getD
+    (m .pairs) i d)) where
+  pub row-silent : put (padded m) (1176 + 56 * i + 8) (octetsOf 2 0)
+      ≡ padded (withLists m (m .mons) (set (m .pairs) i (withSilent (getD (m .pairs) i d) 0)))
+  row-silent =
+      put-row m f i d (withSilent (getD (m .pairs) i d) 0) (fits-silent (getD (m .pairs) i d) g) b 8 (octetsOf 2 0)
+      (rw (length-octets 2 0) (omega arith))
+      (put-silent (getD (m .pairs) i d) (g .address-length) 0)
+
+  pub read-packets : little 4 (padded m) (1176 + 56 * i + 11) ≡ getD (m .pairs) i d .packets
+  unfolding pairIn
+  read-packets =
+      little-pairs m f i 4 11 d b (omega arith) ∙ ap (λ (q : Pair). q .packets) (pairIn-place (getD (m .pairs) i d) g)
+
+  pub read-sum : little 8 (padded m) (1176 + 56 * i + 15) ≡ getD (m .pairs) i d .sum
+  unfolding pairIn
+  read-sum =
+      little-pairs m f i 8 15 d b (omega arith) ∙ ap (λ (q : Pair). q .sum) (pairIn-place (getD (m .pairs) i d) g)
+
+  pub row-gathered : (p : Packet) → Sent p → getD (m .pairs) i d .packets < 4294967295
+      → put (padded m) (1176 + 56 * i + 11)
+      (windowOf (little 4 (padded m) (1176 + 56 * i + 11) + 1) (addRssi (little 8 (padded m) (1176 + 56 * i + 15))
+      (p .rssi))
+      (p .event) (p .adv))
+      ≡ padded (withLists m (m .mons) (set (m .pairs) i (gathered p (getD (m .pairs) i d))))
+  row-gathered p t h =
+      let q : Pair = getD (m .pairs) i d in
+      let w : List ℕ = windowOf (q .packets + 1) (addRssi (q .sum) (p .rssi)) (p .event) (p .adv) in
+      let n : length w ≡ 45 = length-window (q .packets + 1) (addRssi (q .sum) (p .rssi)) (p .event) (p .adv)
+      (t .adv-short) in
+      ap (λ (k : ℕ). put (padded m) (1176 + 56 * i + 11) (windowOf (k + 1)
+      (addRssi (little 8 (padded m) (1176 + 56 * i + 15)) (p .rssi)) (p .event) (p .adv))) read-packets
+      ∙ ap (λ (k : ℕ). put (padded m) (1176 + 56 * i + 11) (windowOf (q .packets + 1) (addRssi k (p .rssi))
+      (p .event) (p .adv)))
+      read-sum
+      ∙ put-row m f i d (gathered p q) (fits-gathered p q t g h) b 11 w (omega arith)
+      (put-gathered q (g .address-length) p (g .adv-most) (t .adv-short))
+
+-- a start: its key written over the empty row behind the pairs, and the number of pairs
+pub key-octets : (h : ℕ) (p : Packet) → h < 16 → Sent p → octetsOf 8 (h + 256 * deviceNumber p)
+    ≡ h ∷ p .kind ∷ p .address
+unfolding deviceNumber deviceOf device octetsOf
+key-octets h p b t =
+    let m : (h + 256 * value (p .kind ∷ p .address)) % 256 ≡ h = omega arith in
+    let d : (h + 256 * value (p .kind ∷ p .address)) / 256 ≡ value (p .kind ∷ p .address) = omega arith in
+    let n : length (p .kind ∷ p .address) ≡ 7 = device-seven p t in
+    let o : octetsOf 7 (value (p .kind ∷ p .address)) ≡ p .kind ∷ p .address =
+    ap (λ (k : ℕ). octetsOf k (value (p .kind ∷ p .address))) (sym n)
+    ∙ octets-value (p .kind ∷ p .address) (device-octets p t) in
+    rw (m, d) (ap (λ (l : List ℕ). h ∷ l) o)
+
+pub row-start : (m : Model) → Measured m → (h : ℕ) (p : Packet) → h < 16 → Sent p → length (m .pairs) < 64
+    → put (put (padded m) (1176 + 56 * length (m .pairs)) (octetsOf 8 (h + 256 * deviceNumber p))) 4760
+    ((length (m .pairs) + 1) ∷ [])
+    ≡ padded (withLists m (m .mons) (m .pairs ++ (startPair h p ∷ [])))
+row-start m f h p b t k =
+    let c : ℕ = length (m .pairs) in
+    let n : length (padded m) ≡ 4761 = length-padded m f in
+    let z : 1176 + 56 * c ≡ 1176 + 56 * c + 0 = omega arith in
+    let ks : List ℕ = h ∷ p .kind ∷ p .address in
+    let e : put (padded m) (1176 + 56 * c) (octetsOf 8 (h + 256 * deviceNumber p))
+    ≡ put (padded m) (1176 + 56 * c) (padTo 56 (pairRow (startPair h p))) =
+    ap (λ (l : List ℕ). put (padded m) (1176 + 56 * c) l) (key-octets h p b t)
+    ∙ ap (λ (j : ℕ). put (padded m) j ks) z
+    ∙ put-inside (padded m) (1176 + 56 * c) 56 0 ks (omega arith) (omega (arith, t .address-six))
+    ∙ ap (λ (r : List ℕ). put (padded m) (1176 + 56 * c) (put r 0 ks))
+    (part-row (padded m) c ∙ row-pairs-zero m f c (omega arith) k)
+    ∙ ap (λ (r : List ℕ). put (padded m) (1176 + 56 * c) r) (put-start h p (t .address-six)) in
+    ap (λ (s : List ℕ). put s 4760 ((c + 1) ∷ [])) e ∙ add-pair m f (startPair h p) (fits-start h p b t) k

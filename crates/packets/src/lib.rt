@@ -1,0 +1,316 @@
+// A packet: what it does to the pairs held, the watches that it starts, and what it writes (document 01, Watching, by history). The
+// crate marks asks the monitors, and keeps what each says of the packet as one octet a handle. Then the rows of the pairs held are
+// changed in place, the starts appended behind them, and the answer written.
+ghost use Prim.Native.Nat.{ℕ, _+_, _*_, _/_, _≤_, _<_};
+ghost use mathlib.Core.Path.{_≡_};
+ghost use mathlib.Core.Bool.{Bool, true, false, _&&_};
+ghost use mathlib.Core.List.{List, [], _∷_};
+ghost use lib.ListN.{length, drop, getD};
+ghost use Rattle.laws.specs.Put.{put};
+ghost use Rattle.laws.specs.Loops.{each, when};
+ghost use Rattle.octets.specs.Little.{little, octetsOf};
+ghost use Rattle.model.specs.Level.{extended};
+ghost use Rattle.model.specs.Types.{Model, Packet, deviceOf};
+ghost use Rattle.sessions.specs.Machine.{lastNumber, answerRoom};
+ghost use Rattle.model.specs.Frames.{isPacket, packetOf, packet as packetFrame};
+ghost use Rattle.model.specs.Sound.{soundModel};
+ghost use Rattle.model.specs.Watch.{packetMove, holds, turns, reported};
+ghost use Rattle.model.specs.Events.{startEvent, packetReport};
+ghost use Rattle.model.specs.Block.{padded};
+ghost use Rattle.steps.specs.Typed.{Sent};
+ghost use Rattle.stepped.specs.Stepped.{Stepped};
+ghost use Rattle.marks.specs.Marks.{tells};
+ghost use Rattle.marks.specs.Fields.{Framed};
+ghost use Rattle.packets.specs.Changes.{freshened, collected, changed};
+ghost use Rattle.packets.specs.Keys.{deviceNumber};
+ghost use Rattle.packets.specs.Windows.{takenBy};
+ghost use Rattle.packets.specs.Moves.{AtPair, pairAt, withPair};
+ghost use Rattle.packets.specs.Held.{Given};
+ghost use Rattle.packets.specs.Starts.{Holding, Sought, Turned, after};
+ghost use Rattle.packets.specs.Whole.{Begun, afterMoves, afterStarts, lengthsFit};
+ghost use Rattle.packets.specs.Reports.{anyFrom, wantsAt};
+ghost use Rattle.packets.specs.Answers.{Wrote};
+
+// An RSSI octet as a number of 8 octets in two's complement.
+fn extend(o: u8) -> u64
+    ensures { λ r. ⌜ r ≡ extended o ⌝ }
+{
+    let x = o as u64;
+    if o < 128 {
+        return x;
+    }
+    x + 18446744073709551360
+}
+
+// A window that begins at an index takes the packet: one packet more, its RSSI in the sum, its event type and data.
+fn gather_at(s: &mut [u8], at: usize, payload: &[u8])
+    requires { ⌜ (at + 45 ≤ length (now s)) × Framed (now payload) ⌝ }
+    ensures { λ _. ⌜ now (s .exit) ≡ put (now (s .entry)) at (takenBy (packetOf (now (payload .entry))) (now (s .entry)) at) ⌝ }
+{
+    let n = marks::index(payload[8]);
+    let end = 9 + n;
+    let count = octets::get32(s, at);
+    let sum = octets::get64(s, at + 4);
+    octets::put32(s, at, std::num::wrapping_add_u32(count, 1));
+    octets::put64(
+        s,
+        at + 4,
+        std::num::wrapping_add_u64(sum, extend(payload[end])),
+    );
+    s[at + 12] = payload[0];
+    s[at + 13] = payload[8];
+    parts::copy(s, at + 14, &payload[9..end]);
+    parts::fill(s, at + 14 + n, 31 - n, 0);
+}
+
+// The count of ticks of pair i starts anew, where its handle's octet says so.
+fn refresh(s: &mut [u8], i: usize, a: u8)
+    requires { ⌜ (length (now s) ≡ 4761) × (i < 64) ⌝ }
+    ensures { λ _. ⌜ ((m : Model) → AtPair m (now (s .entry)) i → now (s .exit) ≡ padded (withPair m i (freshened a (pairAt m i)))) ⌝ }
+{
+    if a % 2 == 1 {
+        octets::put16(s, 1176 + 56 * i + 8, 0);
+    }
+}
+
+// The window of pair i takes the packet, where its handle's octet says so.
+fn gather(s: &mut [u8], i: usize, a: u8, payload: &[u8])
+    requires { ⌜ (length (now s) ≡ 4761) × (i < 64) × Framed (now payload) ⌝ }
+    ensures { λ _. ⌜ ((m : Model) → AtPair m (now (s .entry)) i → Sent (packetOf (now (payload .entry))) → pairAt m i .packets < 4294967295 → now (s .exit) ≡ padded (withPair m i (collected a (packetOf (now (payload .entry))) (pairAt m i)))) ⌝ }
+{
+    if a / 2 % 2 == 1 {
+        gather_at(s, 1176 + 56 * i + 11, payload);
+    }
+}
+
+fn change_row(s: &mut [u8], i: usize, a: u8, payload: &[u8])
+    requires { ⌜ (length (now s) ≡ 4761) × (i < 64) × Framed (now payload) ⌝ }
+    ensures { λ _. ⌜ ((m : Model) → AtPair m (now (s .entry)) i → Sent (packetOf (now (payload .entry))) → pairAt m i .packets < 4294967295 → now (s .exit) ≡ padded (withPair m i (changed a (packetOf (now (payload .entry))) (pairAt m i)))) ⌝ }
+{
+    refresh(s, i, a);
+    gather(s, i, a, payload);
+}
+
+// Pair i over the packet: changed where it is a pair of the packet's device. A row opens with its key, the handle and the device.
+fn move_row(s: &mut [u8], i: usize, acts: &[u8], payload: &[u8], dev: u64)
+    requires { ⌜ (length (now s) ≡ 4761) × (i < 64) × (length (now acts) ≡ 16) × Framed (now payload) ⌝ }
+    ensures { λ _. ⌜ ((m : Model) → AtPair m (now (s .entry)) i → Given (m .mons) (packetOf (now (payload .entry))) (now (acts .entry)) dev → pairAt m i .packets < 4294967295 → now (s .exit) ≡ padded (withPair m i (packetMove (m .mons) (packetOf (now (payload .entry))) (pairAt m i)))) ⌝ }
+{
+    let key = octets::get64(s, 1176 + 56 * i);
+    if key / 256 != dev {
+        return;
+    }
+    let h = (key % 256) as usize;
+    if h < 16 {
+        change_row(s, i, acts[h], payload);
+    }
+}
+
+// The n pairs held over the packet.
+fn move_rows(s: &mut [u8], n: usize, acts: &[u8], payload: &[u8], dev: u64)
+    requires { ⌜ (length (now s) ≡ 4761) × (n ≤ 64) × (length (now acts) ≡ 16) × Framed (now payload) ⌝ }
+    ensures { λ _. ⌜ ((m : Model) → Begun m (now (s .entry)) (now (payload .entry)) (now (acts .entry)) dev n → now (s .exit) ≡ padded (afterMoves m (packetOf (now (payload .entry))))) ⌝ }
+{
+    let mut i = 0;
+    while i < n {
+        move_row(s, i, acts, payload, dev);
+        i += 1;
+    }
+}
+
+// Whether a pair with that key is among the n pairs held.
+fn is_held(s: &[u8], n: usize, key: u64) -> bool
+    requires { ⌜ (length (now s) ≡ 4761) × (n ≤ 64) ⌝ }
+    ensures { λ r. ⌜ ((m : Model) (p : Packet) (h : ℕ) → Holding m (now (s .entry)) n → Sought p h key → r ≡ holds (m .pairs) h (deviceOf p)) ⌝ }
+{
+    let mut i = 0;
+    while i < n {
+        if octets::get64(s, 1176 + 56 * i) == key {
+            return true;
+        }
+        i += 1;
+    }
+    false
+}
+
+// A pair at its start behind the n pairs held: its key over an empty row, and the number of pairs.
+fn push_row(s: &mut [u8], n: usize, key: u64)
+    requires { ⌜ (length (now s) ≡ 4761) × (n < 64) ⌝ }
+    ensures { λ _. ⌜ now (s .exit) ≡ put (put (now (s .entry)) (1176 + 56 * n) (octetsOf 8 key)) 4760 ((n + 1) ∷ []) ⌝ }
+{
+    octets::put64(s, 1176 + 56 * n, key);
+    s[4760] = (n + 1) as u8;
+}
+
+// One handle's turn: a start takes its room at once. Answers the number of pairs held.
+fn start_at(s: &mut [u8], n: usize, h: usize, a: u8, dev: u64) -> usize
+    requires { ⌜ (length (now s) ≡ 4761) × (n ≤ 64) × (h < 16) × (dev < 72057594037927936) ⌝ }
+    ensures { λ r. ⌜ (n ≤ r) × (r ≤ 64) × ((m : Model) (p : Packet) → Holding m (now (s .entry)) n → Sent p → dev ≡ deviceNumber p → Turned m (after a h p (m .pairs)) (now (s .exit)) r) ⌝ }
+{
+    if a / 4 % 2 != 1 {
+        return n;
+    }
+    if n >= 64 {
+        return n;
+    }
+    let key = h as u64 + 256 * dev;
+    if is_held(s, n, key) {
+        return n;
+    }
+    push_row(s, n, key);
+    n + 1
+}
+
+// The turns of the handles 0 to 15.
+fn start_all(s: &mut [u8], n: usize, acts: &[u8], dev: u64) -> usize
+    requires { ⌜ (length (now s) ≡ 4761) × (n ≤ 64) × (length (now acts) ≡ 16) × (dev < 72057594037927936) ⌝ }
+    ensures { λ r. ⌜ (n ≤ r) × (r ≤ 64) × ((m : Model) (p : Packet) → Holding m (now (s .entry)) n → Given (m .mons) p (now (acts .entry)) dev → Turned m (turns (m .mons) p 16 (m .pairs)) (now (s .exit)) r) ⌝ }
+{
+    let mut k = n;
+    let mut h = 0;
+    while h < 16 {
+        k = start_at(s, k, h, acts[h], dev);
+        h += 1;
+    }
+    k
+}
+
+// Whether the monitor of a handle has the packet reported at once: sampling 0 and the pair under watch.
+fn is_wanted_at(s: &[u8], n: usize, h: usize, a: u8, dev: u64) -> bool
+    requires { ⌜ (length (now s) ≡ 4761) × (n ≤ 64) × (h < 16) × (dev < 72057594037927936) ⌝ }
+    ensures { λ r. ⌜ ((m : Model) (p : Packet) → Holding m (now (s .entry)) n → Sent p → dev ≡ deviceNumber p → r ≡ (tells a && holds (m .pairs) h (deviceOf p))) ⌝ }
+{
+    if a / 8 % 2 != 1 {
+        return false;
+    }
+    is_held(s, n, h as u64 + 256 * dev)
+}
+
+fn is_wanted(s: &[u8], n: usize, acts: &[u8], dev: u64) -> bool
+    requires { ⌜ (length (now s) ≡ 4761) × (n ≤ 64) × (length (now acts) ≡ 16) × (dev < 72057594037927936) ⌝ }
+    ensures { λ r. ⌜ ((m : Model) (p : Packet) → Holding m (now (s .entry)) n → Sent p → dev ≡ deviceNumber p → r ≡ anyFrom (wantsAt (now (acts .entry)) (m .pairs) p) 0 16) ⌝ }
+{
+    let mut h = 0;
+    while h < 16 {
+        if is_wanted_at(s, n, h, acts[h], dev) {
+            return true;
+        }
+        h += 1;
+    }
+    false
+}
+
+// Whether the packet is reported: n pairs were held before it, and k are now.
+fn is_told(s: &[u8], n: usize, k: usize, acts: &[u8], dev: u64) -> bool
+    requires { ⌜ (length (now s) ≡ 4761) × (k ≤ 64) × (length (now acts) ≡ 16) × (dev < 72057594037927936) ⌝ }
+    ensures { λ r. ⌜ ((m : Model) (e l : List ℕ) → Begun m e l (now (acts .entry)) dev n → Holding (afterStarts m (packetOf l)) (now (s .entry)) k → r ≡ reported m (packetOf l)) ⌝ }
+{
+    if s[4] == 0 {
+        return true;
+    }
+    if n < k {
+        return true;
+    }
+    is_wanted(s, k, acts, dev)
+}
+
+// The start event of pair i, written into out at an index. Answers how many octets that is.
+fn put_start(s: &[u8], i: usize, out: &mut [u8], at: usize) -> usize
+    requires { ⌜ (length (now s) ≡ 4761) × (i < 64) ⌝ }
+    ensures { λ r. ⌜ (r ≤ 44) × ((m : Model) → AtPair m (now (s .entry)) i → at + 44 ≤ length (now (out .entry)) → Wrote (now (out .entry)) at (startEvent (m .prefix) (pairAt m i)) (now (out .exit)) r) ⌝ }
+{
+    let end = 8 + marks::clamp(s[7], 32);
+    let from = 1176 + 56 * i;
+    let to = from + 8;
+    events::put_event(out, at, &s[8..end], &s[from..to], 1)
+}
+
+// The start events of the pairs from an index on.
+fn put_starts(s: &[u8], from: usize, count: usize, out: &mut [u8]) -> usize
+    requires { ⌜ (length (now s) ≡ 4761) × (from + count ≤ 64) × (2880 ≤ length (now out)) ⌝ }
+    ensures { λ r. ⌜ (r ≤ 2816) × ((m : Model) → Holding m (now (s .entry)) (from + count) → Wrote (now (out .entry)) 0 (each (startEvent (m .prefix)) (drop from (m .pairs))) (now (out .exit)) r) ⌝ }
+{
+    let mut w = 0;
+    let mut j = 0;
+    while j < count {
+        let r = put_start(s, from + j, out, w);
+        w += r;
+        j += 1;
+    }
+    w
+}
+
+// The packet's report, where it is told.
+fn put_told(out: &mut [u8], at: usize, told: bool, payload: &[u8]) -> usize
+    requires { ⌜ (at + 45 ≤ length (now out)) × Framed (now payload) ⌝ }
+    ensures { λ r. ⌜ (r ≤ 45) × Wrote (now (out .entry)) at (when told (packetReport (packetOf (now (payload .entry))))) (now (out .exit)) r ⌝ }
+{
+    if told {
+        let end = 9 + marks::index(payload[8]);
+        return events::put_report(
+            out,
+            at,
+            payload[0],
+            &payload[1..8],
+            &payload[9..end],
+            payload[end],
+        );
+    }
+    0
+}
+
+// The position moves.
+fn advance(s: &mut [u8])
+    requires { ⌜ length (now s) ≡ 4761 ⌝ }
+    ensures { λ _. ⌜ now (s .exit) ≡ put (now (s .entry)) 0 (octetsOf 4 (little 4 (now (s .entry)) 0 + 1)) ⌝ }
+{
+    let position = octets::get32(s, 0);
+    octets::put32(s, 0, std::num::wrapping_add_u32(position, 1));
+}
+
+fn fits(s: &[u8], payload: &[u8], out: &[u8]) -> bool
+    ensures { λ r. ⌜ r ≡ lengthsFit (now (s .entry)) (now (payload .entry)) (now (out .entry)) ⌝ }
+{
+    if s.len() != 4761 {
+        return false;
+    }
+    if out.len() < 2880 {
+        return false;
+    }
+    marks::is_framed(payload)
+}
+
+fn step(s: &mut [u8], payload: &[u8], out: &mut [u8]) -> usize
+    requires { ⌜ (length (now s) ≡ 4761) × (2880 ≤ length (now out)) × Framed (now payload) ⌝ }
+    ensures { λ r. ⌜ (r ≤ 2861) × ((m : Model) → soundModel m ≡ true → now (s .entry) ≡ padded m → m .position < 4294967295 → isPacket (now (payload .entry)) ≡ true → Stepped m (packetFrame (packetOf (now (payload .entry)))) (now (s .exit)) (now (out .entry)) (now (out .exit)) r) ⌝ }
+{
+    let mut acts = [0u8; 16];
+    marks::mark_all(&mut acts, s, payload);
+    let dev = octets::get64(payload, 0) / 256;
+    let n = marks::clamp(s[4760], 64);
+    move_rows(s, n, &acts, payload, dev);
+    let k = start_all(s, n, &acts, dev);
+    let told = is_told(s, n, k, &acts, dev);
+    let w = put_starts(s, n, k - n, out);
+    let r = put_told(out, w, told, payload);
+    advance(s);
+    w + r
+}
+
+// A packet frame, executed: the pairs of its device refreshed and their windows given the packet, the starts appended by handle,
+// the position moved; the start events and the report written into out. The payload is event type, address type, address (6),
+// data length n, n octets and RSSI. Answers how many octets were written.
+// Where the block is not of 4,761 octets, out has under 2,880, or the payload is not of 10 + n octets with n at most 31, nothing
+// is changed and the answer is 0. Else, for a block that is of no sound state before the last number, or a payload that is of no
+// packet frame, it is not settled here what the block and out hold and what is answered; the answer is at most the length of out.
+// Refusal 8 is not asked for: no window of a sound state is full before the last number (crate steps, never-eight).
+pub fn packet(s: &mut [u8], payload: &[u8], out: &mut [u8]) -> usize
+    ensures { λ r. ⌜ ((m : Model) → soundModel m ≡ true → now (s .entry) ≡ padded m → m .position < lastNumber → isPacket (now (payload .entry)) ≡ true → answerRoom ≤ length (now (out .entry)) → Stepped m (packetFrame (packetOf (now (payload .entry)))) (now (s .exit)) (now (out .entry)) (now (out .exit)) r) ⌝ }
+    ensures within { λ r. ⌜ r ≤ length (now (out .entry)) ⌝ }
+    ensures refused { λ r. ⌜ (lengthsFit (now (s .entry)) (now (payload .entry)) (now (out .entry)) ≡ false → (r ≡ 0) × (now (s .exit) ≡ now (s .entry)) × (now (out .exit) ≡ now (out .entry))) ⌝ }
+{
+    if !fits(s, payload, out) {
+        return 0;
+    }
+    step(s, payload, out)
+}

@@ -1,0 +1,296 @@
+-- The rows of a sound state stored in an empty block give the state's block. Document 01, The image. Assumes nothing.
+use Prim.Native.Nat.{ℕ, suc, _+_, _-_, _*_, _≤_, _<_}
+use mathlib.Core.Path.{_≡_, refl, sym, ap, _∙_}
+use mathlib.Core.Bool.{Bool, true}
+use mathlib.Core.List.{List, [], _∷_, _++_, append-assoc, append-nil, map}
+use mathlib.Core.Option.{some}
+use native.Mathlib.Omega.{arith}
+use borrow.Author.Tests.{lt-ltb, eq-eqb, ne-eqb}
+use lib.Dec.{leb}
+use lib.ListN.{length, take, drop, getD, replicate, length-append, length-replicate, replicate-append-replicate}
+use lib.Seq.{take-at}
+use Rattle.laws.specs.Tests.{pick-true}
+use Rattle.laws.specs.Put.{put, putIf, put-of, put-left}
+use Rattle.laws.specs.Loops.{every-nil, each, upTo}
+use Rattle.octets.specs.Little.{isOctet}
+use Rattle.model.specs.Accepted.{accepted}
+use Rattle.images.specs.Fits.{sound-fits}
+use Rattle.laws.specs.Rows.{flat, put-whole}
+use Rattle.lines.specs.Hex.{textOf}
+use Rattle.rule.specs.Base.{All, all-append}
+use Rattle.rule.specs.Engine.{find}
+use Rattle.model.specs.Types.{Model, Monitor, Pair, withLists, mostMonitors, mostPairs}
+use Rattle.model.specs.Sound.{soundModel}
+use Rattle.model.specs.Image.{headRow, monitorRow, pairRow, endRow, records, imageText}
+use Rattle.model.specs.Block.{padTo, headSize, monitorSize, pairSize, monitorPlace, monitorBlock, pairBlock, padded}
+use Rattle.blocks.specs.Rows.{length-headRow, length-monitorRow, length-pairRow, octets-cons}
+use Rattle.blocks.specs.Facts.{SoundMonitor, SoundMonitors, SoundModel, sound-facts, monitors-tail}
+use Rattle.blocks.specs.Bounds.{Fits, pairs-fit, sound-headRow, sound-monitorRow, fits-pairRow}
+use Rattle.blocks.specs.Monitors.{Short, length-full, put-monitorBlock}
+use Rattle.blocks.specs.Block.{Measured, measured, getD-count, length-head}
+use Rattle.blocks.specs.Updates.{put-monitors}
+use Rattle.blocks.specs.Ends.{add-pair}
+use Rattle.restore.specs.Lines.{monitor-own}
+use Rattle.restore.specs.Lines.{stored, storedMonitor, storedPair, storedAll}
+use Rattle.restore.specs.Lines.{name-head, name-monitor, name-pair, name-other}
+use Rattle.restore.specs.Rows.{Row}
+
+-- the octets of a row behind its name
+
+pub take-padTo : (n k : ℕ) (r : List ℕ) → length r ≤ k → k ≤ n → take k (padTo n r) ≡ padTo k r
+unfolding padTo
+take-padTo n k r h b =
+    let z : List ℕ = replicate (k - length r) 0 in
+    let y : List ℕ = replicate (n - k) 0 in
+    let e : k - length r + (n - k) ≡ n - length r = omega arith in
+    let s : replicate (n - length r) 0 ≡ z ++ y =
+    ap (λ (j : ℕ). replicate j 0) (sym e) ∙ sym (replicate-append-replicate (k - length r) (n - k) 0) in
+    let l : length z ≡ k - length r = length-replicate {A = ℕ} (k - length r) 0 in
+    let m : length (r ++ z) ≡ k = rw (length-append r z) (omega arith) in
+    rw (s, ← append-assoc r z y) (take-at (r ++ z) y k m)
+
+-- a name and a row in 72 octets: the row in the octets that its place has
+pub behind-name : (name k : ℕ) (r : List ℕ) → length r ≤ k → k ≤ 71 → take k (drop 1 (padTo 72 (name ∷ r))) ≡ padTo k r
+unfolding padTo
+behind-name name k r h b =
+    let e : 72 - suc (length r) ≡ 71 - length r = omega arith in
+    ap (λ (j : ℕ). take k (r ++ replicate j 0)) e ∙ take-padTo 71 k r h b
+
+pub name-of : (name : ℕ) (r : List ℕ) → getD (padTo 72 (name ∷ r)) 0 0 ≡ name
+unfolding padTo
+name-of name r = refl
+
+-- A0 in an empty block
+pub head-stored : (m : Model) → length (m .prefix) ≤ 32
+    → stored (replicate 4761 0) (padTo 72 (0xA0 ∷ headRow m)) ≡ padded (withLists m [] [])
+unfolding padded withLists headSize headRow monitorBlock monitorPlace monitorSize
+    pairBlock pairSize mostMonitors mostPairs upTo flat
+head-stored m h =
+    let n : length (headRow m) ≡ 8 + length (m .prefix) = length-headRow m in
+    let l : List ℕ = padTo 72 (0xA0 ∷ headRow m) in
+    let k : length (padTo 40 (headRow m)) ≡ 40 = length-head m h in
+    sym (name-head (replicate 4761 0) l (name-of 0xA0 (headRow m)) refl)
+    ∙ ap (λ (x : List ℕ). put (replicate 4761 0) 0 x) (behind-name 0xA0 40 (headRow m) (omega arith) (omega arith))
+    ∙ ap (λ (x : List ℕ). put x 0 (padTo 40 (headRow m))) (sym (replicate-append-replicate 40 4721 0))
+    ∙ put-left (replicate 40 0) (replicate 4721 0) 0 (padTo 40 (headRow m)) (omega arith)
+    ∙ ap (λ (x : List ℕ). x ++ replicate 4721 0) (put-whole (replicate 40 0) (padTo 40 (headRow m)) (sym k))
+
+-- monitors by handle, one more behind the others
+find-same : (l : List (ℕ × Monitor)) (h : ℕ) (n : Monitor) → All (λ y. y .0 < h) l
+    → find (l ++ ((h, n) ∷ [])) h ≡ some n
+find-same [] h n a = rw (eq-eqb h h refl)
+find-same (y ∷ l) h n a =
+    let b : y .0 < h = a .0 in
+    rw (ne-eqb (y .0) h (λ (e : y .0 ≡ h). omega arith)) (find-same l h n (a .1))
+
+find-other : (l : List (ℕ × Monitor)) (h g : ℕ) (n : Monitor) → (g ≡ h → ⊥) → find (l ++ ((h, n) ∷ [])) g ≡ find l g
+find-other [] h g n d = rw (ne-eqb h g (λ e. d (sym e)))
+find-other (y ∷ l) h g n d = rw (find-other l h g n d)
+
+all-below : (k j : ℕ) (l : List (ℕ × Monitor)) → k ≤ j → All (λ y. y .0 < k) l → All (λ y. y .0 < j) l
+all-below k j [] h a = tt
+all-below k j (y ∷ l) h a = (omega (arith, a .0), all-below k j l h (a .1))
+
+monitor-own-row : (s : List ℕ) (x : ℕ × Monitor) → x .0 < 16
+    → storedMonitor s (padTo 71 (monitorRow x)) ≡ put s (40 + 71 * x .0) (padTo 71 (monitorRow x))
+unfolding padTo monitorRow
+monitor-own-row s x b = sym (monitor-own s (padTo 71 (monitorRow x)) b (place-at s x))
+  where
+    place-at : (s : List ℕ) (x : ℕ × Monitor)
+        → put s (40 + 71 * x .0) (padTo 71 (monitorRow x))
+        ≡ put s (40 + 71 * getD (padTo 71 (monitorRow x)) 0 0) (padTo 71 (monitorRow x))
+    place-at s x = refl
+
+pair-behind : (s r : List ℕ) (n : ℕ) → getD s 4760 0 ≡ n → n < 64
+    → storedPair s r ≡ put (put s (1176 + 56 * n) r) 4760 ((n + 1) ∷ [])
+unfolding storedPair
+pair-behind s r n c b = rw c (pick-true _ s (lt-ltb n 64 b))
+
+module _ (m : Model) where
+  monitor-stored : (l : List (ℕ × Monitor)) (x : ℕ × Monitor) → Measured (withLists m l []) → All (λ y. y .0 < x .0) l
+      → x .0 < 16 → length (x .1 .condition) ≤ 64
+      → stored (padded (withLists m l [])) (padTo 72 (0xA1 ∷ monitorRow x)) ≡ padded (withLists m (l ++ (x ∷ [])) [])
+  unfolding withLists monitorPlace monitorSize
+  monitor-stored l x f a b c =
+      let w : Model = withLists m l [] in
+      let r : List ℕ = padTo 71 (monitorRow x) in
+      let n : length (monitorRow x) ≡ 7 + length (x .1 .condition) = length-monitorRow x in
+      let k : length r ≡ 71 = length-full x c in
+      let s : Short (l ++ (x ∷ [])) = all-append (λ y. length (y .1 .condition) ≤ 64) l (x ∷ []) (f .short) (c, tt) in
+      let p : put (monitorBlock l) (71 * x .0) r ≡ monitorBlock (l ++ (x ∷ [])) =
+      rw (find-same l (x .0) (x .1) a) at (put-monitorBlock l (l ++ (x ∷ [])) (f .short) s (x .0) b
+      (λ g d. find-other l (x .0) g (x .1) d)) in
+      let e : take 71 (drop 1 (padTo 72 (0xA1 ∷ monitorRow x))) ≡ r =
+      behind-name 0xA1 71 (monitorRow x) (omega arith) (omega arith) in
+      sym (name-monitor (padded w) (padTo 72 (0xA1 ∷ monitorRow x)) (name-of 0xA1 (monitorRow x)) refl)
+      ∙ ap (storedMonitor (padded w)) e
+      ∙ monitor-own-row (padded w) x b
+      ∙ put-monitors w f (l ++ (x ∷ [])) (71 * x .0) r (omega arith) p
+
+  monitors-stored : (l r : List (ℕ × Monitor)) (k : ℕ) → Measured (withLists m l []) → All (λ y. y .0 < k) l
+      → SoundMonitors k r
+      → storedAll (padded (withLists m l [])) (map (λ (x : ℕ × Monitor). 0xA1 ∷ monitorRow x) r)
+      ≡ padded (withLists m (l ++ r) [])
+  unfolding storedAll withLists
+  monitors-stored l [] k f a s = ap (λ (x : List (ℕ × Monitor)). padded (withLists m x [])) (sym (append-nil l))
+  monitors-stored l (x ∷ r) k f a s =
+      let h : k ≤ x .0 = s .handles .0 .0 in
+      let c : length (x .1 .condition) ≤ 64 = accepted (x .1) (s .monitors .0 .accept) .short in
+      let b : All (λ y. y .0 < x .0) l = all-below k (x .0) l h a in
+      let d : All (λ y. y .0 < suc (x .0)) (l ++ (x ∷ [])) =
+      all-append (λ y. y .0 < suc (x .0)) l (x ∷ []) (all-below k (suc (x .0)) l (omega arith) a) (omega arith, tt) in
+      let g : Measured (withLists m (l ++ (x ∷ [])) []) =
+      record {
+        prefix-most = f .prefix-most;
+        short = all-append (λ y. length (y .1 .condition) ≤ 64) l (x ∷ []) (f .short) (c, tt);
+        fit = tt;
+        pairs-most = omega arith;
+      } in
+      ap (λ (t : List ℕ). storedAll t (map (λ (y : ℕ × Monitor). 0xA1 ∷ monitorRow y) r))
+      (monitor-stored l x f b (s .handles .0 .1) c)
+      ∙ monitors-stored (l ++ (x ∷ [])) r (suc (x .0)) g d (monitors-tail k x r s)
+      ∙ ap (λ (y : List (ℕ × Monitor)). padded (withLists m y [])) (append-assoc l (x ∷ []) r)
+
+  -- pairs in start order, one more behind the others
+  pair-stored : (l : List (ℕ × Monitor)) (ps : List Pair) (q : Pair) → Measured (withLists m l ps) → Fits q
+      → length ps < 64
+      → stored (padded (withLists m l ps)) (padTo 72 (0xA2 ∷ pairRow q)) ≡ padded (withLists m l (ps ++ (q ∷ [])))
+  unfolding withLists
+  pair-stored l ps q f g b =
+      let w : Model = withLists m l ps in
+      let s : List ℕ = padded w in
+      let r : List ℕ = padTo 56 (pairRow q) in
+      let n : length (pairRow q) ≡ 25 + length (q .adv) = length-pairRow q (g .address-length) in
+      let c : getD s 4760 0 ≡ length ps = getD-count w f in
+      let k : length (q .adv) ≤ 31 = g .adv-most in
+      let e : take 56 (drop 1 (padTo 72 (0xA2 ∷ pairRow q))) ≡ r =
+      behind-name 0xA2 56 (pairRow q) (omega arith) (omega arith) in
+      sym (name-pair s (padTo 72 (0xA2 ∷ pairRow q)) (name-of 0xA2 (pairRow q)) refl)
+      ∙ ap (storedPair s) e
+      ∙ pair-behind s r (length ps) c b
+      ∙ add-pair w f q g b
+
+  pairs-stored : (l : List (ℕ × Monitor)) (ps qs : List Pair) → Measured (withLists m l ps) → All Fits qs
+      → length ps + length qs ≤ 64
+      → storedAll (padded (withLists m l ps)) (map (λ (q : Pair). 0xA2 ∷ pairRow q) qs)
+      ≡ padded (withLists m l (ps ++ qs))
+  unfolding storedAll withLists
+  pairs-stored l ps [] f a b = ap (λ (x : List Pair). padded (withLists m l x)) (sym (append-nil ps))
+  pairs-stored l ps (q ∷ qs) f a b =
+      let n : length (ps ++ (q ∷ [])) ≡ length ps + 1 = length-append ps (q ∷ []) in
+      let g : Measured (withLists m l (ps ++ (q ∷ []))) =
+      record {
+        prefix-most = f .prefix-most;
+        short = f .short;
+        fit = all-append Fits ps (q ∷ []) (f .fit) (a .0, tt);
+        pairs-most = omega arith;
+      } in
+      ap (λ (t : List ℕ). storedAll t (map (λ (p : Pair). 0xA2 ∷ pairRow p) qs))
+      (pair-stored l ps q f (a .0) (omega arith))
+      ∙ pairs-stored l (ps ++ (q ∷ [])) qs g (a .1) (omega arith)
+      ∙ ap (λ (x : List Pair). padded (withLists m l x)) (append-assoc ps (q ∷ []) qs)
+
+stored-append : (s : List ℕ) (rs ts : List (List ℕ)) → storedAll s (rs ++ ts) ≡ storedAll (storedAll s rs) ts
+unfolding storedAll
+stored-append s [] ts = refl
+stored-append s (r ∷ rs) ts = stored-append (stored s (padTo 72 r)) rs ts
+
+end-stored : (s r : List ℕ) → storedAll s ((0xAF ∷ r) ∷ []) ≡ s
+unfolding storedAll
+end-stored s r =
+    let e : getD (padTo 72 (0xAF ∷ r)) 0 0 ≡ 0xAF = name-of 0xAF r in
+    sym (name-other s (padTo 72 (0xAF ∷ r)) (λ (x : getD (padTo 72 (0xAF ∷ r)) 0 0 ≡ 0xA0). omega arith)
+    (λ (x : getD (padTo 72 (0xAF ∷ r)) 0 0 ≡ 0xA1). omega arith)
+    (λ (x : getD (padTo 72 (0xAF ∷ r)) 0 0 ≡ 0xA2). omega arith))
+
+-- The rows of a sound state, stored in an empty block one after another, give its block.
+pub records-stored : (m : Model) → soundModel m ≡ true → storedAll (replicate 4761 0) (records m) ≡ padded m
+unfolding records withLists storedAll
+records-stored m e =
+    let f : SoundModel m = sound-facts m e in
+    let g : Measured m = measured m e in
+    let ms : List (List ℕ) = map (λ (x : ℕ × Monitor). 0xA1 ∷ monitorRow x) (m .mons) in
+    let qs : List (List ℕ) = map (λ (q : Pair). 0xA2 ∷ pairRow q) (m .pairs) in
+    let z : List (List ℕ) = (0xAF ∷ endRow m) ∷ [] in
+    let a : Measured (withLists m [] []) = record {
+      prefix-most = g .prefix-most;
+      short = tt;
+      fit = tt;
+      pairs-most =
+          omega arith;
+    } in
+    let b : Measured (withLists m (m .mons) []) =
+    record { prefix-most = g .prefix-most; short = g .short; fit = tt; pairs-most = omega arith } in
+    ap (λ (t : List ℕ). storedAll t (ms ++ (qs ++ z))) (head-stored m (g .prefix-most))
+    ∙ stored-append (padded (withLists m [] [])) ms (qs ++ z)
+    ∙ ap (λ (t : List ℕ). storedAll t (qs ++ z)) (monitors-stored m [] (m .mons) 0 a tt (f .mons-sound))
+    ∙ stored-append (padded (withLists m (m .mons) [])) qs z
+    ∙ ap (λ (t : List ℕ). storedAll t z) (pairs-stored m (m .mons) [] (m .pairs) b (g .fit)
+    (omega (arith, g .pairs-most)))
+    ∙ end-stored (padded m) (endRow m)
+
+-- every row of a sound state is octets, at most 72 with its name
+
+all-map : {A : Type 0} (P : A → Type 0) (f : A → List ℕ) (l : List A) → All P l → ((a : A) → P a → Row (f a))
+    → All Row (map f l)
+all-map P f [] p h = tt
+all-map P f (a ∷ l) p h = (h a (p .0), all-map P f l (p .1) h)
+
+all-and : {A : Type 0} (P Q : A → Type 0) (l : List A) → All P l → All Q l → All (λ a. P a × Q a) l
+all-and P Q [] p q = tt
+all-and P Q (a ∷ l) p q = ((p .0, q .0), all-and P Q l (p .1) (q .1))
+
+monitor-row : (x : ℕ × Monitor) → ((0 ≤ x .0) × (x .0 < 16)) × SoundMonitor (x .1) → Row (0xA1 ∷ monitorRow x)
+monitor-row x p =
+    let b : x .0 < 16 = p .0 .1 in
+    let c : length (x .1 .condition) ≤ 64 = accepted (x .1) (p .1 .accept) .short in
+    record {
+      octets = octets-cons 0xA1 (monitorRow x) (omega arith) (sound-monitorRow x (omega arith) (p .1));
+      most = omega (arith, length-monitorRow x);
+    }
+
+pair-row : (q : Pair) → Fits q → Row (0xA2 ∷ pairRow q)
+pair-row q f =
+    record {
+      octets = octets-cons 0xA2 (pairRow q) (omega arith) (fits-pairRow q f);
+      most = omega (arith, length-pairRow q (f .address-length), f .adv-most);
+    }
+
+pub records-rows : (m : Model) → soundModel m ≡ true → All Row (records m)
+unfolding records endRow
+records-rows m e =
+    let f : SoundModel m = sound-facts m e in
+    let ms : List (List ℕ) = map (λ (x : ℕ × Monitor). 0xA1 ∷ monitorRow x) (m .mons) in
+    let qs : List (List ℕ) = map (λ (q : Pair). 0xA2 ∷ pairRow q) (m .pairs) in
+    let n : length (m .mons) ≤ 16 = sound-fits m e .most-mons in
+    let z : Row (0xAF ∷ endRow m) =
+    record {
+      octets = octets-cons 0xAF (endRow m) (omega arith)
+          (octets-cons (length (m .mons)) (length (m .pairs) ∷ []) (omega arith)
+          (octets-cons (length (m .pairs)) [] (omega (arith, f .pairs-most)) (every-nil isOctet)));
+      most = omega arith;
+    } in (
+      record {
+        octets = octets-cons 0xA0 (headRow m) (omega arith) (sound-headRow m f);
+        most = omega (arith, length-headRow m, f .prefix-most);
+      },
+      all-append Row ms (qs ++ ((0xAF ∷ endRow m) ∷ [])) (all-map _ (λ (x : ℕ × Monitor). 0xA1 ∷ monitorRow x) (m .mons)
+          (all-and (λ x. (0 ≤ x .0) × (x .0 < 16)) (λ x. SoundMonitor (x .1)) (m .mons) (f .mons-sound .handles)
+          (f .mons-sound .monitors)) monitor-row)
+          (all-append Row qs ((0xAF ∷ endRow m) ∷ [])
+          (all-map Fits (λ (q : Pair). 0xA2 ∷ pairRow q) (m .pairs) (pairs-fit m f) pair-row)
+          (z, tt)),
+    )
+
+-- The lines of the image of a sound state, stored in a block that was cleared, give the state's block.
+pub block-filled : (s t : List ℕ) {r : Bool} {z u : List ℕ} → length s ≡ 4761
+    → (r ≡ leb (0 + 4761) (length s)) × (z ≡ putIf r s 0 (replicate 4761 0))
+    → ((rs : List (List ℕ)) → All Row rs → t ≡ each textOf rs → u ≡ storedAll z rs)
+    → (m : Model) → soundModel m ≡ true → t ≡ imageText m → u ≡ padded m
+unfolding imageText
+block-filled s t {r} {z} {u} h p q m e i =
+    let n : length {A = ℕ} (replicate 4761 0) ≡ 4761 = length-replicate {A = ℕ} 4761 0 in
+    let k : z ≡ replicate 4761 0 =
+    put-of s 0 (replicate 4761 0) 4761 (length s) (p .0) (omega arith) (p .1)
+    ∙ put-whole s (replicate 4761 0) (h ∙ sym n) in
+    q (records m) (records-rows m e) i ∙ ap (λ (x : List ℕ). storedAll x (records m)) k ∙ records-stored m e

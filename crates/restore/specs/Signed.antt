@@ -1,0 +1,56 @@
+-- A window's sum is signed: 8 octets, two's complement (document 01, The image, "sum from −127 × packets to 20 ×
+-- packets"; all numbers are little-endian, RSSI is signed). An image with one packet at −60 in a window is restored,
+-- and its sum is −60.
+use Prim.Native.Nat.{ℕ}
+use mathlib.Core.Path.{_≡_, refl}
+use mathlib.Core.Bool.{true}
+use mathlib.Core.List.{List, [], _∷_, map}
+use Prim.Native.String.{String}
+use Rattle.laws.specs.Loops.{each}
+use Rattle.model.specs.Types.{Pair}
+use Rattle.model.specs.Level.{levels}
+use Rattle.model.specs.Image.{heldIn}
+use Rattle.images.specs.Quoted.{codes}
+use Rattle.restore.specs.Accept.{restores}
+
+-- the monitor of "A session in full" with a window of 2 ticks, and its pair with a packet at −60 in the window
+unfoldable pub minusSixty : List String
+minusSixty =
+    "A002000000001EFC024D53\n" ∷ "A100C4B00302040700060504030201\n" ∷
+    "A2000006050403020100000101000000C4FFFFFFFFFFFFFF0303020106\n" ∷ "AF0101\n" ∷ []
+
+-- It is restored; its sum is −60 in two's complement, and 67 above −127.
+pub sum-signed : (restores (each codes minusSixty) 4761 ≡ true)
+    × (map (λ (q : Pair). q .sum) (heldIn (each codes minusSixty) .pairs) ≡ 18446744073709551556 ∷ [])
+    × (map (λ (q : Pair). levels (q .sum) (q .packets)) (heldIn (each codes minusSixty) .pairs) ≡ 67 ∷ [])
+unfolding restores minusSixty codes
+    Rattle.model.specs.Types.mostMonitors Rattle.model.specs.Types.mostPairs Rattle.model.specs.Types.mostCondition
+    Rattle.model.specs.Types.mostData Rattle.model.specs.Types.mostPrefix Rattle.model.specs.Types.ticksOf
+    Rattle.model.specs.Types.device Rattle.model.specs.Types.watched
+    Rattle.model.specs.Level.level Rattle.model.specs.Level.inRange Rattle.model.specs.Level.levels
+    Rattle.model.specs.Monitors.highAbove Rattle.model.specs.Monitors.faultOf Rattle.model.specs.Monitors.accepts
+    Rattle.model.specs.Monitors.runOf Rattle.model.specs.Monitors.windowed
+    Rattle.model.specs.Watch.isPair Rattle.model.specs.Watch.holds
+    Rattle.model.specs.Sound.octetsUpTo Rattle.model.specs.Sound.soundSettings Rattle.model.specs.Sound.soundMonitor
+    Rattle.model.specs.Sound.soundMonitors Rattle.model.specs.Sound.soundWindow Rattle.model.specs.Sound.soundEmpty
+    Rattle.model.specs.Sound.soundFields Rattle.model.specs.Sound.soundOf Rattle.model.specs.Sound.soundPair
+    Rattle.model.specs.Sound.apart Rattle.model.specs.Sound.soundModel
+    Rattle.laws.specs.Tests.pick Rattle.laws.specs.Tests.sames
+    Rattle.laws.specs.Loops.every Rattle.laws.specs.Loops.some Rattle.laws.specs.Loops.only
+    Rattle.laws.specs.Loops.keep Rattle.laws.specs.Loops.when Rattle.laws.specs.Loops.each
+    Rattle.advert.specs.Parts.partsFrom Rattle.advert.specs.Parts.parts
+    Rattle.advert.specs.Pattern.extent Rattle.advert.specs.Pattern.fills Rattle.advert.specs.Pattern.patternsForm
+    Rattle.advert.specs.Uuid.uuidSize Rattle.advert.specs.Uuid.uuidForm
+    Rattle.advert.specs.Address.addressForm
+    Rattle.advert.specs.Condition.wellFormed
+    Rattle.sessions.specs.Machine.lastNumber
+    Rattle.model.specs.Image.headRow Rattle.model.specs.Image.monitorRow Rattle.model.specs.Image.pairRow
+    Rattle.model.specs.Image.endRow Rattle.model.specs.Image.records Rattle.model.specs.Image.imageText
+    Rattle.model.specs.Image.monitorIn Rattle.model.specs.Image.pairIn Rattle.model.specs.Image.named
+    Rattle.model.specs.Image.rowsNamed Rattle.model.specs.Image.firstOf Rattle.model.specs.Image.modelIn
+    Rattle.model.specs.Image.heldIn Rattle.model.specs.Image.isImage
+    Rattle.octets.specs.Little.little Rattle.octets.specs.Little.octetsOf
+    Rattle.lines.specs.Hex.digit Rattle.lines.specs.Hex.isHex Rattle.lines.specs.Hex.nib Rattle.lines.specs.Hex.hexOf
+    Rattle.lines.specs.Hex.textOf Rattle.lines.specs.Hex.octetsIn
+    Rattle.sessions.specs.Saved.cutFrom Rattle.sessions.specs.Saved.cut
+sum-signed = (refl, refl, refl)

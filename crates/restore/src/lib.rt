@@ -1,0 +1,150 @@
+// Restore: the state that an image's text holds, read into a block of 4,761 octets (document 01, The image; refusal
+// 10). The lines are stored in one pass, whatever they hold: A0 at the start, A1 in the row of its handle, A2 behind
+// the pairs. Then the block is tested: the text is an image exactly if the block is sound and save writes this text
+// of it.
+use state::State;
+ghost use Prim.Native.Nat.{_+_, _*_, _≤_, _<_};
+ghost use mathlib.Core.Path.{_≡_};
+ghost use mathlib.Core.Bool.{true};
+ghost use mathlib.Core.List.{List};
+ghost use Prim.Native.Nat.{ℕ};
+ghost use lib.ListN.{length, drop};
+ghost use Rattle.laws.specs.Tests.{sames};
+ghost use Rattle.laws.specs.Loops.{each};
+ghost use Rattle.lines.specs.Hex.{textOf};
+ghost use Rattle.rule.specs.Base.{All};
+ghost use Rattle.save.specs.Text.{savedText};
+ghost use Rattle.model.specs.Types.{Model};
+ghost use Rattle.model.specs.Sound.{soundModel};
+ghost use Rattle.model.specs.Image.{imageText, heldIn};
+ghost use Rattle.model.specs.Block.{padded};
+ghost use Rattle.restore.specs.Lines.{lineIn, storedMonitor, storedPair, stored, storedAll, lineLength};
+ghost use Rattle.restore.specs.Rows.{Row};
+ghost use Rattle.restore.specs.Accept.{restores};
+
+const LF: u8 = 10;
+
+// An A1 row at the place of its handle.
+fn store_monitor(s: &mut [u8], row: &[u8])
+    requires { ⌜ (length (now s) ≡ 4761) × (length (now row) ≡ 71) ⌝ }
+    ensures { λ _. ⌜ now (s .exit) ≡ storedMonitor (now (s .entry)) (now (row .entry)) ⌝ }
+{
+    let h = row[0] as usize;
+    if State::MONITORS <= h {
+        return;
+    }
+    parts::copy(s, State::MONITORS_AT + State::MONITOR_ROW * h, row);
+}
+
+// An A2 row behind the pairs, and one pair more.
+fn store_pair(s: &mut [u8], row: &[u8])
+    requires { ⌜ (length (now s) ≡ 4761) × (length (now row) ≡ 56) ⌝ }
+    ensures { λ _. ⌜ now (s .exit) ≡ storedPair (now (s .entry)) (now (row .entry)) ⌝ }
+{
+    let n = s[State::COUNT_AT];
+    if 64 <= n {
+        return;
+    }
+    let at = State::PAIRS_AT + State::PAIR_ROW * (n as usize);
+    parts::copy(s, at, row);
+    s[State::COUNT_AT] = n + 1;
+}
+
+// A line's octets, by the octet that names it.
+fn store_line(s: &mut [u8], line: &[u8])
+    requires { ⌜ (length (now s) ≡ 4761) × (length (now line) ≡ 72) ⌝ }
+    ensures { λ _. ⌜ now (s .exit) ≡ stored (now (s .entry)) (now (line .entry)) ⌝ }
+{
+    let name = line[0];
+    if name == 0xA0 {
+        parts::copy(s, 0, &line[1..41]);
+        return;
+    }
+    if name == 0xA1 {
+        store_monitor(s, &line[1..72]);
+        return;
+    }
+    if name == 0xA2 {
+        store_pair(s, &line[1..57]);
+        return;
+    }
+}
+
+// A line's text; one that is no text, or holds over 72 octets, is passed over.
+fn store_text(s: &mut [u8], text: &[u8])
+    requires { ⌜ length (now s) ≡ 4761 ⌝ }
+    ensures { λ _. ⌜ now (s .exit) ≡ stored (now (s .entry)) (lineIn (now (text .entry))) ⌝ }
+{
+    let mut line = [0u8; 72];
+    lines::take_text(text, &mut line);
+    store_line(s, &line);
+}
+
+// Where the line that begins at an index ends: behind its LF, or at the end of the text.
+fn line_end(text: &[u8], at: usize) -> usize
+    requires { ⌜ at ≤ length (now text) ⌝ }
+    ensures { λ r. ⌜ r ≡ at + lineLength (drop at (now (text .entry))) ⌝ }
+{
+    let n = text.len();
+    let mut i = at;
+    while i < n {
+        if text[i] == LF {
+            return i + 1;
+        }
+        i += 1;
+    }
+    i
+}
+
+fn store_lines(s: &mut [u8], text: &[u8])
+    requires { ⌜ length (now s) ≡ 4761 ⌝ }
+    ensures { λ _. ⌜ ((rs : List (List ℕ)) → All Row rs → now (text .entry) ≡ each textOf rs → now (s .exit) ≡ storedAll (now (s .entry)) rs) ⌝ }
+{
+    let n = text.len();
+    let mut at = 0;
+    while at < n {
+        let e = line_end(text, at);
+        store_text(s, &text[at..e]);
+        at = e;
+    }
+}
+
+// The lines of a text in an empty block. Of the image of a sound state that is the state's block; what it is of
+// another text is not said.
+fn fill_block(s: &mut [u8], text: &[u8])
+    requires { ⌜ length (now s) ≡ 4761 ⌝ }
+    ensures { λ _. ⌜ ((m : Model) → soundModel m ≡ true → now (text .entry) ≡ imageText m → now (s .exit) ≡ padded m) ⌝ }
+{
+    parts::fill(s, 0, State::SIZE, 0);
+    store_lines(s, text);
+}
+
+// Whether a text is what save writes of a block.
+fn is_saved(s: &[u8], text: &[u8]) -> bool
+    requires { ⌜ length (now s) ≡ 4761 ⌝ }
+    ensures { λ r. ⌜ r ≡ sames (savedText (now (s .entry))) (now (text .entry)) ⌝ }
+{
+    let mut out = [0u8; State::IMAGE];
+    let n = save::save_image(s, &mut out);
+    parts::same(&out[..n], text)
+}
+
+// Reads an image into s: the answer is whether s has 4,761 octets and the text is an image of a sound state. Where it
+// is, s is then the block of the state that the text holds; where not, what s holds is free, and the caller begins a
+// blank state.
+pub fn read_image(text: &[u8], s: &mut [u8]) -> bool
+    ensures { λ r. ⌜ r ≡ restores (now (text .entry)) (length (now (s .entry))) ⌝ }
+    ensures { λ _. ⌜ (restores (now (text .entry)) (length (now (s .entry))) ≡ true → now (s .exit) ≡ padded (heldIn (now (text .entry)))) ⌝ }
+{
+    if s.len() != State::SIZE {
+        return false;
+    }
+    if State::IMAGE < text.len() {
+        return false;
+    }
+    fill_block(s, text);
+    if soundness::is_sound(s) {
+        return is_saved(s, text);
+    }
+    false
+}

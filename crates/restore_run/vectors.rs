@@ -1,0 +1,156 @@
+//! Makes the texts of the program restore_run (stdin) and the answers that it must give (stdout), by the independent
+//! implementation in reference/: `vectors DIR` writes both into DIR. Build it as a program that depends on that crate.
+
+use reference::engine::Engine;
+use reference::generate::{states, texts};
+use reference::random::Random;
+use reference::state::State;
+use reference::timers::Timers;
+use reference::{image, lines};
+use std::{env, fs, path::Path};
+
+/// The block of a state: A0's fields in 40 octets, a row of 71 for each handle, rows of 56 for the pairs, their number.
+fn block(s: &State) -> Vec<u8> {
+    let mut b = vec![0; 4761];
+    b[0..4].copy_from_slice(&s.position.to_le_bytes());
+    b[4] = s.filter;
+    b[5..7].copy_from_slice(&s.opcode.to_le_bytes());
+    b[7] = s.prefix_length;
+    b[8..8 + s.prefix().len()].copy_from_slice(s.prefix());
+    for m in s.monitors() {
+        let row = &mut b[40 + 71 * m.handle as usize..][..71];
+        row[..7].copy_from_slice(&[m.handle, m.high as u8, m.low as u8, m.interval, m.sampling, m.kind, m.length]);
+        row[7..7 + m.condition().len()].copy_from_slice(m.condition());
+    }
+    for (i, p) in s.pairs().iter().enumerate() {
+        let row = &mut b[1176 + 56 * i..][..56];
+        row[0] = p.handle;
+        row[1] = p.device.kind;
+        row[2..8].copy_from_slice(&p.device.address);
+        row[8..10].copy_from_slice(&p.quiet.to_le_bytes());
+        row[10] = p.window_ticks;
+        row[11..15].copy_from_slice(&p.packets.to_le_bytes());
+        row[15..23].copy_from_slice(&p.sum.to_le_bytes());
+        row[23] = p.event_type;
+        row[24] = p.n;
+        row[25..25 + p.latest().len()].copy_from_slice(p.latest());
+    }
+    b[4760] = s.pair_count;
+    b
+}
+
+fn mix(d: u64, x: u64) -> u64 {
+    ((d % 1000003) * 31 + x % 1000003 + 1) % 1000003
+}
+
+fn digest(octets: &[u8]) -> u64 {
+    octets.iter().fold(0, |d, &o| mix(d, o as u64))
+}
+
+/// 0 where a text is refused, else a digest of the block and of its text.
+fn answer(text: &[u8]) -> u64 {
+    let mut engine = Timers::default();
+    match engine.restore(text) {
+        Ok(()) => 1 + mix(digest(&block(&engine.state())), digest(&image::text(&engine.state()))),
+        Err(_) => 0,
+    }
+}
+
+fn all(texts: impl Iterator<Item = Vec<u8>>) -> u64 {
+    texts.fold(0, |d, text| mix(d, answer(&text)))
+}
+
+fn put(text: &[u8], at: usize, characters: &[u8]) -> Vec<u8> {
+    let mut other = text.to_vec();
+    other[at..at + characters.len()].copy_from_slice(characters);
+    other
+}
+
+fn characters(text: &[u8]) -> u64 {
+    all((0..text.len()).flat_map(|p| (0..=255u8).map(move |v| put(text, p, &[v]))))
+}
+
+fn octets(text: &[u8]) -> u64 {
+    all((1..text.len()).flat_map(|p| (0..=255u8).map(move |v| put(text, p - 1, format!("{v:02X}").as_bytes()))))
+}
+
+fn two(text: &[u8]) -> u64 {
+    all((0..text.len()).flat_map(|p| [48 + (text[p] % 8 + 7) % 8, 10].map(|v| put(text, p, &[v]))))
+}
+
+fn cuts(text: &[u8]) -> u64 {
+    all((0..text.len()).map(|n| text[..n].to_vec()))
+}
+
+/// Lines dropped, doubled, swapped, each with the next; lower case.
+fn arranged(text: &[u8]) -> Vec<Vec<u8>> {
+    let parts: Vec<&[u8]> = lines::split(text).collect();
+    let mut found = vec![text.to_ascii_lowercase()];
+    for i in 0..parts.len() {
+        let mut other = parts.clone();
+        other.remove(i);
+        found.push(other.concat());
+        let mut other = parts.clone();
+        other.insert(i, parts[i]);
+        found.push(other.concat());
+        if i + 1 < parts.len() {
+            let mut other = parts.clone();
+            other.swap(i, i + 1);
+            found.push(other.concat());
+        }
+    }
+    found
+}
+
+fn main() {
+    let folder = env::args().nth(1).expect("vectors DIR");
+    let fresh = b"A000000000001EFC024D53\nAF0000\n".to_vec();
+    let session = b"A002000000001EFC024D53\nA100C4B00300040700060504030201\n\
+        A200000605040302010000000000000000000000000000000000\nAF0101\n"
+        .to_vec();
+    let window = b"A003000000011EFC024D53\nA100C4B00302040700060504030201\nA10FC4B03CFE0203011218\n\
+        A2000006050403020101000102000000C4FFFFFFFFFFFFFF0302AABB\nAF0201\n"
+        .to_vec();
+    let largest = image::text(&states::largest(&mut Random::new(1)));
+    let mut rows: Vec<(u8, Vec<u8>)> = vec![(b'S', fresh), (b'S', session.clone()), (b'S', window.clone())];
+    rows.push((b'L', largest.clone()));
+    rows.push((b'T', [&largest[..], b"\n"].concat()));
+    for text in [&session, &window] {
+        rows.extend(arranged(text).into_iter().map(|t| (b'T', t)));
+    }
+    let mut index = 0;
+    let mut size = rows.iter().map(|r| r.1.len() + 2).sum::<usize>();
+    while size < 60000 {
+        let mut random = Random::of(9, index);
+        index += 1;
+        let devices = states::devices(&mut random);
+        let state = states::sound(&mut random, &devices);
+        let text = image::text(&state);
+        if text.len() > 1500 {
+            continue;
+        }
+        let broken = states::broken(&mut random, &state, index as usize % states::WAYS).map(|s| image::text(&s));
+        let damaged = texts::damage(&mut random, &text);
+        for t in [Some(text), broken, Some(damaged)].into_iter().flatten() {
+            if !t.contains(&b'=') && t.len() < 3000 {
+                size += t.len() + 2;
+                rows.push((b'T', t));
+            }
+        }
+    }
+    let (mut given, mut expected) = (Vec::new(), String::new());
+    for (mode, text) in rows {
+        given.push(mode);
+        given.extend(&text);
+        given.push(b'=');
+        let mut numbers = vec![answer(&text)];
+        match mode {
+            b'S' => numbers.extend([characters(&text), octets(&text), cuts(&text)]),
+            b'L' => numbers.extend([two(&text), cuts(&text)]),
+            _ => (),
+        }
+        numbers.iter().for_each(|n| expected += &format!("{n}\n"));
+    }
+    fs::write(Path::new(&folder).join("stdin"), given).unwrap();
+    fs::write(Path::new(&folder).join("stdout"), expected).unwrap();
+}

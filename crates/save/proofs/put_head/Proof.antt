@@ -1,0 +1,51 @@
+use Rattle.save.specs.Steps.{head-put}
+use lib.ListN.{length-take}
+use borrow.Author.Needs.{needs}
+use native.Mathlib.Omega.{arith}
+use native.Mathlib.Omega.{arith}
+use Rattle.save.proofs.put_head.Statement.{statement}
+use Rattle.save.proofs.put_head.Tie as tie
+use Rattle.save.proofs.put_head.Reads as reads
+use Rattle.save.proofs.put_head.Lts as lts
+use Rattle.save.proofs.at_most.Reads as at-most-reads
+use Rattle.save.proofs.put_line.Reads as put-line-reads
+
+-- src/lib.rt:51:21
+shared-slice-read-at-most : tie.Need-shared-slice-read-at-most
+shared-slice-read-at-most c = search needs
+
+-- src/lib.rt:51:9
+at-most-requires : tie.Need-at-most-requires
+at-most-requires c κs = search needs
+
+-- src/lib.rt:52:15
+add-end : tie.Need-add-end
+add-end c = search needs
+
+-- src/lib.rt:53:28
+slice-aggregate-put-line : tie.Need-slice-aggregate-put-line
+slice-aggregate-put-line c = simp length-take (omega (arith, c .before .before .at-most .ensures .1))
+
+-- src/lib.rt:53:5
+put-line-requires : tie.Need-put-line-requires
+put-line-requires c κs = simp length-take (omega (arith, c .before .before .at-most .ensures .1))
+
+-- src/lib.rt:47:1
+same-length : tie.Need-same-length
+same-length c = search needs
+
+-- src/lib.rt:47:1
+returns : tie.Need-returns
+returns c = head-put _ _ 0 (c .before .before .before .before .before .at-most .ensures .0) (c .before .before .put-line .ensures)
+
+pub put-head-spec : {M : Type 1} → statement M
+put-head-spec =
+    tie.close
+    (tie.spec
+    shared-slice-read-at-most
+    at-most-requires
+    add-end
+    slice-aggregate-put-line
+    put-line-requires
+    same-length
+    returns)

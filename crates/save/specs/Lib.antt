@@ -1,0 +1,4 @@
+-- What save writes of a block, and that it is the image's text.
+pub mod Text
+pub mod Steps
+pub mod Image

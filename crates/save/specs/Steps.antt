@@ -1,0 +1,195 @@
+-- Steps of the code that writes the lines of a block, each a law that ends in what a function or a turn of a loop owes.
+-- Document 01, The image. Assumes nothing.
+use Prim.Native.Nat.{ℕ, _+_, _-_, _*_, _/_, _%_, _≤_, _<_}
+use mathlib.Core.Path.{_≡_, refl, sym, ap, _∙_}
+use mathlib.Core.Bool.{Bool, true, false, not}
+use mathlib.Core.List.{List, [], _∷_, _++_}
+use native.Mathlib.Nat.{zero-add}
+use native.Mathlib.Omega.{arith}
+use lib.Dec.{leb, eqb}
+use borrow.Author.Tests.{eq-eqb, ne-eqb, le-leb, lt-leb}
+use lib.ListN.{length, take, drop, getD, length-append}
+use lib.Seq.{drop-drop, getD-drop}
+use Rattle.laws.specs.Tests.{pick, and-not-right}
+use Rattle.laws.specs.Put.{put, put-put, put-then, put-nil, take-before-put, drop-after-put, length-put}
+use Rattle.laws.specs.Loops.{upTo, upTo-more, only, when, when-true, when-false}
+use Rattle.laws.specs.Rows.{row, getD-row}
+use Rattle.lines.specs.Hex.{lf, digit, hexOf, textOf}
+use Rattle.lines.specs.Texts.{length-text}
+use Rattle.model.specs.Block.{inUse}
+use Rattle.save.specs.Text.{atMost, monitorText, monitorAt, pairAt, pairText}
+use Rattle.save.specs.Text.{liveBelow, monitorsText, pairsText, headText, endText}
+use Rattle.save.specs.Text.{savedText, saves, pairsIn}
+
+-- what is put over a shorter part that was put there stands alone
+pub put-again : (xs : List ℕ) (at : ℕ) (ys zs : List ℕ) → at ≤ length xs → length ys ≤ length zs
+    → put (put xs at ys) at zs ≡ put xs at zs
+unfolding put
+put-again xs at ys zs h k =
+    let e : at + length ys + (length zs - length ys) ≡ at + length zs = omega arith in
+    let d : drop (at + length zs) (put xs at ys) ≡ drop (at + length zs) xs =
+    ap (λ (i : ℕ). drop i (put xs at ys)) (sym e)
+    ∙ sym (drop-drop (length zs - length ys) (at + length ys) (put xs at ys))
+    ∙ ap (λ (l : List ℕ). drop (length zs - length ys) l) (drop-after-put xs at ys h)
+    ∙ drop-drop (length zs - length ys) (at + length ys) xs
+    ∙ ap (λ (i : ℕ). drop i xs) e in
+    ap (λ (l : List ℕ). l ++ zs ++ drop (at + length zs) (put xs at ys)) (take-before-put xs at ys h)
+    ∙ ap (λ (l : List ℕ). take at xs ++ zs ++ l) d
+
+-- a line: the text of its name, and the text of its row from that one's LF on
+pub line-put : (xs : List ℕ) (at name : ℕ) (r : List ℕ) {l m : List ℕ} → at + 2 * length r + 3 ≤ length xs
+    → l ≡ put xs at (textOf (name ∷ [])) → m ≡ put l (at + 2) (textOf r) → m ≡ put xs at (textOf (name ∷ r))
+unfolding textOf hexOf
+line-put xs at name r h p q =
+    let ds : List ℕ = digit (name / 16) ∷ digit (name % 16) ∷ [] in
+    let n : length (hexOf r ++ (lf ∷ [])) ≡ 2 * length r + 1 = length-text r in
+    let k : length (put xs at ds) ≡ length xs = length-put xs at ds (omega arith) in
+    q ∙ ap (λ (x : List ℕ). put x (at + 2) (textOf r)) (p ∙ sym (put-put xs at ds (lf ∷ []) (omega arith)))
+    ∙ put-again (put xs at ds) (at + 2) (lf ∷ []) (textOf r) (omega arith) (omega arith)
+    ∙ put-put xs at ds (textOf r) (omega arith)
+
+pub line-length : (at name : ℕ) (r : List ℕ) → at + 2 * length r + 3 ≡ at + length (textOf (name ∷ r))
+line-length at name r =
+    let e : length (textOf (name ∷ r)) ≡ 2 * length (name ∷ r) + 1 = length-text (name ∷ r) in
+    omega arith
+
+-- rows are parts of the block
+pub part-monitor : (s : List ℕ) (h : ℕ) → take (40 + 71 * h + 71 - (40 + 71 * h)) (drop (40 + 71 * h) s) ≡ monitorAt s h
+unfolding monitorAt row
+part-monitor s h =
+    let e : 40 + 71 * h + 71 - (40 + 71 * h) ≡ 71 = omega arith in
+    rw (e, drop-drop (71 * h) 40 s)
+
+pub part-pair : (s : List ℕ) (i : ℕ) → take (1176 + 56 * i + 56 - (1176 + 56 * i)) (drop (1176 + 56 * i) s) ≡ pairAt s i
+unfolding pairAt row
+part-pair s i =
+    let e : 1176 + 56 * i + 56 - (1176 + 56 * i) ≡ 56 = omega arith in
+    rw (e, drop-drop (56 * i) 1176 s)
+
+-- a line of what is used of a row is the line of the row
+module _ (xs r : List ℕ) (at : ℕ) {n k : ℕ} {l : List ℕ} where
+  pub head-put : n ≡ atMost (getD r 7 0) 32
+      → (k ≡ 0 + length (textOf (0xA0 ∷ take (8 + n) r))) × (l ≡ put xs 0 (textOf (0xA0 ∷ take (8 + n) r)))
+      → (k ≡ length (headText r)) × (l ≡ put xs 0 (headText r))
+  unfolding headText
+  head-put e p = let q = rw e at p in (
+    q .0
+        ∙ zero-add (length (textOf (0xA0 ∷ take (8 + atMost (getD r 7 0) 32) r))),
+    q .1,
+  )
+
+  pub pair-put : n ≡ atMost (getD r 24 0) 31
+      → (k ≡ at + length (textOf (0xA2 ∷ take (25 + n) r))) × (l ≡ put xs at (textOf (0xA2 ∷ take (25 + n) r)))
+      → (k ≡ at + length (pairText r)) × (l ≡ put xs at (pairText r))
+  unfolding pairText
+  pair-put e p = rw e at p
+
+  pub used-put : (getD r 3 0 ≡ 0 → ⊥) → n ≡ atMost (getD r 6 0) 64
+      → (k ≡ at + length (textOf (0xA1 ∷ take (7 + n) r))) × (l ≡ put xs at (textOf (0xA1 ∷ take (7 + n) r)))
+      → (k ≡ at + length (monitorText r)) × (l ≡ put xs at (monitorText r))
+  unfolding monitorText inUse
+  used-put h e p =
+      let w : when (not (eqb (getD r 3 0) 0)) (textOf (0xA1 ∷ take (7 + atMost (getD r 6 0) 64) r))
+      ≡ textOf (0xA1 ∷ take (7 + atMost (getD r 6 0) 64) r) =
+      when-true _ (ap not (ne-eqb (getD r 3 0) 0 h)) in
+      rw w (rw e at p)
+
+pub unused-put : (xs r : List ℕ) (at : ℕ) → getD r 3 0 ≡ 0 → (at ≡ at + length (monitorText r))
+    × (xs ≡ put xs at (monitorText r))
+unfolding monitorText inUse
+unused-put xs r at h =
+    let e : when (not (eqb (getD r 3 0) 0)) (textOf (0xA1 ∷ take (7 + atMost (getD r 6 0) 64) r)) ≡ [] =
+    when-false _ (ap not (eq-eqb (getD r 3 0) 0 h)) in
+    rw e (omega arith, sym (put-nil xs at))
+
+-- one place more, written behind those before it
+pub upTo-turn : (f : ℕ → List ℕ) (xs : List ℕ) (at i : ℕ) {n k : ℕ} {l m : List ℕ} → at ≤ length xs
+    → n ≡ at + length (upTo f i) → l ≡ put xs at (upTo f i) → k ≡ n + length (f i) → m ≡ put l n (f i)
+    → (k ≡ at + length (upTo f (i + 1))) × (m ≡ put xs at (upTo f (i + 1)))
+upTo-turn f xs at i h p q r t =
+    let e : length (upTo f i ++ f i) ≡ length (upTo f i) + length (f i) = length-append (upTo f i) (f i) in
+    (rw (upTo-more f i) (omega arith), put-then xs at (upTo f i) _ (f i) h q p t (sym (upTo-more f i)))
+
+module _ (s xs : List ℕ) (at i : ℕ) {n k : ℕ} {l m : List ℕ} where
+  pub monitors-turn : at ≤ length xs → n ≡ at + length (monitorsText s i) → l ≡ put xs at (monitorsText s i)
+      → k ≡ n + length (monitorText (monitorAt s i)) → m ≡ put l n (monitorText (monitorAt s i))
+      → (k ≡ at + length (monitorsText s (i + 1))) × (m ≡ put xs at (monitorsText s (i + 1)))
+  unfolding monitorsText
+  monitors-turn h p q r t = upTo-turn (λ j. monitorText (monitorAt s j)) xs at i h p q r t
+
+  pub pairs-turn : at ≤ length xs → n ≡ at + length (pairsText s i) → l ≡ put xs at (pairsText s i)
+      → k ≡ n + length (pairText (pairAt s i)) → m ≡ put l n (pairText (pairAt s i))
+      → (k ≡ at + length (pairsText s (i + 1))) × (m ≡ put xs at (pairsText s (i + 1)))
+  unfolding pairsText
+  pairs-turn h p q r t = upTo-turn (λ j. pairText (pairAt s j)) xs at i h p q r t
+
+-- nothing written yet
+pub monitors-none : (s xs : List ℕ) (at : ℕ) → (at ≡ at + length (monitorsText s 0))
+    × (xs ≡ put xs at (monitorsText s 0))
+unfolding monitorsText upTo
+monitors-none s xs at = (omega arith, sym (put-nil xs at))
+
+pub pairs-none : (s xs : List ℕ) (at : ℕ) → (at ≡ at + length (pairsText s 0)) × (xs ≡ put xs at (pairsText s 0))
+unfolding pairsText upTo
+pairs-none s xs at = (omega arith, sym (put-nil xs at))
+
+-- one handle more looked at
+pub live-none : (s : List ℕ) → 0 ≡ length (liveBelow s 0)
+unfolding liveBelow upTo
+live-none s = refl
+
+one-used : (t : Bool) (j : ℕ) → pick t 0 1 ≡ length (only (not t) j)
+unfolding pick only
+one-used true j = refl
+one-used false j = refl
+
+used-at : (s : List ℕ) (h : ℕ) → pick (eqb (getD s (40 + 71 * h + 3) 0) 0) 0 1 ≡ length (only (inUse (monitorAt s h)) h)
+unfolding inUse monitorAt
+used-at s h =
+    let i : 40 + (71 * h + 3) ≡ 40 + 71 * h + 3 = omega arith in
+    rw (getD-row 71 h 3 (drop 40 s) 0 (omega arith), getD-drop 40 s (71 * h + 3) 0, i)
+    (one-used (eqb (getD s (40 + 71 * h + 3) 0) 0) h)
+
+pub live-turn : (s : List ℕ) (h : ℕ) {n w : ℕ} → n ≡ length (liveBelow s h)
+    → w ≡ pick (eqb (getD s (40 + 71 * h + 3) 0) 0) 0 1 → n + w ≡ length (liveBelow s (h + 1))
+unfolding liveBelow
+live-turn s h {n} {w} p q =
+    let f : ℕ → List ℕ = λ j. only (inUse (monitorAt s j)) j in
+    let e : length (upTo f h ++ f h) ≡ length (upTo f h) + length (f h) = length-append (upTo f h) (f h) in
+    let g : w ≡ length (f h) = q ∙ used-at s h in
+    rw (upTo-more f h) (omega arith)
+
+-- the four parts, one behind another
+pub parts-put : (s xs : List ℕ) (u n : ℕ) {a b c d : ℕ} {k l m o : List ℕ}
+    → a ≡ length (headText s) → k ≡ put xs 0 (headText s)
+    → b ≡ a + length (monitorsText s 16) → l ≡ put k a (monitorsText s 16)
+    → c ≡ b + length (pairsText s n) → m ≡ put l b (pairsText s n)
+    → d ≡ c + length (endText u n) → o ≡ put m c (endText u n)
+    → u ≡ length (liveBelow s 16) → n ≡ atMost (getD s 4760 0) 64
+    → (d ≡ length (savedText s)) × (o ≡ put xs 0 (savedText s))
+unfolding savedText pairsIn
+parts-put s xs u n {a} {b} {c} {d} {k} {l} {m} {o} pa pk pb pl pc pm pd po pu pn =
+    let h = headText s in
+    let ms = monitorsText s 16 in
+    let ps = pairsText s n in
+    let z = endText u n in
+    let e1 : length (h ++ ms) ≡ length h + length ms = length-append h ms in
+    let e2 : length (h ++ ms ++ ps) ≡ length (h ++ ms) + length ps = length-append (h ++ ms) ps in
+    let e3 : length (h ++ ms ++ ps ++ z) ≡ length (h ++ ms ++ ps) + length z = length-append (h ++ ms ++ ps) z in
+    let q1 : l ≡ put xs 0 (h ++ ms) = put-then xs 0 h a ms (omega arith) pk (omega arith) pl refl in
+    let q2 : m ≡ put xs 0 (h ++ ms ++ ps) = put-then xs 0 (h ++ ms) b ps (omega arith) q1 (omega arith) pm refl in
+    rw (← pu, ← pn) (omega arith, put-then xs 0 (h ++ ms ++ ps) c z (omega arith) q2 (omega arith) po refl)
+
+-- whether save writes
+module _ (s : List ℕ) (room : ℕ) where
+  pub saves-not-block : (length s ≡ 4761 → ⊥) → saves s room ≡ false
+  unfolding saves
+  saves-not-block h = rw (ne-eqb (length s) 4761 h)
+
+  pub saves-short : room < 9770 → saves s room ≡ false
+  unfolding saves
+  saves-short h = and-not-right (eqb (length s) 4761) (leb 9770 room) (lt-leb 9770 room h)
+
+  pub saves-done : length s ≡ 4761 → 9770 ≤ room → saves s room ≡ true
+  unfolding saves
+  saves-done h k = rw (eq-eqb (length s) 4761 h, le-leb 9770 room k)

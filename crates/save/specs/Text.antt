@@ -1,0 +1,138 @@
+-- The text that save writes of a block of 4,761 octets, whatever its octets, line by line. Document 01, The image.
+-- Lengths that stand in rows are cut to what the row has, so no octet outside a row is read and the text is never
+-- over 9,770 characters. That it is the image's text where the block is that of a sound state is the law of Image.
+-- Assumes nothing.
+use Prim.Native.Nat.{ℕ, _+_, _*_, _≤_, _<_}
+use mathlib.Core.Path.{_≡_}
+use mathlib.Core.Bool.{Bool, _&&_}
+use mathlib.Core.List.{List, [], _∷_, _++_}
+use native.Mathlib.Omega.{arith}
+use borrow.Author.Tests.{le-leb, lt-leb}
+use lib.Dec.{leb, eqb}
+use lib.ListN.{length, take, drop, getD, length-append, length-take}
+use Rattle.laws.specs.Tests.{pick, cases-le}
+use Rattle.laws.specs.Loops.{when, only, upTo, length-upTo, length-when, length-only}
+use Rattle.laws.specs.Rows.{row}
+use Rattle.lines.specs.Hex.{textOf}
+use Rattle.lines.specs.Texts.{length-text}
+use Rattle.model.specs.Block.{inUse}
+
+-- a length that stands in a row, cut to what the row has
+unfoldable pub atMost : ℕ → ℕ → ℕ
+atMost v n = pick (leb v n) v n
+
+-- "A0 line: position (4), filter, opcode (2), prefix length, prefix", from the start of the block
+unfoldable pub headText : List ℕ → List ℕ
+headText s = textOf (0xA0 ∷ take (8 + atMost (getD s 7 0) 32) s)
+
+-- "A1 per monitor": the line of a monitor row in use, nothing of one that is not
+unfoldable pub monitorText : List ℕ → List ℕ
+monitorText r = when (inUse r) (textOf (0xA1 ∷ take (7 + atMost (getD r 6 0) 64) r))
+
+-- "A2 per pair": the line of a pair row
+unfoldable pub pairText : List ℕ → List ℕ
+pairText r = textOf (0xA2 ∷ take (25 + atMost (getD r 24 0) 31) r)
+
+-- "AF: number of monitors, number of pairs"
+unfoldable pub endText : ℕ → ℕ → List ℕ
+endText mons pairs = textOf (0xAF ∷ mons ∷ pairs ∷ [])
+
+-- the row of handle h, the row of pair i
+unfoldable pub monitorAt : List ℕ → ℕ → List ℕ
+monitorAt s h = row 71 h (drop 40 s)
+
+unfoldable pub pairAt : List ℕ → ℕ → List ℕ
+pairAt s i = row 56 i (drop 1176 s)
+
+-- the handles below n whose rows are in use
+unfoldable pub liveBelow : List ℕ → ℕ → List ℕ
+liveBelow s n = upTo (λ h. only (inUse (monitorAt s h)) h) n
+
+-- the lines of the first n monitor rows, "by handle", and of the first n pair rows, "in start order"
+unfoldable pub monitorsText : List ℕ → ℕ → List ℕ
+monitorsText s n = upTo (λ h. monitorText (monitorAt s h)) n
+
+unfoldable pub pairsText : List ℕ → ℕ → List ℕ
+pairsText s n = upTo (λ i. pairText (pairAt s i)) n
+
+-- the number of pairs that a block holds
+unfoldable pub pairsIn : List ℕ → ℕ
+pairsIn s = atMost (getD s 4760 0) 64
+
+-- the text of a block
+unfoldable pub savedText : List ℕ → List ℕ
+savedText s =
+    headText s ++ monitorsText s 16 ++ pairsText s (pairsIn s) ++ endText (length (liveBelow s 16)) (pairsIn s)
+
+-- whether save writes: the block has its size, and 9,770 octets are lent
+unfoldable pub saves : List ℕ → ℕ → Bool
+saves s room = eqb (length s) 4761 && leb 9770 room
+
+-- lengths
+
+pub at-most : (v n : ℕ) → atMost v n ≤ n
+unfolding atMost pick
+at-most v n = cases-le v n (λ h. rw (le-leb v n h) (omega arith)) (λ h. rw (lt-leb v n h) (omega arith))
+
+pub at-is : (v n : ℕ) → v ≤ n → v ≡ atMost v n
+unfolding atMost pick
+at-is v n h = rw (le-leb v n h)
+
+pub at-over : (v n : ℕ) → n < v → n ≡ atMost v n
+unfolding atMost pick
+at-over v n h = rw (lt-leb v n h)
+
+-- a line of at most n octets of a row, with the octet that names it
+pub length-line : (name n k : ℕ) (r : List ℕ) → k ≤ n → length (textOf (name ∷ take k r)) ≤ 2 * n + 3
+length-line name n k r h =
+    let t : length (take k r) ≤ k = simp length-take (omega arith) in
+    let e : length (textOf (name ∷ take k r)) ≡ 2 * length (name ∷ take k r) + 1 = length-text (name ∷ take k r) in
+    omega arith
+
+pub length-headText : (s : List ℕ) → length (headText s) ≤ 83
+unfolding headText
+length-headText s =
+    length-line 0xA0 40 (8 + atMost (getD s 7 0) 32) s (omega (arith, at-most (getD s 7 0) 32))
+
+pub length-monitorText : (r : List ℕ) → length (monitorText r) ≤ 145
+unfolding monitorText
+length-monitorText r =
+    let l = textOf (0xA1 ∷ take (7 + atMost (getD r 6 0) 64) r) in
+    let n : length l ≤ 145 = length-line 0xA1 71 (7 + atMost (getD r 6 0) 64) r
+    (omega (arith, at-most (getD r 6 0) 64)) in
+    omega (arith, length-when (inUse r) l)
+
+pub length-pairText : (r : List ℕ) → length (pairText r) ≤ 115
+unfolding pairText
+length-pairText r =
+    length-line 0xA2 56 (25 + atMost (getD r 24 0) 31) r (omega (arith, at-most (getD r 24 0) 31))
+
+pub length-endText : (u c : ℕ) → length (endText u c) ≡ 7
+unfolding endText
+length-endText u c = length-text (0xAF ∷ u ∷ c ∷ [])
+
+pub length-monitorsText : (s : List ℕ) (n : ℕ) → length (monitorsText s n) ≤ 145 * n
+unfolding monitorsText
+length-monitorsText s n = length-upTo (λ h. monitorText (monitorAt s h)) 145 (λ h. length-monitorText (monitorAt s h)) n
+
+pub length-pairsText : (s : List ℕ) (n : ℕ) → length (pairsText s n) ≤ 115 * n
+unfolding pairsText
+length-pairsText s n = length-upTo (λ i. pairText (pairAt s i)) 115 (λ i. length-pairText (pairAt s i)) n
+
+pub length-liveBelow : (s : List ℕ) (n : ℕ) → length (liveBelow s n) ≤ n
+unfolding liveBelow
+length-liveBelow s n =
+    let b = length-upTo (λ h. only (inUse (monitorAt s h)) h) 1 (λ h. length-only (inUse (monitorAt s h)) h) n in
+    omega (arith, b)
+
+pub pairs-most : (s : List ℕ) → pairsIn s ≤ 64
+unfolding pairsIn
+pairs-most s = at-most (getD s 4760 0) 64
+
+-- "image 9,770": no block has a longer text
+pub length-savedText : (s : List ℕ) → length (savedText s) ≤ 9770
+unfolding savedText
+length-savedText s =
+    let e = length-endText (length (liveBelow s 16)) (pairsIn s) in
+    simp length-append
+    (omega (arith, length-headText s, length-monitorsText s 16, length-pairsText s (pairsIn s), pairs-most s))

@@ -1,0 +1,164 @@
+// Save: the image's text of the state in a block of 4,761 octets (document 01, The image). The rows of the block are
+// the lines before hexadecimal: A0 from its start, A1 of each monitor row in use by handle, A2 of each pair held in
+// start order, AF with their numbers. Lengths that stand in rows are cut to what the row has, so any block whatever
+// can be given.
+use state::State;
+ghost use Prim.Native.Nat.{_+_, _*_, _≤_, _<_};
+ghost use mathlib.Core.Path.{_≡_};
+ghost use mathlib.Core.Bool.{true};
+ghost use mathlib.Core.List.{_∷_};
+ghost use lib.ListN.{length};
+ghost use lib.Dec.{eqb};
+ghost use Rattle.laws.specs.Put.{put, putIf};
+ghost use Rattle.laws.specs.Tests.{pick};
+ghost use Rattle.lines.specs.Hex.{textOf};
+ghost use Rattle.sessions.specs.Machine.{saveRoom};
+ghost use Rattle.model.specs.Types.{Model};
+ghost use Rattle.model.specs.Sound.{soundModel};
+ghost use Rattle.model.specs.Image.{imageText};
+ghost use Rattle.model.specs.Block.{padded};
+ghost use Rattle.save.specs.Text.{atMost, headText, monitorText, pairText, endText, liveBelow, monitorsText, pairsText, savedText, saves};
+
+// A length that stands in a row, cut to what the row has.
+fn at_most(v: u8, n: usize) -> usize
+    ensures { λ r. ⌜ (r ≡ atMost v n) × (r ≤ n) ⌝ }
+{
+    let k = v as usize;
+    if k <= n {
+        return k;
+    }
+    n
+}
+
+// A line: the octet that names it, then a row, in hexadecimal with the LF. The row's text takes the place of the
+// name's LF.
+fn put_line(out: &mut [u8], at: usize, name: u8, row: &[u8]) -> usize
+    requires { ⌜ at + 2 * length (now row) + 3 ≤ length (now out) ⌝ }
+    ensures { λ r. ⌜ (r ≡ at + length (textOf (name ∷ now (row .entry)))) × (now (out .exit) ≡ put (now (out .entry)) at (textOf (name ∷ now (row .entry)))) ⌝ }
+{
+    let first = [name];
+    lines::put_text(out, at, &first);
+    lines::put_text(out, at + 2, row);
+    at + 2 * row.len() + 3
+}
+
+fn put_head(s: &[u8], out: &mut [u8]) -> usize
+    requires { ⌜ (length (now s) ≡ 4761) × (83 ≤ length (now out)) ⌝ }
+    ensures { λ r. ⌜ (r ≡ length (headText (now (s .entry)))) × (now (out .exit) ≡ put (now (out .entry)) 0 (headText (now (s .entry)))) ⌝ }
+{
+    let n = at_most(s[State::PREFIX_LENGTH_AT], State::PREFIX);
+    let end = State::PREFIX_AT + n;
+    put_line(out, 0, 0xA0, &s[..end])
+}
+
+fn put_monitor(out: &mut [u8], at: usize, row: &[u8]) -> usize
+    requires { ⌜ (length (now row) ≡ 71) × (at + 145 ≤ length (now out)) ⌝ }
+    ensures { λ r. ⌜ (r ≡ at + length (monitorText (now (row .entry)))) × (now (out .exit) ≡ put (now (out .entry)) at (monitorText (now (row .entry)))) ⌝ }
+{
+    if row[3] == 0 {
+        return at;
+    }
+    let n = at_most(row[6], State::CONDITION);
+    let end = 7 + n;
+    put_line(out, at, 0xA1, &row[..end])
+}
+
+fn put_monitors(s: &[u8], out: &mut [u8], at: usize) -> usize
+    requires { ⌜ (length (now s) ≡ 4761) × (at + 2320 ≤ length (now out)) ⌝ }
+    ensures { λ r. ⌜ (r ≡ at + length (monitorsText (now (s .entry)) 16)) × (now (out .exit) ≡ put (now (out .entry)) at (monitorsText (now (s .entry)) 16)) ⌝ }
+{
+    let mut next = at;
+    let mut h = 0;
+    while h < State::MONITORS {
+        let b = State::MONITORS_AT + State::MONITOR_ROW * h;
+        let e = b + State::MONITOR_ROW;
+        next = put_monitor(out, next, &s[b..e]);
+        h += 1;
+    }
+    next
+}
+
+fn put_pair(out: &mut [u8], at: usize, row: &[u8]) -> usize
+    requires { ⌜ (length (now row) ≡ 56) × (at + 115 ≤ length (now out)) ⌝ }
+    ensures { λ r. ⌜ (r ≡ at + length (pairText (now (row .entry)))) × (now (out .exit) ≡ put (now (out .entry)) at (pairText (now (row .entry)))) ⌝ }
+{
+    let n = at_most(row[24], State::DATA);
+    let end = 25 + n;
+    put_line(out, at, 0xA2, &row[..end])
+}
+
+fn put_pairs(s: &[u8], out: &mut [u8], at: usize, n: usize) -> usize
+    requires { ⌜ (length (now s) ≡ 4761) × (n ≤ 64) × (at + 7360 ≤ length (now out)) ⌝ }
+    ensures { λ r. ⌜ (r ≡ at + length (pairsText (now (s .entry)) n)) × (now (out .exit) ≡ put (now (out .entry)) at (pairsText (now (s .entry)) n)) ⌝ }
+{
+    let mut next = at;
+    let mut i = 0;
+    while i < n {
+        let b = State::PAIRS_AT + State::PAIR_ROW * i;
+        let e = b + State::PAIR_ROW;
+        next = put_pair(out, next, &s[b..e]);
+        i += 1;
+    }
+    next
+}
+
+// 1 where an interval says that its row is in use.
+fn one_if(interval: u8) -> usize
+    ensures { λ r. ⌜ (r ≡ pick (eqb interval 0) 0 1) × (r ≤ 1) ⌝ }
+{
+    if interval == 0 {
+        return 0;
+    }
+    1
+}
+
+fn live_in(s: &[u8]) -> usize
+    requires { ⌜ length (now s) ≡ 4761 ⌝ }
+    ensures { λ r. ⌜ (r ≡ length (liveBelow (now (s .entry)) 16)) × (r ≤ 16) ⌝ }
+{
+    let mut n = 0;
+    let mut h = 0;
+    while h < State::MONITORS {
+        n += one_if(s[State::MONITORS_AT + State::MONITOR_ROW * h + 3]);
+        h += 1;
+    }
+    n
+}
+
+fn put_end(out: &mut [u8], at: usize, mons: usize, pairs: usize) -> usize
+    requires { ⌜ (at + 7 ≤ length (now out)) × (mons ≤ 16) × (pairs ≤ 64) ⌝ }
+    ensures { λ r. ⌜ (r ≡ at + length (endText mons pairs)) × (now (out .exit) ≡ put (now (out .entry)) at (endText mons pairs)) ⌝ }
+{
+    let u = mons as u8;
+    let n = pairs as u8;
+    let row = [u, n];
+    put_line(out, at, 0xAF, &row)
+}
+
+fn put_image(s: &[u8], out: &mut [u8]) -> usize
+    requires { ⌜ (length (now s) ≡ 4761) × (9770 ≤ length (now out)) ⌝ }
+    ensures { λ r. ⌜ (r ≡ length (savedText (now (s .entry)))) × (now (out .exit) ≡ put (now (out .entry)) 0 (savedText (now (s .entry)))) ⌝ }
+{
+    let n = at_most(s[State::COUNT_AT], State::PAIRS);
+    let u = live_in(s);
+    let a = put_head(s, out);
+    let b = put_monitors(s, out, a);
+    let c = put_pairs(s, out, b, n);
+    put_end(out, c, u, n)
+}
+
+// The image's text of the state in s, written from the start of out; its length. Where s is not 4,761 octets or out
+// is under 9,770, nothing is written and the answer is 0. Of the block of a sound state that is its image; of any
+// other block it is savedText, the lines of what stands in its rows.
+pub fn save_image(s: &[u8], out: &mut [u8]) -> usize
+    ensures { λ r. ⌜ (r ≡ pick (saves (now (s .entry)) (length (now (out .entry)))) (length (savedText (now (s .entry)))) 0) × (now (out .exit) ≡ putIf (saves (now (s .entry)) (length (now (out .entry)))) (now (out .entry)) 0 (savedText (now (s .entry)))) ⌝ }
+    ensures { λ r. ⌜ ((m : Model) → soundModel m ≡ true → now (s .entry) ≡ padded m → saveRoom ≤ length (now (out .entry)) → (r ≡ length (imageText m)) × (now (out .exit) ≡ put (now (out .entry)) 0 (imageText m))) ⌝ }
+{
+    if s.len() != State::SIZE {
+        return 0;
+    }
+    if out.len() < State::IMAGE {
+        return 0;
+    }
+    put_image(s, out)
+}

@@ -1,0 +1,68 @@
+use Rattle.soundness.specs.Clauses.{heldPairTest}
+use Rattle.soundness.specs.Below.{allBelow}
+use mathlib.Core.Bool.{true}
+use Prim.Native.Nat.{_-_, _≤_}
+use Rattle.soundness.specs.CodePairs.{pairs-stop, pairs-more}
+use mathlib.Core.Path.{_≡_, refl, sym, ap, _∙_}
+use native.Mathlib.Omega.{arith}
+use borrow.Author.Needs.{needs}
+use Rattle.soundness.proofs.held_pairs_sound.Statement.{statement}
+use Rattle.soundness.proofs.held_pairs_sound.Tie as tie
+use Rattle.soundness.proofs.held_pairs_sound.Reads as reads
+use Rattle.soundness.proofs.held_pairs_sound.Lts as lts
+use Rattle.soundness.proofs.other_sound.Reads as other-sound-reads
+use Rattle.soundness.proofs.pair_sound.Reads as pair-sound-reads
+
+abbrev Inv-loop : tie.InvT-loop
+Inv-loop s c i₀ i = (i ≤ c) × (allBelow (heldPairTest s) i ≡ true)
+
+abbrev μ-loop : tie.MeasureT-loop
+μ-loop s c i₀ i = c - i
+
+-- src/lib.rt:219:5
+loop-holds : tie.Need-loop-holds Inv-loop μ-loop
+unfolding allBelow
+loop-holds c = (omega arith, refl)
+
+-- src/lib.rt:220:13
+pair-sound-requires : tie.Need-pair-sound-requires Inv-loop μ-loop
+pair-sound-requires c κs = (c .before .before .before .pre .0, omega arith)
+
+-- src/lib.rt:221:13
+other-sound-requires : tie.Need-other-sound-requires Inv-loop μ-loop
+other-sound-requires c κs = (c .before .before .before .before .pre .0, omega arith)
+
+-- src/lib.rt:224:13
+returns : tie.Need-returns Inv-loop μ-loop
+returns c = let a = c .before .before .before .before .before .before in pairs-stop (a .args .s .now) (c .before .before .before .before .loop .i) (c .before .before .pair-sound .ensures) (c .before .other-sound .ensures) (a .args .c) (omega arith) (c .if1 .taken)
+
+-- src/lib.rt:226:9
+add-i : tie.Need-add-i Inv-loop μ-loop
+add-i c = omega arith
+
+-- src/lib.rt:219:5
+loop-less : tie.Need-loop-less Inv-loop μ-loop
+loop-less c = omega arith
+
+-- src/lib.rt:219:5
+loop-again : tie.Need-loop-again Inv-loop μ-loop
+loop-again c = let a = c .before .before .before .before .before .before in (omega arith, pairs-more (a .args .s .now) (c .before .before .before .before .loop .i) (c .before .before .pair-sound .ensures) (c .before .other-sound .ensures) (c .before .before .before .before .loop .inv .1) (c .if1 .left))
+
+-- src/lib.rt:214:1
+returns-2 : tie.Need-returns-2 Inv-loop μ-loop
+returns-2 c = let e : c .before .loop .i ≡ c .before .before .before .args .c = omega arith in sym (rw e at (c .before .loop .inv .1))
+
+pub held-pairs-sound-spec : {M : Type 1} → statement M
+held-pairs-sound-spec =
+    tie.close
+    (tie.spec
+    Inv-loop
+    μ-loop
+    loop-holds
+    pair-sound-requires
+    other-sound-requires
+    returns
+    add-i
+    loop-less
+    loop-again
+    returns-2)

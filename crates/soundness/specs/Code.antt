@@ -1,0 +1,178 @@
+-- What the functions over rows and monitors owe, as laws over plain values: their returns and the turns of their
+-- loops. Assumes nothing.
+use Prim.Native.Nat.{ℕ, _+_, _-_, _*_, _≤_, _<_}
+use mathlib.Core.Path.{_≡_, refl, sym, ap, _∙_}
+use mathlib.Core.Bool.{Bool, true, false, _&&_, not}
+use mathlib.Core.List.{List}
+use native.Mathlib.Omega.{arith}
+use lib.Dec.{leb, ltb, eqb}
+use lib.ListN.{length, take, drop, getD, length-take, length-drop}
+use lib.Seq.{take-all, getD-take, drop-drop, take-add, drop-at, length-take-le}
+use borrow.Author.Tests.{le-leb, lt-leb, eq-eqb, ne-eqb, not-true, not-false}
+use Rattle.laws.specs.Tests.{pick, pick-true, pick-false, and-not-left, and-not-right}
+use Rattle.laws.specs.Loops.{every}
+use Rattle.laws.specs.Rows.{row}
+use Rattle.octets.specs.Little.{little, little-take}
+use Rattle.octets.specs.Numbers.{numberAt, number-of}
+use Rattle.parts.specs.Parts.{isZero}
+use Rattle.model.specs.Types.{ticksOf}
+use Rattle.model.specs.Level.{levels}
+use Rattle.model.specs.Image.{monitorIn}
+use Rattle.model.specs.Monitors.{accepts}
+use Rattle.advert.specs.Condition.{formOf}
+use Rattle.soundness.specs.Below.{allBelow, below-more, below-fails}
+use Rattle.soundness.specs.Clauses.{monitorRowAt, headTest, heldTest, monitorTest}
+use Rattle.soundness.specs.Clauses.{monitorsTest}
+use Rattle.soundness.specs.Fields.{isGood, rangesTest, windowTest, emptyTest, fieldsTest, accepts-tests}
+
+-- parts of a slice: the rest, and a part before an end
+pub rest-of : {A : Type 0} (a : ℕ) (l : List A) → take (length l - a) (drop a l) ≡ drop a l
+rest-of a l = take-all (length l - a) (drop a l) (rw (length-drop a l) (omega arith))
+
+pub part-of : {A : Type 0} (a e : ℕ) (l : List A) → a ≤ e → e ≤ length l → take (e - a) (drop a l) ≡ drop a (take e l)
+part-of a e l h k =
+    let v : a + (e - a) ≡ e = omega arith in
+    let n : length (take a l) ≡ a = length-take-le a l (omega arith) in
+    sym (drop-at (take a l) (take (e - a) (drop a l)) a n)
+    ∙ ap (λ x. drop a x) (sym (take-add a (e - a) l))
+    ∙ ap (λ (j : ℕ). drop a (take j l)) v
+
+-- the sum of levels, where the sum is not below 0 and where it is
+pub levels-up : (sum packets : ℕ) → sum ≤ 18446744073709551615 - 127 * packets → packets < 4294967296
+    → sum + 127 * packets ≡ levels sum packets
+unfolding levels
+levels-up sum packets h b = omega arith
+
+pub levels-down : (sum packets : ℕ) → 18446744073709551615 - 127 * packets < sum → sum < 18446744073709551616
+    → packets < 4294967296
+    → sum - (18446744073709551615 - 127 * packets) - 1 ≡ levels sum packets
+unfolding levels
+levels-down sum packets h a b = omega arith
+
+-- a monitor that passes
+pub row-accepts : (r : List ℕ) (n : ℕ) {b g : Bool} → length r ≡ 71 → n ≡ getD r 6 0 → n ≤ 64
+    → b ≡ rangesTest (getD r 1 0) (getD r 2 0) (getD r 3 0)
+    → g ≡ isGood (formOf (getD r 5 0) (take (7 + n - 7) (drop 7 r))) → (b && g) ≡ accepts (monitorIn r .1)
+unfolding monitorIn
+row-accepts r n l e h p q =
+    let k : 7 + n - 7 ≡ getD r 6 0 = omega arith in
+    let c : length (take (getD r 6 0) (drop 7 r)) ≤ 64 = rw (length-take (getD r 6 0) (drop 7 r)) (omega arith) in
+    rw (p, q, k) (sym (accepts-tests (monitorIn r .1) c))
+
+-- a monitor row in use
+module _ (h : ℕ) (r : List ℕ) where
+  pub held-long : 64 < getD r 6 0 → false ≡ heldTest h r
+  unfolding heldTest
+  held-long b =
+      sym (and-not-left (eqb (getD r 0 0) h && leb (getD r 6 0) 64 && every isZero (drop (7 + getD r 6 0) r))
+      (accepts (monitorIn r .1))
+      (and-not-left (eqb (getD r 0 0) h && leb (getD r 6 0) 64) (every isZero (drop (7 + getD r 6 0) r))
+      (and-not-right (eqb (getD r 0 0) h) (leb (getD r 6 0) 64) (lt-leb (getD r 6 0) 64 b))))
+
+  pub held-short : (n k : ℕ) {z a : Bool} → k ≡ getD r 0 0 → n ≡ getD r 6 0 → n ≤ 64
+      → z ≡ every isZero (take (length r - (7 + n)) (drop (7 + n) r)) → a ≡ accepts (monitorIn r .1)
+      → (eqb k h && z && a) ≡ heldTest h r
+  unfolding heldTest
+  held-short n k i e b p q =
+      rw (p, q, i, rest-of (7 + n) r, e, le-leb (getD r 6 0) 64 (rw (← e) b))
+      (go (eqb (getD r 0 0) h) (every isZero (drop (7 + getD r 6 0) r)) (accepts (monitorIn r .1)))
+    where
+      go : (x y w : Bool) → (x && y && w) ≡ (x && true && y && w)
+      go true y w = refl
+      go false y w = refl
+
+  pub monitor-empty : {b : Bool} → getD r 3 0 ≡ 0 → b ≡ every isZero r → b ≡ monitorTest h r
+  unfolding monitorTest
+  monitor-empty e q = q ∙ sym (pick-true (every isZero r) (heldTest h r) (eq-eqb (getD r 3 0) 0 e))
+
+  pub monitor-used : {b : Bool} → (getD r 3 0 ≡ 0 → ⊥) → b ≡ heldTest h r → b ≡ monitorTest h r
+  unfolding monitorTest
+  monitor-used e q = q ∙ sym (pick-false (every isZero r) (heldTest h r) (ne-eqb (getD r 3 0) 0 e))
+
+-- the monitors, one row after another
+module _ (s : List ℕ) where
+  part-monitor : (h : ℕ) → take (40 + 71 * h + 71 - (40 + 71 * h)) (drop (40 + 71 * h) s) ≡ monitorRowAt s h
+  unfolding monitorRowAt row
+  part-monitor h =
+      let k : 40 + 71 * h + 71 - (40 + 71 * h) ≡ 71 = omega arith in
+      ap (λ (j : ℕ). take j (drop (40 + 71 * h) s)) k ∙ ap (λ (x : List ℕ). take 71 x) (sym (drop-drop (71 * h) 40 s))
+
+  module _ (h : ℕ) {b : Bool}
+      (q : b ≡ monitorTest h (take (40 + 71 * h + 71 - (40 + 71 * h)) (drop (40 + 71 * h) s))) where
+    pub monitors-stop : h < 16 → not b ≡ true → false ≡ monitorsTest s
+    unfolding monitorsTest
+    monitors-stop k t =
+        below-fails (λ (h : ℕ). monitorTest h (monitorRowAt s h)) 16 h k
+        (sym (q ∙ ap (monitorTest h) (part-monitor h)) ∙ not-true b t)
+
+    pub monitors-more : allBelow (λ (h : ℕ). monitorTest h (monitorRowAt s h)) h ≡ true → not b ≡ false
+        → allBelow (λ (h : ℕ). monitorTest h (monitorRowAt s h)) (h + 1) ≡ true
+    monitors-more i t =
+        below-more (λ (h : ℕ). monitorTest h (monitorRowAt s h)) h i
+        (sym (q ∙ ap (monitorTest h) (part-monitor h)) ∙ not-false b t)
+
+  pub monitors-end : (h : ℕ) → allBelow (λ (h : ℕ). monitorTest h (monitorRowAt s h)) h ≡ true → h ≡ 16
+      → true ≡ monitorsTest s
+  unfolding monitorsTest
+  monitors-end h i e = sym (rw e at i)
+
+-- the settings, the filter and the octets behind the prefix
+module _ (s : List ℕ) (l : length s ≡ 4761) where
+  pub head-long : 32 < getD s 7 0 → false ≡ headTest (take 40 s)
+  unfolding headTest
+  head-long b =
+      let r : List ℕ = take 40 s in
+      let e : getD r 7 0 ≡ getD s 7 0 = getD-take 40 s 7 0 (omega arith) in
+      sym (and-not-left (leb (getD r 4 0) 1 && leb 0xFC00 (little 2 r 5) && leb (getD r 7 0) 32)
+      (every isZero (drop (8 + getD r 7 0) r))
+      (and-not-right (leb (getD r 4 0) 1 && leb 0xFC00 (little 2 r 5)) (leb (getD r 7 0) 32)
+      (lt-leb (getD r 7 0) 32 (rw e b))))
+
+  pub head-short : (n : ℕ) {z : Bool} {v : ℕ} → n ≡ getD s 7 0 → n ≤ 32
+      → z ≡ every isZero (take (40 - (8 + n)) (drop (8 + n) s)) → v ≡ numberAt 2 s 5
+      → (leb (getD s 4 0) 1 && leb 0xFC00 v && z) ≡ headTest (take 40 s)
+  unfolding headTest
+  head-short n {z} {v} e b p q =
+      let r : List ℕ = take 40 s in
+      let c : getD r 7 0 ≡ n = getD-take 40 s 7 0 (omega arith) ∙ sym e in
+      let f : getD r 4 0 ≡ getD s 4 0 = getD-take 40 s 4 0 (omega arith) in
+      let o : little 2 r 5 ≡ v = little-take 2 40 s 5 (omega arith) ∙ sym (number-of 2 s 5 q (omega arith)) in
+      let d : z ≡ every isZero (drop (8 + n) r) =
+      p ∙ ap (every isZero) (part-of (8 + n) 40 s (omega arith) (omega arith)) in
+      rw (c, f, o, d, le-leb n 32 b)
+      (go (leb (getD s 4 0) 1 && leb 0xFC00 v) (every isZero (drop (8 + n) r)))
+    where
+      go : (x y : Bool) → (x && y) ≡ (x && true && y)
+      go true y = refl
+      go false y = refl
+
+-- a window that runs, and one that does not
+module _ (position sampling ticks packets sum : ℕ) where
+  pub window-runs : {l : ℕ} → (leb 1 sampling && leb sampling 254) ≡ true → l ≡ levels sum packets
+      → (ltb ticks sampling && leb packets position && leb l
+      (147 * packets)) ≡ windowTest position sampling ticks packets sum
+  unfolding windowTest pick
+  window-runs e q = rw (e, q)
+
+  pub window-idle : (leb 1 sampling && leb sampling 254) ≡ false
+      → (eqb ticks 0 && eqb packets 0) ≡ windowTest position sampling ticks packets sum
+  unfolding windowTest pick
+  window-idle e = rw e
+
+-- a pair's row by its numbers
+module _ (position interval sampling : ℕ) (r : List ℕ) where
+  pub fields-long : 31 < getD r 24 0 → false ≡ fieldsTest position interval sampling r
+  unfolding fieldsTest
+  fields-long h = rw (lt-leb (getD r 24 0) 31 h)
+
+  pub fields-short : (n : ℕ) {z w e : Bool} {v t p u : ℕ} → length r ≡ 56 → n ≡ getD r 24 0 → n ≤ 31
+      → z ≡ every isZero (take (length r - (25 + n)) (drop (25 + n) r))
+      → v ≡ numberAt 2 r 8 → t ≡ ticksOf interval → p ≡ numberAt 4 r 11 → u ≡ numberAt 8 r 15
+      → w ≡ windowTest position sampling (getD r 10 0) p u → e ≡ emptyTest p u (getD r 23 0) (getD r 24 0)
+      → (leb (getD r 1 0) 1 && leb (getD r 23 0) 3 && ltb v t && w && e && z) ≡ fieldsTest position interval sampling r
+  unfolding fieldsTest
+  fields-short n {z} {w} {e} {v} {t} {p} {u} l k b dz dv dt dp du dw de =
+      let ev : v ≡ little 2 r 8 = number-of 2 r 8 dv (omega arith) in
+      let ep : p ≡ little 4 r 11 = number-of 4 r 11 dp (omega arith) in
+      let eu : u ≡ little 8 r 15 = number-of 8 r 15 du (omega arith) in
+      rw (dz, dw, de, ev, ep, eu, dt, rest-of (25 + n) r, k, le-leb (getD r 24 0) 31 (rw (← k) b))

@@ -1,0 +1,167 @@
+-- The tests of rows by their numbers, as the functions compute them, and that they are the clauses. Document 01, The
+-- image ("Sound") and Commands (03). Assumes nothing.
+use Prim.Native.Nat.{ℕ, _+_, _-_, _*_, _≤_, _<_}
+use mathlib.Core.Path.{_≡_, refl, ap, _∙_}
+use mathlib.Core.Bool.{Bool, true, false, _&&_, _||_, not}
+use mathlib.Core.List.{List}
+use mathlib.Core.Option.{some}
+use native.Mathlib.Omega.{arith}
+use lib.Dec.{leb, ltb, eqb}
+use lib.ListN.{length, take, drop, getD, length-drop}
+use lib.Seq.{length-take-le}
+use borrow.Author.Tests.{le-leb, lt-leb, lt-ltb, le-ltb, eq-eqb}
+use Rattle.laws.specs.Tests.{pick, and-not-left, and-not-right, cases-le}
+use Rattle.laws.specs.Loops.{every, every-take, every-drop}
+use Rattle.octets.specs.Little.{little, isOctet}
+use Rattle.parts.specs.Parts.{isZero}
+use Rattle.advert.specs.Condition.{wellFormed, formOf}
+use Rattle.advert.specs.declared.Form.{Form}
+use Rattle.advert.specs.declared.Form.the-variants.{Good, Malformed, NotBuilt, Unknown}
+use Rattle.model.specs.Types.{Monitor, Pair, ticksOf, mostCondition, mostData}
+use Rattle.model.specs.Level.{level, inRange, levels}
+use Rattle.model.specs.Monitors.{highAbove, faultOf, accepts, runOf, windowed, invalid, unsupported}
+use Rattle.model.specs.Image.{pairIn}
+use Rattle.model.specs.Sound.{octetsUpTo, soundWindow, soundEmpty, soundFields, soundOf}
+use Rattle.soundness.specs.Clauses.{pairTest}
+use Rattle.soundness.specs.Head.{little-lt}
+
+-- "a threshold outside −127 to 20, high not above low, interval outside 0x01 to 0x3C": none of these
+unfoldable pub rangesTest : ℕ → ℕ → ℕ → Bool
+rangesTest high low interval =
+    leb (level high) 147 && leb (level low) 147 && ltb (level low) (level high) && leb 1 interval && leb interval 60
+
+-- a condition of a type that is built, in the form of its type
+unfoldable pub isGood : Form → Bool
+isGood Good = true
+isGood Malformed = false
+isGood NotBuilt = false
+isGood Unknown = false
+
+-- "for P in 1 to 0xFE window ticks below P, packets at most the position, sum from −127 × packets to 20 × packets;
+-- with other sampling window ticks and packets 0"
+unfoldable pub windowTest : ℕ → ℕ → ℕ → ℕ → ℕ → Bool
+windowTest position sampling ticks packets sum =
+    pick (leb 1 sampling && leb sampling 254)
+    (ltb ticks sampling && leb packets position && leb (levels sum packets) (147 * packets))
+    (eqb ticks 0 && eqb packets 0)
+
+-- "with packets 0 the sum, event type and n are 0"
+unfoldable pub emptyTest : ℕ → ℕ → ℕ → ℕ → Bool
+emptyTest packets sum event n = leb 1 packets || (eqb sum 0 && eqb event 0 && eqb n 0)
+
+-- a pair's row, with its monitor's interval and sampling period
+unfoldable pub fieldsTest : ℕ → ℕ → ℕ → List ℕ → Bool
+fieldsTest position interval sampling r =
+    leb (getD r 24 0) 31
+    && (leb (getD r 1 0) 1 && leb (getD r 23 0) 3 && ltb (little 2 r 8) (ticksOf interval)
+    && windowTest position sampling (getD r 10 0) (little 4 r 11) (little 8 r 15)
+    && emptyTest (little 4 r 11) (little 8 r 15) (getD r 23 0) (getD r 24 0)
+    && every isZero (drop (25 + getD r 24 0) r))
+
+-- 0x03 accepts a monitor whose ranges and condition pass
+pub accepts-tests : (m : Monitor) → length (m .condition) ≤ 64
+    → accepts m ≡ (rangesTest (m .high) (m .low) (m .interval) && isGood (formOf (m .kind) (m .condition)))
+unfolding accepts faultOf rangesTest inRange highAbove formOf isGood mostCondition pick
+accepts-tests m h =
+    rw (le-ltb 64 (length (m .condition)) h)
+    (go (leb (level (m .high)) 147) (leb (level (m .low)) 147) (ltb (level (m .low)) (level (m .high)))
+    (leb 1 (m .interval))
+    (leb (m .interval) 60) (leb 1 (m .kind)) (leb (m .kind) 4) (eqb (m .kind) 3)
+    (wellFormed (m .kind) (m .condition)))
+  where
+    go : (a b c d e f g k w : Bool)
+        → eqb (pick (not (a && b)) invalid
+        (pick (not c) invalid (pick (not (d && e)) invalid (pick (not (f && g)) invalid (
+        pick k unsupported (pick (not w) invalid 0)))))) 0
+        ≡ (a && b && c && d && e && isGood (pick k NotBuilt (pick (f && g) (pick w Good Malformed) Unknown)))
+    go false b c d e f g k w = refl
+    go true false c d e f g k w = refl
+    go true true false d e f g k w = refl
+    go true true true false e f g k w = refl
+    go true true true true false f g k w = refl
+    go true true true true true false g true w = refl
+    go true true true true true false g false w = refl
+    go true true true true true true false true w = refl
+    go true true true true true true false false w = refl
+    go true true true true true true true true w = refl
+    go true true true true true true true false true = refl
+    go true true true true true true true false false = refl
+
+-- a pair's window and its emptiness, by its numbers
+window-tests : (position : ℕ) (m : Monitor) (q : Pair) → q .sum < 18446744073709551616
+    → soundWindow position m q ≡ windowTest position (m .sampling) (q .ticks) (q .packets) (q .sum)
+unfolding soundWindow windowTest windowed
+window-tests position m q h =
+    rw (lt-ltb (q .sum) 18446744073709551616 h)
+    (ap (λ (t : Bool). pick (leb 1 (m .sampling) && leb (m .sampling) 254) t (eqb (q .ticks) 0 && eqb (q .packets) 0))
+    (go (ltb (q .ticks) (m .sampling)) (leb (q .packets) position)
+    (leb (levels (q .sum) (q .packets)) (147 * q .packets))))
+  where
+    go : (a b c : Bool) → (a && b && true && c) ≡ (a && b && c)
+    go false b c = refl
+    go true false c = refl
+    go true true c = refl
+
+empty-tests : (q : Pair) (n : ℕ) → length (q .adv) ≡ n → soundEmpty q ≡ emptyTest (q .packets) (q .sum) (q .event) n
+unfolding soundEmpty emptyTest
+empty-tests q n e = rw e
+
+-- a pair's fields: the address is 6 octets and the data are octets whatever stands there
+fields-tests : (q : Pair) → length (q .address) ≡ 6 → every isOctet (q .address) ≡ true → length (q .adv) ≤ 31
+    → every isOctet (q .adv) ≡ true → soundFields q ≡ (leb (q .kind) 1 && leb (q .event) 3)
+unfolding soundFields octetsUpTo mostData
+fields-tests q a b c d =
+    rw (eq-eqb (length (q .address)) 6 a, b, le-leb (length (q .adv)) 31 c, d)
+    (go (leb (q .kind) 1) (leb (q .event) 3))
+  where
+    go : (a b : Bool) → (a && true && true && b && true) ≡ (a && b)
+    go false b = refl
+    go true false = refl
+    go true true = refl
+
+-- a pair's row passes where its numbers do
+module _ (position : ℕ) (m : Monitor) (r : List ℕ) (l : length r ≡ 56) (o : every isOctet r ≡ true) where
+  few-tests : getD r 24 0 ≤ 31 → pairTest position (some m) r ≡ fieldsTest position (m .interval) (m .sampling) r
+  unfolding pairTest soundOf fieldsTest pairIn runOf
+  few-tests h =
+      let q : Pair = pairIn r in
+      let n : ℕ = getD r 24 0 in
+      let la : length (take 6 (drop 2 r)) ≡ 6 = length-take-le 6 (drop 2 r) (rw (length-drop 2 r) (omega arith)) in
+      let ld : length (take n (drop 25 r)) ≡ n = length-take-le n (drop 25 r) (rw (length-drop 25 r) (omega arith)) in
+      let oa : every isOctet (take 6 (drop 2 r)) ≡ true =
+      every-take isOctet 6 (drop 2 r) (every-drop isOctet 2 r o) in
+      let od : every isOctet (take n (drop 25 r)) ≡ true =
+      every-take isOctet n (drop 25 r) (every-drop isOctet 25 r o) in
+      rw (
+        fields-tests q la oa (omega arith) od,
+        window-tests position m q (little-lt 8 r 15 o),
+        empty-tests q n ld,
+        le-leb n 31 h,
+      )
+      (go (leb (getD r 1 0) 1) (leb (getD r 23 0) 3) (ltb (little 2 r 8) (ticksOf (m .interval)))
+      (windowTest position (m .sampling) (getD r 10 0) (little 4 r 11) (little 8 r 15))
+      (emptyTest (little 4 r 11) (little 8 r 15) (getD r 23 0) n) (every isZero (drop (25 + n) r)))
+    where
+      go : (a b c d e f : Bool) → (a && b && c && d && e && true && f) ≡ (a && b && c && d && e && f)
+      go false b c d e f = refl
+      go true false c d e f = refl
+      go true true false d e f = refl
+      go true true true false e f = refl
+      go true true true true false f = refl
+      go true true true true true f = refl
+
+  many-tests : 31 < getD r 24 0 → pairTest position (some m) r ≡ false
+  unfolding pairTest
+  many-tests h =
+      and-not-left (soundOf position (some m) (pairIn r) && leb (getD r 24 0) 31)
+      (every isZero (drop (25 + getD r 24 0) r))
+      (and-not-right (soundOf position (some m) (pairIn r)) (leb (getD r 24 0) 31) (lt-leb (getD r 24 0) 31 h))
+
+  pub fields-many : 31 < getD r 24 0 → false ≡ fieldsTest position (m .interval) (m .sampling) r
+  unfolding fieldsTest
+  fields-many h = rw (lt-leb (getD r 24 0) 31 h)
+
+  pub pair-tests : pairTest position (some m) r ≡ fieldsTest position (m .interval) (m .sampling) r
+  pair-tests =
+      cases-le (getD r 24 0) 31 (λ (u : getD r 24 0 ≤ 31). few-tests u)
+      (λ (u : 31 < getD r 24 0). many-tests u ∙ fields-many u)

@@ -1,0 +1,174 @@
+-- A block whose clauses hold is sound: the state that it holds is, and the block is that state's. Document 01, The
+-- image ("Sound"). Assumes nothing.
+use Prim.Native.Nat.{ℕ, _+_, _-_, _≤_, _<_}
+use mathlib.Core.Path.{_≡_, refl, sym, ap, _∙_}
+use mathlib.Core.Bool.{true, false, _&&_, not}
+use mathlib.Core.List.{List, [], _∷_, _++_}
+use mathlib.Core.Option.{Option}
+use native.Mathlib.Omega.{arith}
+use lib.Dec.{leb, eqb}
+use lib.ListN.{length, take, drop, getD, length-map, length-take}
+use lib.Seq.{getD-take, drop-length}
+use borrow.Author.Tests.{leb-true, eqb-true}
+use Rattle.laws.specs.Tests.{and-left, and-right, and-both, eq-sames}
+use Rattle.laws.specs.Loops.{every, every-take, every-drop}
+use Rattle.octets.specs.Little.{little, isOctet, little-take}
+use Rattle.parts.specs.Parts.{isZero}
+use Rattle.rule.specs.Base.{not-true}
+use Rattle.model.specs.Types.{Monitor, Pair, watched}
+use Rattle.model.specs.Image.{pairRow, pairIn}
+use Rattle.model.specs.Watch.{isPair}
+use Rattle.model.specs.Sound.{soundOf, soundPair, apart}
+use Rattle.model.specs.Block.{headSize, padTo, monitorBlock, pairBlock, padded, held, sound}
+use Rattle.blocks.specs.Facts.{SoundModel, facts-sound, monitors-facts}
+use Rattle.blocks.specs.Tables.{from, length-from}
+use Rattle.soundness.specs.Below.{all-below}
+use Rattle.soundness.specs.Clauses.{pairRowAt, liveAt, headTest, monitorsTest, pairTest, placeTest, keyAt}
+use Rattle.soundness.specs.Clauses.{otherTest}
+use Rattle.soundness.specs.Clauses.{heldPairTest}
+use Rattle.soundness.specs.Clauses.{freeTest, pairsTest, soundBlock}
+use Rattle.soundness.specs.Keys.{key-pair}
+use Rattle.soundness.specs.Rows.{one-cut, part-cut, pair-row}
+use Rattle.soundness.specs.Head.{HeadFacts, head-facts, head-row, little-lt}
+use Rattle.soundness.specs.Front.{find-live, held-mons-sound, block-live}
+use Rattle.soundness.specs.Pairs.{pairsOf, every-pairs, apart-pairs, length-pairRowAt, octets-pairRowAt, key-row}
+use Rattle.soundness.specs.Pairs.{pairs-held, block-pairs}
+
+-- the clauses, by name
+pub record Clauses (s : List ℕ) : Type 0 where
+  pub size : length s ≡ 4761
+  pub head : headTest (take 40 s) ≡ true
+  pub monitors : monitorsTest s ≡ true
+  pub few : getD s 4760 0 ≤ 64
+  pub free : freeTest s (getD s 4760 0) ≡ true
+  pub row : (i : ℕ) → i < getD s 4760 0 → placeTest s i ≡ true
+  pub other : (i j : ℕ) → j < i → i < getD s 4760 0 → eqb (keyAt s i) (keyAt s j) ≡ false
+
+pub clauses : (s : List ℕ) → soundBlock s ≡ true → Clauses s
+unfolding soundBlock pairsTest heldPairTest otherTest
+clauses s e =
+    let c : ℕ = getD s 4760 0 in
+    let a = eqb (length s) 4761 in
+    let b = headTest (take 40 s) in
+    let m = monitorsTest s in
+    let p = pairsTest s c in
+    let e2 = and-left (a && b && m) p e in
+    let e1 = and-left (a && b) m e2 in
+    let q = and-right (a && b && m) p e in
+    let f = leb c 64 in
+    let g = freeTest s c in
+    let h = Rattle.soundness.specs.Below.allBelow (heldPairTest s) c in
+    let q1 = and-left (f && g) h q in
+    let each : (i : ℕ) → i < c → heldPairTest s i ≡ true = all-below (heldPairTest s) c (and-right (f && g) h q) in
+    record {
+      size = eqb-true (length s) 4761 (and-left a b e1);
+      head = and-right a b e1;
+      monitors = and-right (a && b) m e2;
+      few = leb-true c 64 (and-left f g q1);
+      free = and-right f g q1;
+      row = λ i k. and-left (placeTest s i) (otherTest s i) (each i k);
+      other = λ i j k n. not-true (eqb (keyAt s i) (keyAt s j))
+          (all-below (λ (j : ℕ). not (eqb (keyAt s i) (keyAt s j))) i
+          (and-right (placeTest s i) (otherTest s i) (each i n)) j k);
+    }
+
+module _ (s : List ℕ) (o : every isOctet s ≡ true) (f : Clauses s) where
+  -- a held row: its pair is sound, and it is the row of its pair
+  pair-sound : (i : ℕ) → i < getD s 4760 0 → soundPair (held s) (pairIn (pairRowAt s i)) ≡ true
+  unfolding soundPair held placeTest pairTest pairIn
+  pair-sound i b =
+      let r : List ℕ = pairRowAt s i in
+      let t = soundOf (little 4 s 0) (liveAt s (getD r 0 0)) (pairIn r) in
+      let u = leb (getD r 24 0) 31 in
+      let v = every isZero (drop (25 + getD r 24 0) r) in
+      ap (λ (x : Option Monitor). soundOf (little 4 s 0) x (pairIn r))
+      (find-live s (f .size) o (f .monitors) (getD r 0 0))
+      ∙ and-left t u (and-left (t && u) v (f .row i b))
+
+  pair-place : (i : ℕ) → i < getD s 4760 0 → padTo 56 (pairRow (pairIn (pairRowAt s i))) ≡ pairRowAt s i
+  unfolding placeTest pairTest
+  pair-place i b =
+      let r : List ℕ = pairRowAt s i in
+      let t = soundOf (little 4 s 0) (liveAt s (getD r 0 0)) (pairIn r) in
+      let u = leb (getD r 24 0) 31 in
+      let v = every isZero (drop (25 + getD r 24 0) r) in
+      let n : getD s 4760 0 ≤ 64 = f .few in
+      pair-row r (length-pairRowAt s (f .size) i (omega arith)) (octets-pairRowAt s (f .size) o i)
+      (leb-true (getD r 24 0) 31 (and-right t u (and-left (t && u) v (f .row i b))))
+      (and-right (t && u) v (f .row i b))
+
+  pairs-apart : apart (pairsOf (pairRowAt s) 0 (getD s 4760 0)) ≡ true
+  pairs-apart = apart-pairs (pairRowAt s) 0 (getD s 4760 0) (λ i j a h b. two i j h (omega arith))
+    where
+      two : (i j : ℕ) → i < j → j < getD s 4760 0
+          → isPair (pairIn (pairRowAt s i) .handle) (watched (pairIn (pairRowAt s i)))
+          (pairIn (pairRowAt s j)) ≡ false
+      two i j h b =
+          let n : getD s 4760 0 ≤ 64 = f .few in
+          let x : List ℕ = pairRowAt s i in
+          let y : List ℕ = pairRowAt s j in
+          let lx : length x ≡ 56 = length-pairRowAt s (f .size) i (omega arith) in
+          let ly : length y ≡ 56 = length-pairRowAt s (f .size) j (omega arith) in
+          key-pair x y (omega arith) (omega arith) (octets-pairRowAt s (f .size) o i)
+          (octets-pairRowAt s (f .size) o j)
+          ∙ ap (λ (v : ℕ). eqb v (little 8 x 0)) (sym (key-row s (f .size) j))
+          ∙ ap (λ (v : ℕ). eqb (keyAt s j) v) (sym (key-row s (f .size) i))
+          ∙ f .other j i h b
+
+  pairs-now : held s .pairs ≡ pairsOf (pairRowAt s) 0 (getD s 4760 0)
+  pairs-now = pairs-held s (f .size) (getD s 4760 0) (f .few) refl
+
+  pairs-length : length (held s .pairs) ≡ getD s 4760 0
+  pairs-length =
+      ap (λ (x : List Pair). length x) pairs-now ∙ length-map (from (pairRowAt s) 0 (getD s 4760 0)) pairIn
+      ∙ length-from (pairRowAt s) 0 (getD s 4760 0)
+
+  held-sound : SoundModel (held s)
+  unfolding held
+  held-sound =
+      let h : HeadFacts (take 40 s) = head-facts (take 40 s) (f .head) in
+      let c : getD s 7 0 ≤ 32 = rw (getD-take 40 s 7 0 (omega arith)) at (h .short) in
+      let p : little 4 s 0 < 4294967296 = little-lt 4 s 0 o in
+      let q : little 2 s 5 < 65536 = little-lt 2 s 5 o in
+      let n : getD s 4760 0 ≤ 64 = f .few in
+      record {
+        position-most = omega arith;
+        filter-most = rw (getD-take 40 s 4 0 (omega arith)) at (h .filter);
+        opcode-least = rw (little-take 2 40 s 5 (omega arith)) at (h .opcode);
+        opcode-most = omega arith;
+        prefix-most = rw (length-take (getD s 7 0) (drop 8 s)) (omega arith);
+        prefix-octets = every-take isOctet (getD s 7 0) (drop 8 s) (every-drop isOctet 8 s o);
+        mons-sound = monitors-facts 0 (held s .mons) (held-mons-sound s (f .size) o (f .monitors));
+        pairs-most = omega (arith, pairs-length);
+        pairs-apart = ap apart pairs-now ∙ pairs-apart;
+        pairs-sound =
+            ap (every (soundPair (held s))) pairs-now
+            ∙ every-pairs (pairRowAt s) (soundPair (held s)) 0 (getD s 4760 0) (λ i a b. pair-sound i (omega arith));
+      }
+
+  held-padded : padded (held s) ≡ s
+  unfolding padded headSize
+  held-padded =
+      let c : ℕ = getD s 4760 0 in
+      let l : length s ≡ 4761 = f .size in
+      let u : List ℕ = take 40 s in
+      let v : List ℕ = take 1136 (drop 40 s) in
+      let w : List ℕ = take 3584 (drop 1176 s) in
+      let mb : List ℕ = monitorBlock (held s .mons) in
+      let pb : List ℕ = pairBlock (held s .pairs) in
+      let z : drop 4761 s ≡ [] = rw (← l) (drop-length s) in
+      let e : c ∷ [] ≡ drop 4760 s = ap (λ (x : List ℕ). c ∷ x) (sym z) ∙ one-cut s 4760 (omega arith) in
+      let pairs : pb ≡ w =
+      ap pairBlock pairs-now ∙ block-pairs s l c (f .few) pair-place (f .free) in
+      ap (λ (x : List ℕ). x ++ (mb ++ (pb ++ (length (held s .pairs) ∷ [])))) (head-row s (omega arith) o (f .head))
+      ∙ ap (λ (x : List ℕ). u ++ (x ++ (pb ++ (length (held s .pairs) ∷ [])))) (block-live s l o (f .monitors))
+      ∙ ap (λ (x : List ℕ). u ++ (v ++ (x ++ (length (held s .pairs) ∷ [])))) pairs
+      ∙ ap (λ (n : ℕ). u ++ (v ++ (w ++ (n ∷ [])))) pairs-length
+      ∙ ap (λ (x : List ℕ). u ++ (v ++ (w ++ x))) e
+      ∙ ap (λ (x : List ℕ). u ++ (v ++ x)) (part-cut s 1176 3584)
+      ∙ ap (λ (x : List ℕ). u ++ x) (part-cut s 40 1136)
+      ∙ part-cut s 0 40
+
+  pub clauses-sound : sound s ≡ true
+  unfolding sound
+  clauses-sound = and-both (facts-sound (held s) held-sound) (eq-sames (padded (held s)) s held-padded)

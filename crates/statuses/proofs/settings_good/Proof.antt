@@ -1,0 +1,31 @@
+use Rattle.statuses.specs.Statuses.{settingsGood}
+use borrow.Author.Needs.{needs}
+use Rattle.statuses.proofs.settings_good.Statement.{statement}
+use Rattle.statuses.proofs.settings_good.Tie as tie
+
+in-range-requires : tie.Need-in-range-requires
+in-range-requires c κs = search needs
+
+in-range-requires-2 : tie.Need-in-range-requires-2
+in-range-requires-2 c κs = search needs
+
+level-of-requires : tie.Need-level-of-requires
+level-of-requires c κs = search needs
+
+level-of-requires-2 : tie.Need-level-of-requires-2
+level-of-requires-2 c κs = search needs
+
+returns : tie.Need-returns
+unfolding settingsGood
+returns c = rw (
+  c .before .before .before .in-range .ensures,
+  c .before .before .in-range2 .ensures,
+  c .before
+      .level-of .ensures,
+  c .level-of2 .ensures,
+)
+
+pub settings-good-spec : {M : Type 1} → statement M
+settings-good-spec =
+    tie.close
+    (tie.spec in-range-requires in-range-requires-2 level-of-requires level-of-requires-2 returns)

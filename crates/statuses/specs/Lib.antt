@@ -1,0 +1,4 @@
+-- What the functions on statuses say, with their laws.
+pub mod Statuses
+pub mod Lookup
+pub mod Answers

@@ -1,0 +1,8 @@
+-- A tick: what it does to the pairs held and what it writes (document 01, Watching, by history).
+pub mod Row
+pub mod Written
+pub mod Table
+pub mod Pairs
+pub mod Whole
+pub mod Block
+pub mod Refused

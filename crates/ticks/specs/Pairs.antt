@@ -1,0 +1,156 @@
+-- A tick on the rows of pairs is the model's tick on the pairs. Document 01, Watching, by history (Tick). Assumes
+-- nothing.
+use Prim.Native.Nat.{ℕ, suc, _+_, _-_, _*_, zero-le}
+use mathlib.Core.Path.{_≡_, refl, sym, ap, _∙_}
+use mathlib.Core.Bool.{Bool, true, false, _&&_, not}
+use mathlib.Core.List.{List, [], _∷_, _++_, append-nil, map}
+use mathlib.Core.Option.{Option, none, some}
+use lib.Dec.{leb, ltb}
+use lib.ListN.{length, take, drop, getD, replicate}
+use borrow.Author.Tests.{le-ltb, le-leb}
+use Rattle.laws.specs.Put.{put}
+use Rattle.laws.specs.Tests.{pick}
+use Rattle.laws.specs.Loops.{when}
+use Rattle.laws.specs.Rows.{flat}
+use Rattle.octets.specs.Little.{little}
+use Rattle.rule.specs.Base.{push}
+use Rattle.model.specs.Types.{Monitor, Pair, ticksOf}
+use Rattle.model.specs.Image.{pairRow, pairIn}
+use Rattle.model.specs.Monitors.{runOf, windowed}
+use Rattle.model.specs.Watch.{withSilent, withTicks, emptied, goesOn as goesOnPair, closes, windowTick, atTick}
+use Rattle.model.specs.Watch.{windowSays, tickOctets}
+use Rattle.model.specs.Events.{event, stopEvent, windowReport}
+use Rattle.model.specs.Level.{mean}
+use Rattle.model.specs.Block.{padTo}
+use Rattle.blocks.specs.Bounds.{Fits}
+use Rattle.blocks.specs.Rows.{getD-past}
+use Rattle.blocks.specs.Fields.{put-silent, put-ticks, put-emptied, keyOf, timesOf, place-split}
+use Rattle.blocks.specs.Pairs.{pairPlace}
+use Rattle.blocks.specs.Places.{pairIn-place}
+use Rattle.events.specs.Octets.{event-pair, report-device}
+use Rattle.ticks.specs.Row.{windowedBy, closesAt, goesOn, onward, tickedRow, keptRow, reportRow, saysRow}
+use Rattle.ticks.specs.Row.{toldOn, toldRow}
+
+-- the interval and the sampling of a monitor, 0 where there is none
+unfoldable pub intervalOf : Option Monitor → ℕ
+intervalOf none = 0
+intervalOf (some m) = m .interval
+
+unfoldable pub samplingOf : Option Monitor → ℕ
+samplingOf none = 0
+samplingOf (some m) = m .sampling
+
+and-same : (t : Bool) → (t && true) ≡ t
+and-same true = refl
+and-same false = refl
+
+-- what a pair's row holds
+module _ (q : Pair) (f : Fits q) where
+  pub place-handle : getD (padTo 56 (pairRow q)) 0 0 ≡ q .handle
+  unfolding pairIn
+  place-handle = ap (λ (p : Pair). p .handle) (pairIn-place q f)
+
+  place-silent : little 2 (padTo 56 (pairRow q)) 8 ≡ q .silent
+  unfolding pairIn
+  place-silent = ap (λ (p : Pair). p .silent) (pairIn-place q f)
+
+  place-ticks : getD (padTo 56 (pairRow q)) 10 0 ≡ q .ticks
+  unfolding pairIn
+  place-ticks = ap (λ (p : Pair). p .ticks) (pairIn-place q f)
+
+  place-packets : little 4 (padTo 56 (pairRow q)) 11 ≡ q .packets
+  unfolding pairIn
+  place-packets = ap (λ (p : Pair). p .packets) (pairIn-place q f)
+
+  place-sum : little 8 (padTo 56 (pairRow q)) 15 ≡ q .sum
+  unfolding pairIn
+  place-sum = ap (λ (p : Pair). p .sum) (pairIn-place q f)
+
+  place-event : getD (padTo 56 (pairRow q)) 23 0 ≡ q .event
+  unfolding pairIn
+  place-event = ap (λ (p : Pair). p .event) (pairIn-place q f)
+
+  place-adv : take (getD (padTo 56 (pairRow q)) 24 0) (drop 25 (padTo 56 (pairRow q))) ≡ q .adv
+  unfolding pairIn
+  place-adv = ap (λ (p : Pair). p .adv) (pairIn-place q f)
+
+  place-device : take 7 (drop 1 (padTo 56 (pairRow q))) ≡ q .kind ∷ q .address
+  place-device =
+      ap (λ (l : List ℕ). take 7 (drop 1 l)) (place-split q (f .address-length))
+      ∙ lib.Seq.take-at (q .kind ∷ q .address) _ 7 (ap suc (f .address-length))
+
+  place-count : getD (padTo 56 (pairRow q)) 24 0 ≡ length (q .adv)
+  unfolding Rattle.octets.specs.Little.octetsOf
+  place-count =
+      ap (λ (l : List ℕ). getD l 24 0) (place-split q (f .address-length))
+      ∙ getD-past (keyOf q) (timesOf q) 8 (ap (λ (n : ℕ). suc (suc n)) (f .address-length)) 16
+
+  -- the row a tick further
+  place-onward : onward (padTo 56 (pairRow q)) ≡ padTo 56 (pairRow (withSilent q (q .silent + 1)))
+  unfolding onward
+  place-onward = rw place-silent (put-silent q (f .address-length) (q .silent + 1))
+
+  place-ticked : (m : Monitor)
+      → tickedRow (m .sampling) (padTo 56 (pairRow q)) ≡ padTo 56
+      (pairRow (windowTick m (withSilent q (q .silent + 1))))
+  unfolding tickedRow windowTick closesAt windowedBy closes windowed withSilent pick
+  place-ticked m =
+      rw (place-onward, place-ticks)
+      (go (leb 1 (m .sampling) && leb (m .sampling) 254) (leb (m .sampling) (q .ticks + 1)))
+    where
+      p : Pair
+      p = withSilent q (q .silent + 1)
+
+      go : (a b : Bool)
+          → pick a (pick (a && b) (put (padTo 56 (pairRow p)) 10 (replicate 46 0))
+          (put (padTo 56 (pairRow p)) 10 ((q .ticks + 1) ∷ [])))
+          (padTo 56 (pairRow p))
+          ≡ padTo 56 (pairRow (pick a (pick (a && b) (emptied p) (withTicks p (q .ticks + 1))) p))
+      go true true = put-emptied p (f .address-length) (f .adv-most)
+      go true false = put-ticks p (f .address-length) (q .ticks + 1)
+      go false b = refl
+
+  pub place-kept : (o : Option Monitor)
+      → keptRow (ticksOf (intervalOf o)) (samplingOf o) (padTo 56 (pairRow q)) ≡ flat
+      (map pairPlace (push (atTick o q) []))
+  unfolding keptRow goesOn intervalOf samplingOf atTick goesOnPair runOf ticksOf when pick flat
+  place-kept none = rw (le-ltb (little 2 (padTo 56 (pairRow q)) 8 + 1) 0 zero-le)
+  place-kept (some m) = rw place-silent (go (ltb (q .silent + 1) (10 * m .interval)))
+    where
+      go : (t : Bool)
+          → when t (tickedRow (m .sampling) (padTo 56 (pairRow q)))
+          ≡ flat (map pairPlace (push (pick t (some (windowTick m (withSilent q (q .silent + 1)))) none) []))
+      go true = place-ticked m ∙ sym (append-nil _)
+      go false = refl
+
+  -- what is written
+  place-report : reportRow (padTo 56 (pairRow q)) ≡ windowReport q
+  unfolding reportRow windowReport
+  place-report =
+      rw (place-event, place-device, place-adv, place-sum, place-packets)
+      (report-device (q .event) (q .kind) (q .address) (q .adv) (mean (q .sum) (q .packets)))
+
+  pub place-told : (o : Option Monitor) (filter : ℕ) (prefix : List ℕ)
+      → toldRow (ticksOf (intervalOf o)) (samplingOf o) filter prefix
+      (padTo 56 (pairRow q)) ≡ tickOctets filter prefix o q
+  unfolding toldRow toldOn saysRow goesOn intervalOf samplingOf closesAt windowedBy tickOctets goesOnPair windowSays closes windowed
+      runOf ticksOf stopEvent when pick
+  place-told none filter prefix =
+      rw (le-ltb (little 2 (padTo 56 (pairRow q)) 8 + 1) 0 zero-le) (event-pair prefix q 0 (f .address-length))
+  place-told (some m) filter prefix =
+      rw (
+        place-silent,
+        place-ticks,
+        place-packets,
+        place-count,
+        le-leb (length (q .adv)) 31 (f .adv-most),
+        and-same (leb 1 (q .packets)),
+        place-report,
+        event-pair prefix q 0 (f .address-length),
+      )
+      (go (ltb (q .silent + 1) (10 * m .interval)) _)
+    where
+      go : (t x : Bool) → when (t && x) (windowReport q) ++ when (not t) (event prefix q 0) ≡ pick t
+          (when x (windowReport q)) (event prefix q 0)
+      go true x = append-nil (when x (windowReport q))
+      go false x = refl

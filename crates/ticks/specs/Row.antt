@@ -1,0 +1,82 @@
+-- A tick on one row of the pair table: whether the watch goes on, what the row is then, what is written. Document 01,
+-- Watching, by
+-- history (Tick). A row is 56 octets: handle, address type, address, ticks since a good packet (2) at 8, ticks in the
+-- window at 10,
+-- packets (4) at 11, sum (8) at 15, event type at 23, n at 24, data at 25. Assumes nothing.
+use Prim.Native.Nat.{ℕ, _+_}
+use mathlib.Core.Bool.{Bool, _&&_, not}
+use mathlib.Core.List.{List, [], _∷_, _++_}
+use lib.Dec.{leb, ltb, eqb}
+use lib.ListN.{take, drop, getD, replicate}
+use Rattle.laws.specs.Put.{put}
+use Rattle.laws.specs.Tests.{pick}
+use Rattle.laws.specs.Loops.{when}
+use Rattle.laws.specs.Rows.{row}
+use Rattle.octets.specs.Little.{little, octetsOf}
+use Rattle.model.specs.Types.{ticksOf}
+use Rattle.model.specs.Level.{mean}
+use Rattle.events.specs.Octets.{eventOctets, reportOctets}
+
+-- "for sampling P from 0x01 to 0xFE"
+unfoldable pub windowedBy : ℕ → Bool
+windowedBy period = leb 1 period && leb period 254
+
+-- "each P-th tick since the start closes a window"
+unfoldable pub closesAt : ℕ → ℕ → Bool
+closesAt period ticks = windowedBy period && leb period (ticks + 1)
+
+-- the watch goes on over one tick more: a run is 10 × interval ticks without a good packet
+unfoldable pub goesOn : ℕ → List ℕ → Bool
+goesOn run r = ltb (little 2 r 8 + 1) run
+
+-- one tick more since a good packet
+unfoldable pub onward : List ℕ → List ℕ
+onward r = put r 8 (octetsOf 2 (little 2 r 8 + 1))
+
+-- the row of a pair that stays: its window closed and empty, or one tick longer, or none
+unfoldable pub tickedRow : ℕ → List ℕ → List ℕ
+tickedRow period r =
+    pick (windowedBy period) (pick (closesAt period (getD r 10 0)) (put (onward r) 10 (replicate 46 0))
+    (put (onward r) 10 ((getD r 10 0 + 1) ∷ []))) (onward r)
+
+-- the rows that a row leaves: itself, ticked, or nothing
+unfoldable pub keptRow : ℕ → ℕ → List ℕ → List ℕ
+keptRow run period r = when (goesOn run r) (tickedRow period r)
+
+-- "one report: the latest of them, with RSSI the greatest whole number not above sum / count"
+unfoldable pub reportRow : List ℕ → List ℕ
+reportRow r =
+    reportOctets (getD r 23 0) (take 7 (drop 1 r)) (take (getD r 24 0) (drop 25 r))
+    (mean (little 8 r 15) (little 4 r 11))
+
+-- "if the filter is on and the window had matching packets", of a pair that stays; a row with more data than 31
+-- octets says nothing
+unfoldable pub saysRow : Bool → ℕ → ℕ → List ℕ → Bool
+saysRow on period filter r =
+    on && (eqb filter 1 && (closesAt period (getD r 10 0) && (leb 1 (little 4 r 11) && leb (getD r 24 0) 31)))
+
+-- "if the watch ends, a stop event and no report. Otherwise .. one report"
+unfoldable pub toldOn : Bool → ℕ → ℕ → List ℕ → List ℕ → List ℕ
+toldOn on period filter prefix r = when (saysRow on period filter r) (reportRow r) ++ when (not on)
+    (eventOctets prefix r 0)
+
+unfoldable pub toldRow : ℕ → ℕ → ℕ → List ℕ → List ℕ → List ℕ
+toldRow run period filter prefix r = toldOn (goesOn run r) period filter prefix r
+
+-- a row's run and period, from the intervals and periods by handle; 0 where there are none
+unfoldable pub runIn : List ℕ → List ℕ → ℕ
+runIn intervals r = ticksOf (getD intervals (getD r 0 0) 0)
+
+unfoldable pub periodIn : List ℕ → List ℕ → ℕ
+periodIn periods r = getD periods (getD r 0 0) 0
+
+-- what row j of a table leaves, and what is written for it
+unfoldable pub keptAt : List ℕ → List ℕ → List ℕ → ℕ → List ℕ
+keptAt intervals periods t j =
+    keptRow (runIn intervals (row 56 j t)) (periodIn periods (row 56 j t))
+    (row 56 j t)
+
+unfoldable pub toldAt : List ℕ → List ℕ → ℕ → List ℕ → List ℕ → ℕ → List ℕ
+toldAt intervals periods filter prefix t j =
+    toldRow (runIn intervals (row 56 j t)) (periodIn periods (row 56 j t)) filter prefix
+    (row 56 j t)

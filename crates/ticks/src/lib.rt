@@ -1,0 +1,332 @@
+// A tick (document 01, Watching, by history): one pass over the pairs held, in place. For each pair in start order: the ticks since a
+// good packet, the end of a watch with its stop event, the closing of a window with its report. Pairs that stay move down over those
+// that end, and the rows behind them are cleared.
+ghost use Prim.Native.Nat.{_+_, _*_, _≤_, _<_};
+ghost use mathlib.Core.Path.{_≡_};
+ghost use mathlib.Core.Bool.{true, not};
+ghost use lib.ListN.{length, take, getD};
+ghost use lib.Dec.{ltb};
+ghost use Rattle.laws.specs.Put.{put};
+ghost use Rattle.laws.specs.Loops.{when};
+ghost use Rattle.laws.specs.Rows.{row};
+ghost use Rattle.octets.specs.Little.{little};
+ghost use Rattle.octets.specs.Numbers.{numberAt};
+ghost use Rattle.sessions.specs.Machine.{lastNumber};
+ghost use Rattle.model.specs.Types.{Model};
+ghost use Rattle.model.specs.Level.{mean};
+ghost use Rattle.model.specs.Frames.{tick as aTick};
+ghost use Rattle.model.specs.Sound.{soundModel};
+ghost use Rattle.model.specs.Block.{padded};
+ghost use Rattle.stepped.specs.Stepped.{Stepped};
+ghost use Rattle.events.specs.Octets.{eventOctets};
+ghost use Rattle.ticks.specs.Row.{windowedBy, closesAt, tickedRow, reportRow, saysRow, toldOn, keptAt, toldAt};
+ghost use Rattle.ticks.specs.Written.{Appended};
+ghost use Rattle.ticks.specs.Table.{Turned, Passed, Cleared, columnOf};
+ghost use Rattle.ticks.specs.Refused.{Taken};
+
+// Whether a watch goes on: a tick more since a good packet is not yet the whole run.
+fn stays(silent: u16, run: u16) -> bool
+    ensures { λ r. ⌜ r ≡ ltb (silent + 1) run ⌝ }
+{
+    if silent < run {
+        return silent + 1 < run;
+    }
+    false
+}
+
+// Whether a sampling period has windows: from 0x01 to 0xFE.
+fn windowed(period: u8) -> bool
+    ensures { λ r. ⌜ r ≡ windowedBy period ⌝ }
+{
+    (1 <= period) & (period <= 254)
+}
+
+// Whether one tick more closes the window.
+fn closes(period: u8, ticks: u8) -> bool
+    ensures { λ r. ⌜ r ≡ closesAt period ticks ⌝ }
+{
+    let some = windowed(period);
+    if ticks < period {
+        return some & (period <= ticks + 1);
+    }
+    some
+}
+
+// The mean RSSI of a window's packets: the greatest whole number not above sum / packets, as an octet.
+fn mean_of(sum: u64, packets: u64) -> u8
+    requires { ⌜ (1 ≤ packets) × (packets < 4294967296) ⌝ }
+    ensures { λ r. ⌜ r ≡ mean sum packets ⌝ }
+{
+    let levels = std::num::wrapping_add_u64(sum, 127 * packets);
+    let level = levels / packets;
+    ((level % 256 + 129) % 256) as u8
+}
+
+// Whether a pair that stays reports its window.
+fn says(r: &[u8], on: bool, period: u8, filter: u8) -> bool
+    requires { ⌜ length (now r) ≡ 56 ⌝ }
+    ensures { λ b. ⌜ b ≡ saysRow on period filter (now (r .entry)) ⌝ }
+{
+    let packets = octets::get32(r, 11);
+    let closed = closes(period, r[10]);
+    on & ((filter == 1) & (closed & ((1 <= packets) & (r[24] <= 31))))
+}
+
+// Appends the report of a window.
+fn put_window(r: &[u8], out: &mut [u8], at: usize) -> usize
+    requires { ⌜ (length (now r) ≡ 56) × (1 ≤ little 4 (now r) 11) × (getD (now r) 24 0 ≤ 31) × (at + 45 ≤ length (now out)) ⌝ }
+    ensures { λ n. ⌜ Appended (now (out .entry)) (now (out .exit)) at n (reportRow (now (r .entry))) ⌝ }
+{
+    let packets = octets::get32(r, 11) as u64;
+    let rssi = mean_of(octets::get64(r, 15), packets);
+    let end = 25 + r[24] as usize;
+    events::put_report(out, at, r[23], &r[1..8], &r[25..end], rssi)
+}
+
+// Appends the report of a window where there is one.
+fn tell_window(r: &[u8], out: &mut [u8], at: usize, on: bool, period: u8, filter: u8) -> usize
+    requires { ⌜ (length (now r) ≡ 56) × (at + 45 ≤ length (now out)) ⌝ }
+    ensures { λ n. ⌜ Appended (now (out .entry)) (now (out .exit)) at n (when (saysRow on period filter (now (r .entry))) (reportRow (now (r .entry)))) ⌝ }
+{
+    if says(r, on, period, filter) {
+        return put_window(r, out, at);
+    }
+    0
+}
+
+// Appends the stop event of a watch that ends.
+fn tell_stop(r: &[u8], out: &mut [u8], at: usize, on: bool, prefix: &[u8]) -> usize
+    requires { ⌜ (length (now r) ≡ 56) × (length (now prefix) ≤ 32) × (at + length (when (not on) (eventOctets (now prefix) (now r) 0)) ≤ length (now out)) ⌝ }
+    ensures { λ n. ⌜ Appended (now (out .entry)) (now (out .exit)) at n (when (not on) (eventOctets (now (prefix .entry)) (now (r .entry)) 0)) ⌝ }
+{
+    if on {
+        return 0;
+    }
+    events::put_event(out, at, prefix, r, 0)
+}
+
+// A row one tick further: the ticks since a good packet, and its window.
+fn advance(r: &mut [u8], period: u8)
+    requires { ⌜ (length (now r) ≡ 56) × (little 2 (now r) 8 < 65535) ⌝ }
+    ensures { λ _. ⌜ now (r .exit) ≡ tickedRow period (now (r .entry)) ⌝ }
+{
+    let silent = octets::get16(r, 8);
+    let ticks = r[10];
+    octets::put16(r, 8, silent + 1);
+    if !windowed(period) {
+        return;
+    }
+    if closes(period, ticks) {
+        parts::fill(r, 10, 46, 0);
+        return;
+    }
+    r[10] = ticks + 1;
+}
+
+// Appends what a tick writes for a row: the report of its window, or the stop event of its watch, or nothing.
+fn tell(
+    r: &[u8],
+    out: &mut [u8],
+    at: usize,
+    on: bool,
+    period: u8,
+    filter: u8,
+    prefix: &[u8],
+) -> usize
+    requires { ⌜ (length (now r) ≡ 56) × (length (now prefix) ≤ 32) × (at + 45 ≤ length (now out)) ⌝ }
+    ensures { λ n. ⌜ Appended (now (out .entry)) (now (out .exit)) at n (toldOn on period filter (now (prefix .entry)) (now (r .entry))) ⌝ }
+{
+    let report = tell_window(r, out, at, on, period, filter);
+    let stop = tell_stop(r, out, at + report, on, prefix);
+    report + stop
+}
+
+// Moves a row down.
+fn move_row(t: &mut [u8], to: usize, from: usize)
+    requires { ⌜ (to ≤ from) × (from < 64) × (length (now t) ≡ 3584) ⌝ }
+    ensures { λ _. ⌜ now (t .exit) ≡ put (now (t .entry)) (56 * to) (row 56 from (now (t .entry))) ⌝ }
+{
+    if to == from {
+        return;
+    }
+    parts::shift(t, 56 * to, 56 * from, 56);
+}
+
+// A row that stays, one tick further, at its new place.
+fn keep_row(t: &mut [u8], to: usize, from: usize, period: u8)
+    requires { ⌜ (to ≤ from) × (from < 64) × (length (now t) ≡ 3584) × (little 2 (row 56 from (now t)) 8 < 65535) ⌝ }
+    ensures { λ _. ⌜ now (t .exit) ≡ put (now (t .entry)) (56 * to) (tickedRow period (row 56 from (now (t .entry)))) ⌝ }
+{
+    move_row(t, to, from);
+    let start = 56 * to;
+    let end = start + 56;
+    advance(&mut t[start..end], period);
+}
+
+// The octet at an index, 0 past the end.
+fn octet_at(xs: &[u8], i: usize) -> u8
+    ensures { λ r. ⌜ r ≡ getD (now (xs .entry)) i 0 ⌝ }
+{
+    if i < xs.len() {
+        return xs[i];
+    }
+    0
+}
+
+// How many rows are kept and how many octets are written so far.
+struct Turn {
+    kept: usize,
+    wrote: usize,
+}
+
+// One row's turn: row i is told, and moved to place kept where it stays.
+fn tick_row(
+    t: &mut [u8],
+    i: usize,
+    kept: usize,
+    out: &mut [u8],
+    at: usize,
+    intervals: &[u8],
+    periods: &[u8],
+    filter: u8,
+    prefix: &[u8],
+) -> Turn
+    requires { ⌜ (i < 64) × (kept ≤ i) × (length (now t) ≡ 3584) × (at + 45 ≤ length (now out)) × (length (now prefix) ≤ 32) ⌝ }
+    ensures { λ r. ⌜ Turned (now (t .entry)) (now (t .exit)) (now (out .entry)) (now (out .exit)) kept at (r .kept) (r .wrote) (keptAt (now (intervals .entry)) (now (periods .entry)) (now (t .entry)) i) (toldAt (now (intervals .entry)) (now (periods .entry)) filter (now (prefix .entry)) (now (t .entry)) i) ⌝ }
+{
+    let start = 56 * i;
+    let end = start + 56;
+    let handle = t[start] as usize;
+    let run = state::Seconds(octet_at(intervals, handle)).ticks();
+    let period = octet_at(periods, handle);
+    let silent = octets::get16(t, start + 8);
+    let on = stays(silent, run.0);
+    let wrote = at + tell(&t[start..end], out, at, on, period, filter, prefix);
+    if on {
+        keep_row(t, kept, i, period);
+        let next = kept + 1;
+        return Turn { kept: next, wrote };
+    }
+    Turn { kept, wrote }
+}
+
+// The turns of all rows, in order.
+fn tick_rows(
+    t: &mut [u8],
+    n: usize,
+    out: &mut [u8],
+    intervals: &[u8],
+    periods: &[u8],
+    filter: u8,
+    prefix: &[u8],
+) -> Turn
+    requires { ⌜ (n ≤ 64) × (length (now t) ≡ 3584) × (2880 ≤ length (now out)) × (length (now prefix) ≤ 32) ⌝ }
+    ensures { λ r. ⌜ (r .kept ≤ n) × Passed (now (t .entry)) (now (t .exit)) (now (out .entry)) (now (out .exit)) (r .kept) (r .wrote) (keptAt (now (intervals .entry)) (now (periods .entry)) (now (t .entry))) (toldAt (now (intervals .entry)) (now (periods .entry)) filter (now (prefix .entry)) (now (t .entry))) n ⌝ }
+{
+    let mut i = 0;
+    let mut kept = 0;
+    let mut wrote = 0;
+    while i < n {
+        let turn = tick_row(t, i, kept, out, wrote, intervals, periods, filter, prefix);
+        kept = turn.kept;
+        wrote = turn.wrote;
+        i += 1;
+    }
+    Turn { kept, wrote }
+}
+
+// A tick on the pair table: the turns of all rows, and the freed rows cleared.
+fn tick_pairs(
+    t: &mut [u8],
+    n: usize,
+    out: &mut [u8],
+    intervals: &[u8],
+    periods: &[u8],
+    filter: u8,
+    prefix: &[u8],
+) -> Turn
+    requires { ⌜ (n ≤ 64) × (length (now t) ≡ 3584) × (2880 ≤ length (now out)) × (length (now prefix) ≤ 32) ⌝ }
+    ensures { λ r. ⌜ Cleared (now (t .entry)) (now (t .exit)) (now (out .entry)) (now (out .exit)) (r .kept) (r .wrote) (keptAt (now (intervals .entry)) (now (periods .entry)) (now (t .entry))) (toldAt (now (intervals .entry)) (now (periods .entry)) filter (now (prefix .entry)) (now (t .entry))) n ⌝ }
+{
+    let turn = tick_rows(t, n, out, intervals, periods, filter, prefix);
+    let kept = turn.kept;
+    parts::fill(t, 56 * kept, 56 * (n - kept), 0);
+    turn
+}
+
+// One octet of every monitor's row, by handle.
+fn column(s: &[u8], at: usize) -> [u8; 16]
+    requires { ⌜ at + 71 * 15 < length (now s) ⌝ }
+    ensures { λ r. ⌜ r ≡ columnOf (now (s .entry)) at 16 ⌝ }
+{
+    let mut r = [0u8; 16];
+    let mut h = 0;
+    while h < 16 {
+        r[h] = s[at + 71 * h];
+        h += 1;
+    }
+    r
+}
+
+// The head of the block: position, filter, opcode, prefix length, prefix.
+fn head_of(s: &[u8]) -> [u8; 40]
+    requires { ⌜ 40 ≤ length (now s) ⌝ }
+    ensures { λ r. ⌜ r ≡ take 40 (now (s .entry)) ⌝ }
+{
+    let mut r = [0u8; 40];
+    parts::copy(&mut r, 0, &s[0..40]);
+    r
+}
+
+// A number, or the most that is allowed.
+fn up_to(n: u8, most: u8) -> usize
+    ensures { λ r. ⌜ (r ≤ most) × (n ≤ most → r ≡ n) ⌝ }
+{
+    if n <= most {
+        return n as usize;
+    }
+    most as usize
+}
+
+fn tick_in(s: &mut [u8], out: &mut [u8], position: u32) -> usize
+    requires { ⌜ (length (now s) ≡ 4761) × (2880 ≤ length (now out)) × (position ≡ numberAt 4 (now s) 0) × (position < 4294967295) ⌝ }
+    ensures { λ r. ⌜ ((m : Model) → soundModel m ≡ true → now (s .entry) ≡ padded m → m .position < lastNumber → Stepped m aTick (now (s .exit)) (now (out .entry)) (now (out .exit)) r) ⌝ }
+{
+    let head = head_of(s);
+    let intervals = column(s, 43);
+    let periods = column(s, 44);
+    let n = up_to(s[4760], 64);
+    let filter = head[4];
+    let end = 8 + up_to(head[7], 32);
+    let turn = tick_pairs(
+        &mut s[1176..4760],
+        n,
+        out,
+        &intervals,
+        &periods,
+        filter,
+        &head[8..end],
+    );
+    s[4760] = turn.kept as u8;
+    octets::put32(s, 0, position + 1);
+    turn.wrote
+}
+
+// Takes one tick: changes the block, writes the answer at the output's start, and answers its length. A block that is not of 4,761
+// octets, an output under 2,880 octets, and a block at the last frame number are left as they are, and the answer is 0. Of a block
+// that is not the block of a sound state the contents and what is written are not settled; the lengths stay.
+pub fn tick(s: &mut [u8], out: &mut [u8]) -> usize
+    ensures { λ r. ⌜ Taken aTick (now (s .entry)) (now (s .exit)) (now (out .entry)) (now (out .exit)) r ⌝ }
+{
+    if s.len() != 4761 {
+        return 0;
+    }
+    if out.len() < 2880 {
+        return 0;
+    }
+    let position = octets::get32(s, 0);
+    if position >= 4294967295 {
+        return 0;
+    }
+    tick_in(s, out, position)
+}
