@@ -1,0 +1,2 @@
+-- Demand 3 over the contracts of the calls.
+pub mod Delivery
