@@ -1,0 +1,76 @@
+#!/usr/bin/env python3
+"""Instructions a line of the program `standby`, by callgrind: `python3 reference/measure.py STANDBY [REFERENCE]`.
+
+Journals: monitors and so many pairs under watch, then 400 more lines of one kind. A figure is the difference of two runs, with and
+without the 400 lines, divided by 400. Ticks with pairs held, packets of a watched device, of a device that no monitor matches, and
+seen lines. With REFERENCE (the independent implementation built for release) its figures and the ratio stand beside.
+"""
+import os
+import re
+import subprocess
+import sys
+import tempfile
+
+OPCODE, LINES = 0xFC1E, 400
+
+
+def line(kind, number, payload):
+    return bytes([kind]) + number.to_bytes(4, "little") + payload
+
+
+def command(params):
+    return OPCODE.to_bytes(2, "little") + bytes([len(params)]) + params
+
+
+def packet(device, rssi, data=b""):
+    return bytes([0, 0]) + device + bytes([len(data)]) + data + bytes([rssi])
+
+
+def device(n):
+    return bytes([n, 1, 2, 3, 4, 5])
+
+
+def journal(monitors, pairs, tail):
+    frames = [(1, command(bytes([5, 1])))]
+    # every monitor: one pattern, AD type 0xFF, the octet 0x55 at the front; high -60, low -80, 60 s, no sampling
+    frames += [(1, command(bytes([3, 0xC4, 0xB0, 60, 0xFF, 1, 1, 3, 0xFF, 0, 0x55])))] * monitors
+    data = bytes([2, 0xFF, 0x55])
+    started = 0
+    n = 0
+    while started < pairs:
+        frames.append((2, packet(device(n), 0xC4, data)))
+        started += monitors
+        n += 1
+    kinds = {"tick": (3, b""), "watched": (2, packet(device(0), 0xC4, data)), "unmatched": (2, packet(device(200), 0xC4, bytes([2, 0xFF, 0x66])))}
+    frames += [kinds[tail]] * LINES if tail in kinds else []
+    text = "".join(line(k, i + 1, p).hex().upper() + "\n" for i, (k, p) in enumerate(frames))
+    return text + ("".join(text.split("\n")[0] + "\n" for _ in range(LINES)) if tail == "seen" else "")
+
+
+def instructions(words, image, text, folder):
+    for name, content in (("image", image), ("journal", text)):
+        with open(os.path.join(folder, name), "w") as f:
+            f.write(content)
+    out = os.path.join(folder, "callgrind")
+    run = subprocess.run(["valgrind", "--tool=callgrind", f"--callgrind-out-file={out}"] + words + [os.path.join(folder, "image"), os.path.join(folder, "journal")],
+                         stdout=subprocess.DEVNULL, stderr=subprocess.PIPE, text=True)
+    return int(re.search(r"Collected : (\d+)", run.stderr).group(1))
+
+
+def main():
+    programs = [[sys.argv[1]]] + ([[sys.argv[2], "replay"]] if len(sys.argv) > 2 else [])
+    image = "A00000000000" + OPCODE.to_bytes(2, "little").hex().upper() + "024D53\nAF0000\n"
+    with tempfile.TemporaryDirectory() as folder:
+        print("| line | monitors | pairs |", " | ".join(os.path.basename(p[0]) for p in programs), "| ratio |" if len(programs) > 1 else "")
+        for tail, monitors, pairs in (("tick", 1, 0), ("tick", 1, 8), ("tick", 1, 64), ("watched", 1, 8), ("watched", 1, 64), ("watched", 16, 64),
+                                      ("unmatched", 1, 0), ("unmatched", 16, 64), ("seen", 1, 8)):
+            figures = []
+            for words in programs:
+                with_it = instructions(words, image, journal(monitors, pairs, tail), folder)
+                without = instructions(words, image, journal(monitors, pairs, ""), folder)
+                figures.append((with_it - without) / LINES)
+            ratio = f" | {figures[0] / figures[1]:.2f} |" if len(figures) > 1 else " |"
+            print(f"| {tail} | {monitors} | {pairs} | " + " | ".join(f"{f:.0f}" for f in figures) + ratio)
+
+
+main()
