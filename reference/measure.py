@@ -2,16 +2,19 @@
 """Instructions a line of the program `standby`, by callgrind: `python3 reference/measure.py STANDBY [REFERENCE]`.
 
 Journals: monitors and so many pairs under watch, then 400 more lines of one kind. A figure is the difference of two runs, with and
-without the 400 lines, divided by 400. Ticks with pairs held, packets of a watched device, of a device that no monitor matches, and
+without these lines, divided by their number. Ticks with pairs held, packets of a watched device, of a device that no monitor matches, and
 seen lines. With REFERENCE (the independent implementation built for release) its figures and the ratio stand beside.
+With `time` for a first word: nanoseconds of user time a line, over 400,000 lines, instead.
 """
 import os
 import re
+import resource
 import subprocess
 import sys
 import tempfile
 
-OPCODE, LINES = 0xFC1E, 400
+TIME = sys.argv[1:2] == ["time"]
+OPCODE, LINES = 0xFC1E, 400000 if TIME else 400
 
 
 def line(kind, number, payload):
@@ -35,14 +38,14 @@ def journal(monitors, pairs, tail):
     # every monitor: one pattern, AD type 0xFF, the octet 0x55 at the front; high -60, low -80, 60 s, no sampling
     frames += [(1, command(bytes([3, 0xC4, 0xB0, 60, 0xFF, 1, 1, 3, 0xFF, 0, 0x55])))] * monitors
     data = bytes([2, 0xFF, 0x55])
-    started = 0
-    n = 0
-    while started < pairs:
-        frames.append((2, packet(device(n), 0xC4, data)))
-        started += monitors
-        n += 1
-    kinds = {"tick": (3, b""), "watched": (2, packet(device(0), 0xC4, data)), "unmatched": (2, packet(device(200), 0xC4, bytes([2, 0xFF, 0x66])))}
-    frames += [kinds[tail]] * LINES if tail in kinds else []
+    refresh = [(2, packet(device(n), 0xC4, data)) for n in range(-(-pairs // monitors))]
+    kinds = {"watched": (2, packet(device(0), 0xC4, data)), "unmatched": (2, packet(device(200), 0xC4, bytes([2, 0xFF, 0x66])))}
+    frames += refresh
+    if tail in kinds:
+        frames += [kinds[tail]] * LINES
+    elif tail in ("tick", "no tick"):
+        # a watch ends after 600 ticks: every 400 all pairs are refreshed
+        frames += (refresh + [(3, b"")] * (400 if tail == "tick" else 0)) * (LINES // 400)
     text = "".join(line(k, i + 1, p).hex().upper() + "\n" for i, (k, p) in enumerate(frames))
     return text + ("".join(text.split("\n")[0] + "\n" for _ in range(LINES)) if tail == "seen" else "")
 
@@ -57,8 +60,19 @@ def instructions(words, image, text, folder):
     return int(re.search(r"Collected : (\d+)", run.stderr).group(1))
 
 
+def nanoseconds(words, image, text, folder):
+    for name, content in (("image", image), ("journal", text)):
+        with open(os.path.join(folder, name), "w") as f:
+            f.write(content)
+    before = resource.getrusage(resource.RUSAGE_CHILDREN).ru_utime
+    subprocess.run(words + [os.path.join(folder, "image"), os.path.join(folder, "journal")], stdout=subprocess.DEVNULL, check=True)
+    return (resource.getrusage(resource.RUSAGE_CHILDREN).ru_utime - before) * 1e9
+
+
 def main():
-    programs = [[sys.argv[1]]] + ([[sys.argv[2], "replay"]] if len(sys.argv) > 2 else [])
+    words = sys.argv[2:] if TIME else sys.argv[1:]
+    cost = nanoseconds if TIME else instructions
+    programs = [[words[0]]] + ([[words[1], "replay"]] if len(words) > 1 else [])
     image = "A00000000000" + OPCODE.to_bytes(2, "little").hex().upper() + "024D53\nAF0000\n"
     with tempfile.TemporaryDirectory() as folder:
         print("| line | monitors | pairs |", " | ".join(os.path.basename(p[0]) for p in programs), "| ratio |" if len(programs) > 1 else "")
@@ -66,8 +80,8 @@ def main():
                                       ("unmatched", 1, 0), ("unmatched", 16, 64), ("seen", 1, 8)):
             figures = []
             for words in programs:
-                with_it = instructions(words, image, journal(monitors, pairs, tail), folder)
-                without = instructions(words, image, journal(monitors, pairs, ""), folder)
+                with_it = cost(words, image, journal(monitors, pairs, tail), folder)
+                without = cost(words, image, journal(monitors, pairs, "no tick" if tail == "tick" else ""), folder)
                 figures.append((with_it - without) / LINES)
             ratio = f" | {figures[0] / figures[1]:.2f} |" if len(figures) > 1 else " |"
             print(f"| {tail} | {monitors} | {pairs} | " + " | ".join(f"{f:.0f}" for f in figures) + ratio)
