@@ -1,0 +1,67 @@
+use Prim.Native.Nat.{_-_, _≤_, _<_}
+use lib.ListN.{length}
+use native.Mathlib.Omega.{arith}
+use borrow.Author.Needs.{needs}
+use Rattle.sessions_run.proofs.number.Statement.{statement}
+use Rattle.sessions_run.proofs.number.Tie as tie
+use Rattle.sessions_run.proofs.number.Reads as reads
+use Rattle.sessions_run.proofs.number.Lts as lts
+use Rattle.sessions_run.proofs.digit.Reads as digit-reads
+
+abbrev Inv-loop : tie.InvT-loop
+Inv-loop s n₀ i₀ n i = (i ≤ length s) × (n < 1000000)
+
+abbrev μ-loop : tie.MeasureT-loop
+μ-loop s n₀ i₀ n i = length s - i
+
+-- src/main.rt:193:5
+loop-holds : tie.Need-loop-holds Inv-loop μ-loop
+loop-holds c = (omega arith, omega arith)
+
+-- src/main.rt:194:14
+mul-n : tie.Need-mul-n Inv-loop μ-loop
+mul-n c = omega arith
+
+-- src/main.rt:194:29
+shared-slice-read-digit : tie.Need-shared-slice-read-digit Inv-loop μ-loop
+shared-slice-read-digit c = omega arith
+
+-- src/main.rt:194:23
+digit-requires : tie.Need-digit-requires Inv-loop μ-loop
+digit-requires c κs = search needs
+
+-- src/main.rt:194:14
+add-n : tie.Need-add-n Inv-loop μ-loop
+add-n c = omega (arith, c .digit .ensures)
+
+-- src/main.rt:195:9
+add-i : tie.Need-add-i Inv-loop μ-loop
+add-i c = omega arith
+
+-- src/main.rt:193:5
+loop-less : tie.Need-loop-less Inv-loop μ-loop
+loop-less c = omega arith
+
+-- src/main.rt:193:5
+loop-again : tie.Need-loop-again Inv-loop μ-loop
+loop-again c = (omega arith, omega arith)
+
+-- src/main.rt:188:1
+returns : tie.Need-returns Inv-loop μ-loop
+returns c = omega arith
+
+pub number-spec : {M : Type 1} → statement M
+number-spec =
+    tie.close
+    (tie.spec
+    Inv-loop
+    μ-loop
+    loop-holds
+    mul-n
+    shared-slice-read-digit
+    digit-requires
+    add-n
+    add-i
+    loop-less
+    loop-again
+    returns)

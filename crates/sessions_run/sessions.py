@@ -1,0 +1,379 @@
+#!/usr/bin/env python3
+"""Makes the sessions of the program (stdin) and what it must write (stdout): sessions.py REFERENCE, in this directory.
+
+REFERENCE is the independent implementation, built (reference/README.md). Nothing here comes from the program itself.
+The first sessions are made below, line by line from document 01's formats, one for each edge of packets and ticks;
+what is to be written for them is what `REFERENCE replay` writes. The rest are short ones of `REFERENCE cases`.
+"""
+import os
+import subprocess
+import sys
+import tempfile
+
+PRIME = 2**54 - 33
+ROOM = 65536
+SEED, DRAWN, SHORT, TOTAL = 20, 2500, 1400, 1000
+
+OPCODE = bytes.fromhex("1EFC")
+
+
+class Session:
+    """A fresh image with a prefix, and a journal that grows frame by frame."""
+
+    def __init__(self, name, prefix=b"MS", enable=None):
+        self.name, self.number, self.lines, self.frames, self.stops = name, 0, [], 0, 0
+        head = bytes(5) + OPCODE + bytes([len(prefix)]) + prefix
+        self.image = line(b"\xA0" + head) + line(b"\xAF\x00\x00")
+        if enable is not None:
+            self.enable(enable)
+
+    def frame(self, kind, payload=b""):
+        self.number += 1
+        self.octets(bytes([kind]) + self.number.to_bytes(4, "little") + payload)
+
+    def octets(self, frame):
+        self.frames += 1
+        self.lines.append(line(frame))
+
+    def command(self, params):
+        self.frame(1, OPCODE + bytes([len(params)]) + params)
+
+    def add(self, condition, interval=3, sampling=0, high=-60, low=-80):
+        self.command(bytes([3, high & 255, low & 255, interval, sampling]) + condition)
+
+    def cancel(self, handle):
+        self.command(bytes([4, handle]))
+
+    def enable(self, value):
+        self.command(bytes([5, value]))
+
+    def packet(self, device, rssi=-60, data=b"", event=0, kind=0):
+        self.frame(2, bytes([event, kind]) + address(device) + bytes([len(data)]) + data + bytes([rssi & 255]))
+
+    def ticks(self, count):
+        for _ in range(count):
+            self.frame(3)
+
+    def texts(self):
+        return self.image, "".join(self.lines).encode("ascii")
+
+
+def line(octets):
+    """A line of document 01."""
+    return octets.hex().upper() + "\n"
+
+
+def address(device):
+    return bytes([device & 255, device >> 8, 3, 4, 5, 6])
+
+
+def of_device(device, kind=0):
+    """A condition of type 4."""
+    return bytes([4, kind]) + address(device)
+
+
+# A condition of type 1, and data that matches it: AD type 09, an 'A' at offset 0.
+NAMED = bytes([1, 1, 3, 9, 0, 0x41])
+SMALL = bytes([2, 9, 0x41])
+
+
+def long_data(fill):
+    """31 octets of data that match NAMED."""
+    return bytes([30, 9, 0x41]) + bytes([fill]) * 28
+
+
+def full():
+    """All 64 pairs, by 4 monitors that take 16 devices each, then a 65th start that finds no room."""
+    for filter_on in (0, 1):
+        made = Session("64 pairs full, a 65th start refused room, filter %d" % filter_on, enable=filter_on or None)
+        for _ in range(4):
+            made.add(NAMED, interval=2, sampling=5)
+        for device in range(16):
+            made.packet(device, -50, SMALL)
+        for device in (16, 17, 0):
+            made.packet(device, -50, SMALL)
+        made.cancel(2)
+        for device in (17, 16, 18, 19, 20, 21, 22):
+            made.packet(device, -50, SMALL)
+        made.ticks(21)
+        made.packet(40, -50, SMALL)
+        yield made
+    made = Session("62 pairs held, 16 monitors start at one packet and two find room", enable=1)
+    made.add(NAMED, interval=1, sampling=255)
+    for device in range(62):
+        made.packet(device, -50, SMALL)
+    for _ in range(15):
+        made.add(NAMED, interval=60)
+    made.packet(100, -50, SMALL)
+    made.ticks(10)
+    made.packet(100, -50, SMALL)
+    yield made
+
+
+def sixteen():
+    for filter_on in (0, 1):
+        for prefix in (b"", bytes(range(32))):
+            made = Session("16 monitors start at one packet, filter %d, prefix of %d octets" % (filter_on, len(prefix)),
+                           prefix, enable=filter_on or None)
+            for handle in range(16):
+                made.add(NAMED if handle % 2 else of_device(9), sampling=255 if filter_on else 0)
+            made.add(bytes([3]) + bytes(16))
+            made.add(NAMED)
+            made.packet(9, -60, long_data(7))
+            made.packet(9, -60, long_data(8))
+            made.ticks(31)
+            yield made
+
+
+def windows():
+    for sampling in (1, 2, 3, 253, 254):
+        for rssi in ((-60, -61), (-1, 0), (0, 1), (-127, 20), (20, 20)):
+            made = Session("window of %d ticks, packets at %d and %d" % ((sampling,) + rssi), enable=1)
+            made.add(of_device(1), interval=60, sampling=sampling)
+            made.packet(1, -50, b"\x01\x02")
+            made.ticks(sampling - 1)
+            made.packet(1, rssi[0], SMALL, event=3)
+            made.packet(1, rssi[1], b"\x05" * 5, event=1)
+            made.ticks(2)
+            made.packet(1, rssi[1])
+            made.packet(1, rssi[0])
+            made.packet(1, rssi[1], b"", event=2)
+            made.ticks(2 * min(sampling, 130) + 1)
+            yield made
+
+
+def samplings():
+    for sampling in (0, 1, 254, 255):
+        for filter_on in (0, 1):
+            made = Session("sampling %d, filter %d" % (sampling, filter_on), enable=filter_on or None)
+            made.add(of_device(1), interval=2, sampling=sampling)
+            for rssi in (-61, -60, -79, -80, -127, 20):
+                made.packet(1, rssi, SMALL)
+                made.packet(2, rssi, SMALL)
+                made.packet(1, rssi, SMALL, kind=1)
+                made.ticks(3)
+            made.ticks(22)
+            made.packet(1, -61, SMALL)
+            made.packet(1, -60, SMALL)
+            yield made
+
+
+def switched():
+    for first in (0, 1):
+        for at in range(0, 5):
+            name = "filter switched from %d inside a window, after %d ticks" % (first, at)
+            made = Session(name, enable=first or None)
+            made.add(of_device(1), interval=60, sampling=4)
+            made.packet(1, -50)
+            made.packet(1, -40, SMALL)
+            made.ticks(at)
+            made.packet(1, -41, b"\x00")
+            made.enable(1 - first)
+            made.packet(1, -43, b"\x01\x02")
+            made.ticks(4)
+            made.packet(1, -30)
+            made.enable(first)
+            made.ticks(9)
+            yield made
+
+
+def ends():
+    for sampling in (1, 2, 5, 9, 10, 11, 20):
+        for filter_on in (0, 1):
+            name = "a watch ends near a window's end: 10 ticks, windows of %d, filter %d" % (sampling, filter_on)
+            made = Session(name, enable=filter_on or None)
+            made.add(of_device(1), interval=1, sampling=sampling)
+            made.packet(1, -50)
+            made.packet(1, -80, SMALL)
+            made.ticks(9)
+            made.packet(1, -81, SMALL)
+            made.ticks(1)
+            made.packet(1, -59, SMALL)
+            made.ticks(9)
+            made.packet(1, -79, SMALL)
+            made.ticks(11)
+            yield made
+    for filter_on in (0, 1):
+        made = Session("several watches end at one tick, others between them go on, filter %d" % filter_on,
+                       enable=filter_on or None)
+        made.add(NAMED, interval=1, sampling=10)
+        made.add(NAMED, interval=2, sampling=10)
+        made.add(of_device(3), interval=1, sampling=0)
+        for device in range(6):
+            made.packet(device, -50, SMALL)
+        made.ticks(4)
+        for device in (1, 3):
+            made.packet(device, -70, SMALL)
+        made.ticks(6)
+        made.packet(5, -60, SMALL)
+        made.ticks(30)
+        yield made
+
+
+def longest():
+    for sampling in (1, 2, 254):
+        made = Session("the longest answer, 64 reports of 45 octets at one tick, windows of %d" % sampling, enable=1)
+        for _ in range(16):
+            made.add(NAMED, interval=60, sampling=sampling)
+        for device in range(4):
+            made.packet(device, -50, long_data(device))
+        made.ticks(sampling - 1)
+        for device in range(4):
+            made.packet(device, -51, long_data(device + 16))
+            made.packet(device, -52, long_data(device + 32))
+        made.ticks(1)
+        for device in range(4):
+            made.packet(device, 20, long_data(device + 64))
+        made.ticks(min(sampling, 3))
+        made.enable(0)
+        yield made
+
+
+def in_full():
+    """The session of document 01, and its 30th tick; a packet after 29 ticks at -79 and at -80."""
+    for rssi in (None, -79, -80):
+        made = Session("the session in full, after 29 ticks a packet at %s" % rssi)
+        made.command(bytes.fromhex("03C4B003000400060504030201"))
+        packet = bytes.fromhex("000006050403020100")
+        made.frame(2, packet + b"\xC4")
+        made.ticks(29)
+        if rssi is not None:
+            made.frame(2, packet + bytes([rssi & 255]))
+        made.ticks(31)
+        yield made
+
+
+# Frames given after frame 3, each row with the refusal that document 01 gives them (0: executed).
+REFUSED = (
+    (1, "03 03000000", "03 00000000", "01 01000000 1EFC020501", "02 02000000", "03 03000000 00"),
+    (2, "03 05000000", "03 FFFFFFFF", "03 05000000 00"),
+    (4, "00 04000000", "04 04000000", "FF 04000000", "03 040000", "", "01 04000000 1EFCFF 05" + "00" * 255),
+    (4, "04 03000000", "03 030000", "01 01000000 1EFCFF 05" + "00" * 255),
+    (5, "03 04000000 00", "01 04000000", "01 04000000 1EFC", "01 04000000 1EFC00", "01 04000000 1EFC0105 00"),
+    (5, "01 04000000 1EFC0205", "02 04000000", "02 04000000 0400010203040506 00 C4"),
+    (5, "02 04000000 0002010203040506 00 C4", "02 04000000 0000010203040506 00 15"),
+    (5, "02 04000000 0000010203040506 00 80", "02 04000000 0000010203040506 01 C4"),
+    (5, "02 04000000 0000010203040506 20 " + "00" * 32 + " C4", "02 04000000 0000010203040506 00 C4 00"),
+    (5, "02 04000000 0000010203040506 00 7F", "01 04000000 1FFC00", "01 04000000 1FFC0205"),
+    (6, "01 04000000 1FFC0100", "01 04000000 1EFD020501", "01 04000000 000001FF"),
+    (0, "03 04000000", "01 04000000 1EFCFF 05" + "00" * 254, "02 04000000 0301010203040506 00 14"),
+    (0, "02 04000000 0000010203040506 1F " + "00" * 31 + " 81"),
+)
+
+
+def refused():
+    """A frame that is refused, or not, among frames that are executed; replay skips 1 and stops at the others."""
+    for number, *frames in REFUSED:
+        for frame in frames:
+            made = Session("refusal %d: %s" % (number, frame[:40]))
+            made.add(NAMED, sampling=2)
+            made.packet(7, -60, SMALL)
+            made.ticks(1)
+            made.octets(bytes.fromhex(frame))
+            made.number += 0 if number else 1
+            made.ticks(2)
+            made.stops = number if number > 1 else 0
+            yield made
+    for name, text in (("lower case", "030400000a"), ("a blank", "03 04000000"), ("odd", "030400000")):
+        made = Session("refusal 4: " + name)
+        made.ticks(3)
+        made.lines.append(text + "\n")
+        made.ticks(1)
+        made.stops = 4
+        yield made
+    made = Session("a last piece without LF is not read")
+    made.ticks(3)
+    made.lines.append("0304000000")
+    yield made
+
+
+def counted():
+    """Windows that hold nearly as many packets as a count can: sums at both ends, the last frame numbers."""
+    for below in (1, 2, 3):
+        for each in (-127, 20, -60):
+            made = Session("a window %d packets short of 4,294,967,295, each at %d" % (below, each))
+            count = 2**32 - 1 - below
+            pair = bytes(2) + address(1) + bytes(2) + bytes([3]) + count.to_bytes(4, "little")
+            pair += (each * count).to_bytes(8, "little", signed=True) + b"\x00\x00"
+            made.image = line(b"\xA0" + count.to_bytes(4, "little") + b"\x01" + OPCODE + b"\x00")
+            made.image += line(b"\xA1\x00\xC4\xB0\x3C\x04\x04\x07" + of_device(1)[1:]) + line(b"\xA2" + pair)
+            made.image += line(b"\xAF\x01\x01")
+            made.number = count
+            for _ in range(max(1, below - 1)):
+                made.packet(1, 20 if each == 20 else -127, SMALL)
+            if below > 1:
+                made.ticks(1)
+            for seen in ("03FFFFFFFF", "0300000000", "0301000000"):
+                made.octets(bytes.fromhex(seen))
+            yield made
+
+
+def digest(octets):
+    value = 0
+    for octet in octets:
+        value = (value * 257 + octet + 1) % PRIME
+    return value
+
+
+def written(expected):
+    """The program's line for what the independent implementation writes."""
+    if expected == "10\n":
+        return "10\n", 0
+    answers, image, number = b"", "", 0
+    for row in expected.splitlines():
+        if len(row) < 3:
+            number = int(row)
+        elif row[:2] in ("A0", "A1", "A2", "AF"):
+            image += row + "\n"
+        else:
+            answers += bytes.fromhex(row)
+    octets = answers + image.encode("ascii")
+    return "%014x %d %d\n" % (digest(octets), len(octets), number), len(answers)
+
+
+def replay(reference, folder, image, journal):
+    paths = [os.path.join(folder, name) for name in ("image", "journal")]
+    for path, text in zip(paths, (image, journal)):
+        with open(path, "wb") as file:
+            file.write(text)
+    done = subprocess.run([reference, "replay", *paths], capture_output=True, text=True, check=False)
+    return done.stdout
+
+
+def read(path):
+    with open(path, "rb") as file:
+        return file.read()
+
+
+def main():
+    reference, sessions, lines = sys.argv[1], [], []
+    with tempfile.TemporaryDirectory() as folder:
+        for kind in (in_full, full, sixteen, windows, samplings, switched, ends, longest, counted, refused):
+            for made in kind():
+                image, journal = made.texts()
+                image = image.encode("ascii")
+                expected = replay(reference, folder, image, journal)
+                text, answers = written(expected)
+                assert text.endswith(" %d\n" % made.stops), (made.name, text)
+                sessions.append((image, journal))
+                lines.append(text)
+                print(len(sessions), made.name, "(%d frames, %d octets)" % (made.frames, answers))
+        subprocess.run([reference, "cases", folder, str(SEED), str(DRAWN)], check=True, stdout=subprocess.DEVNULL)
+        for name in sorted(os.listdir(folder)):
+            if not name.endswith(".expected") or len(sessions) == TOTAL:
+                continue
+            stem = os.path.join(folder, name[:-9])
+            image, journal = read(stem + ".image"), read(stem + ".journal")
+            if len(image) + len(journal) <= SHORT:
+                sessions.append((image, journal))
+                lines.append(written(read(stem + ".expected").decode("ascii"))[0])
+    print(len(sessions), "in all")
+    assert all(len(image) <= 9771 and len(journal) <= ROOM for image, journal in sessions)
+    with open("stdin", "wb") as file:
+        for image, journal in sessions:
+            file.write(b"%06d %06d\n" % (len(image), len(journal)) + image + journal)
+    with open("stdout", "w", encoding="ascii") as file:
+        file.writelines(lines)
+
+
+main()
