@@ -1,0 +1,3 @@
+-- What the calls of the library return and leave, in numbers.
+pub mod Numbered
+pub mod Gives

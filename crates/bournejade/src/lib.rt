@@ -1,0 +1,213 @@
+// The library for firmware in C: the calls of document 01 on numbers and octets, for `rt staticlib bournejade`. The header
+// is include/bournejade.h. The state is the caller's block of 4,761 octets, lent to each call and changed in place; any octets in it are
+// met. Each call returns 0 or the refusal's number, and gives the counts of octets through the last parameters.
+ghost use mathlib.Core.Path.{_≡_};
+ghost use lib.ListN.{length};
+ghost use Rattle.laws.specs.Tests.{pick};
+ghost use Rattle.lines.specs.Answers.{writeLine, afterWrite};
+ghost use Rattle.lines.specs.Hex.{textOf};
+ghost use Rattle.sessions.specs.Machine.{text as asText, octets as asOctets, answerRoom, saveRoom};
+ghost use Rattle.sessions.specs.Session.{answer, image};
+ghost use Rattle.model.specs.Sound.{soundSettings};
+ghost use Rattle.model.specs.Image.{isImage};
+ghost use Rattle.model.specs.Block.{held};
+ghost use Rattle.model.specs.Engine.{engine, begin};
+ghost use Rattle.replays.specs.Into.{replayInto};
+ghost use Rattle.engine.specs.Public.{blockIn};
+ghost use Rattle.bournejade.specs.Gives.{numberIn, countIn, stopNumber, startNumber, loadNumber, Gave, Replayed};
+use engine::Loaded;
+use engine::Stop;
+use lines::Wrote;
+use state::Start;
+use state::State;
+
+// 1.0.0: major, minor and patch in an octet each.
+const VERSION: u32 = 0x010000;
+
+// What a call answered: the number that is returned, and the octets written.
+fn told(r: Wrote, wrote: &mut usize) -> u8
+    ensures { λ n. ⌜ (n ≡ numberIn r) × (now (wrote .exit) ≡ countIn r) ⌝ }
+{
+    match r {
+        Wrote::Done(k) => {
+            *wrote = k;
+            0
+        }
+        Wrote::Refused(x) => {
+            *wrote = 0;
+            lines::number_of(x)
+        }
+    }
+}
+
+// Why a replay ended, as a number.
+fn stopped(s: Stop) -> u8
+    ensures { λ n. ⌜ n ≡ stopNumber s ⌝ }
+{
+    match s {
+        Stop::End => 0,
+        Stop::Refused(x) => lines::number_of(x),
+    }
+}
+
+// What settings and an image's text were answered, as a number.
+fn start_number(a: Start) -> u8
+    ensures { λ n. ⌜ n ≡ startNumber a ⌝ }
+{
+    match a {
+        Start::Fresh => 0,
+        Start::Refused(x) => lines::number_of(x),
+    }
+}
+
+fn load_number(a: Loaded) -> u8
+    ensures { λ n. ⌜ n ≡ loadNumber a ⌝ }
+{
+    match a {
+        Loaded::Accepted => 0,
+        Loaded::Rejected(x) => lines::number_of(x),
+    }
+}
+
+// The library's version.
+#[no_mangle]
+pub extern "C" fn bournejade_version() -> u32
+    ensures { λ r. ⌜ r ≡ 0x010000 ⌝ }
+{
+    VERSION
+}
+
+// Octets of a state.
+#[no_mangle]
+pub extern "C" fn bournejade_state_size() -> usize
+    ensures { λ r. ⌜ r ≡ 4761 ⌝ }
+{
+    State::SIZE
+}
+
+// Octets that the output of a frame must have.
+#[no_mangle]
+pub extern "C" fn bournejade_answer_size() -> usize
+    ensures { λ r. ⌜ r ≡ answerRoom ⌝ }
+{
+    State::ANSWER
+}
+
+// Octets that the output of an image must have.
+#[no_mangle]
+pub extern "C" fn bournejade_image_size() -> usize
+    ensures { λ r. ⌜ r ≡ saveRoom ⌝ }
+{
+    State::IMAGE
+}
+
+// Octets that the output of a line must have.
+#[no_mangle]
+pub extern "C" fn bournejade_line_size() -> usize
+    ensures { λ r. ⌜ r ≡ 527 ⌝ }
+{
+    State::LINE
+}
+
+// Begins with settings: 0 and the fresh state, or 9 and the blank one.
+#[no_mangle]
+pub extern "C" fn bournejade_begin(state: &mut [u8; 4761], opcode: u16, prefix: &[u8]) -> u8
+    ensures { λ r. ⌜ r ≡ pick (soundSettings opcode (now (prefix .entry))) 0 9 ⌝ }
+    ensures { λ _. ⌜ now (state .exit) ≡ begin opcode (now (prefix .entry)) ⌝ }
+{
+    let begun = State::fresh(opcode, prefix);
+    let answer = begun.answer;
+    let fresh = begun.state;
+    let block = fresh.block;
+    *state = block;
+    start_number(answer)
+}
+
+// The number of the last executed frame, as the block has it.
+#[no_mangle]
+pub extern "C" fn bournejade_position(state: &[u8; 4761]) -> u32
+    ensures { λ r. ⌜ r ≡ held (now (state .entry)) .position ⌝ }
+{
+    octets::get32(state, 0)
+}
+
+// Gives a frame as octets: 0, or 7, 3, 4, 1, 2, 5, 6.
+#[no_mangle]
+pub extern "C" fn bournejade_submit(
+    state: &mut [u8; 4761],
+    frame: &[u8],
+    out: &mut [u8],
+    wrote: &mut usize,
+) -> u8
+    ensures { λ r. ⌜ Gave (answer engine (length (now (out .entry))) (now (state .entry)) asOctets (now (frame .entry))) (now (state .entry)) (now (out .entry)) (now (state .exit)) (now (out .exit)) (now (wrote .exit)) r ⌝ }
+{
+    let r = engine::submit(state, frame, out);
+    told(r, wrote)
+}
+
+// Gives a frame as its line, with the same result.
+#[no_mangle]
+pub extern "C" fn bournejade_submit_line(
+    state: &mut [u8; 4761],
+    line: &[u8],
+    out: &mut [u8],
+    wrote: &mut usize,
+) -> u8
+    ensures { λ r. ⌜ Gave (answer engine (length (now (out .entry))) (now (state .entry)) asText (now (line .entry))) (now (state .entry)) (now (out .entry)) (now (state .exit)) (now (out .exit)) (now (wrote .exit)) r ⌝ }
+{
+    let r = engine::submit_line(state, line, out);
+    told(r, wrote)
+}
+
+// Writes the line of a frame, for the journal: 0, or 3, 4.
+#[no_mangle]
+pub extern "C" fn bournejade_write_line(frame: &[u8], out: &mut [u8], wrote: &mut usize) -> u8
+    ensures { λ r. ⌜ r ≡ numberIn (writeLine (now (frame .entry)) (length (now (out .entry)))) ⌝ }
+    ensures { λ _. ⌜ now (wrote .exit) ≡ countIn (writeLine (now (frame .entry)) (length (now (out .entry)))) ⌝ }
+    ensures { λ _. ⌜ now (out .exit) ≡ afterWrite (writeLine (now (frame .entry)) (length (now (out .entry)))) (now (out .entry)) (textOf (now (frame .entry))) ⌝ }
+{
+    let r = lines::write_line(frame, out);
+    told(r, wrote)
+}
+
+// Saves the image's text: 0, or 7, 3.
+#[no_mangle]
+pub extern "C" fn bournejade_save(state: &[u8; 4761], out: &mut [u8], wrote: &mut usize) -> u8
+    ensures { λ r. ⌜ Gave (image engine (length (now (out .entry))) (now (state .entry))) (now (state .entry)) (now (out .entry)) (now (state .entry)) (now (out .exit)) (now (wrote .exit)) r ⌝ }
+{
+    let r = engine::save(state, out);
+    told(r, wrote)
+}
+
+// Restores the state of an image's text: 0, or 10 and the blank state.
+#[no_mangle]
+pub extern "C" fn bournejade_restore(state: &mut [u8; 4761], image: &[u8]) -> u8
+    ensures { λ r. ⌜ r ≡ pick (isImage (now (image .entry))) 0 10 ⌝ }
+    ensures { λ _. ⌜ now (state .exit) ≡ blockIn (isImage (now (image .entry))) (now (image .entry)) ⌝ }
+{
+    let restored = engine::load(image);
+    let answer = restored.answer;
+    let held = restored.state;
+    let block = held.block;
+    *state = block;
+    load_number(answer)
+}
+
+// Replays the whole lines of a piece of journal into one output: 0 at the end of the last one, or the refusal that stopped it, how far
+// it read, how much it wrote.
+#[no_mangle]
+pub extern "C" fn bournejade_replay(
+    state: &mut [u8; 4761],
+    journal: &[u8],
+    out: &mut [u8],
+    taken: &mut usize,
+    wrote: &mut usize,
+) -> u8
+    ensures { λ r. ⌜ Replayed (replayInto engine (length (now (out .entry))) (now (state .entry)) (now (journal .entry))) (now (out .entry)) (now (state .exit)) (now (out .exit)) (now (taken .exit)) (now (wrote .exit)) r ⌝ }
+{
+    let ran = engine::replay(state, journal, out);
+    *taken = ran.taken;
+    *wrote = ran.wrote;
+    let stop = ran.stop;
+    stopped(stop)
+}
