@@ -1,0 +1,116 @@
+/*
+ * Bournejade: the engine of a radio gateway with Microsoft's HCI vendor extension, for firmware in C and C++.
+ *
+ * Link libbournejade.a (`rt staticlib bournejade` writes target/staticlib/libbournejade.a, x86-64). It needs memcpy and
+ * memset, and nothing else: no heap, no global data, no input or output. Every function is proved to return, to do
+ * nothing undefined and to give what is said here, for all octets in its buffers ("document 01" is the scope).
+ *
+ * What the caller owes:
+ *  - each pointer is valid for the length that stands behind it, and not NULL, also where that length is 0;
+ *  - a buffer that a call may write overlaps no other buffer of that call;
+ *  - a state is used by one call at a time. Different states may be used by different threads at once.
+ *
+ * A state is a block of 4,761 octets of the caller's, lent to each call and changed in place. It has no pointers and no
+ * padding: it may be copied by memcpy and compared by memcmp, and two states are equal exactly when all their octets
+ * are. Any octets in it are met: a block that is not a sound state is refused by 7.
+ *
+ * Every call returns 0 or the number of a refusal. A refused call writes no octet of its output and leaves the state
+ * as it was; refused settings (9) and a refused image (10) leave the blank state. On success the octets of an output
+ * past those written stay as they were.
+ */
+#ifndef BOURNEJADE_H
+#define BOURNEJADE_H
+
+#include <stddef.h>
+#include <stdint.h>
+
+#ifdef __cplusplus
+extern "C" {
+#endif
+
+/* The version of this header: major, minor, patch. bournejade_version() gives the library's. */
+#define BOURNEJADE_VERSION 0x010000
+
+/* Octets of a state, and the octets that an output must have, whatever is written: of a frame's answer, of an image,
+ * of a line. An output that is shorter is refused by 3. */
+#define BOURNEJADE_STATE_SIZE 4761
+#define BOURNEJADE_ANSWER_SIZE 2880
+#define BOURNEJADE_IMAGE_SIZE 9770
+#define BOURNEJADE_LINE_SIZE 527
+
+/* The most octets of a frame (kind, number, payload) and of an event prefix. */
+#define BOURNEJADE_FRAME_SIZE 263
+#define BOURNEJADE_PREFIX_SIZE 32
+
+/* The refusal numbers of document 01. 8 is never given. */
+enum bournejade_refusal {
+    BOURNEJADE_DONE = 0,
+    BOURNEJADE_SEEN = 1,          /* the frame's number is at most the position: it was executed before */
+    BOURNEJADE_GAP = 2,           /* the number is more than one above the position */
+    BOURNEJADE_SHORT = 3,         /* the output is shorter than it must be */
+    BOURNEJADE_NOT_A_LINE = 4,    /* not a line, or octets that are not a frame */
+    BOURNEJADE_BAD_PAYLOAD = 5,   /* the payload does not have its kind's form */
+    BOURNEJADE_OTHER_OPCODE = 6,  /* a command with another opcode than the settings' */
+    BOURNEJADE_UNSOUND = 7,       /* the block is not a sound state */
+    BOURNEJADE_BAD_SETTINGS = 9,  /* an opcode below 0xFC00, or a prefix of more than 32 octets */
+    BOURNEJADE_NOT_AN_IMAGE = 10  /* the text is not the image of a sound state */
+};
+
+/* A state. The octets are the engine's own; ask for the position, and save the rest as an image. */
+typedef struct bournejade_state {
+    uint8_t block[BOURNEJADE_STATE_SIZE];
+} bournejade_state;
+
+/* The library's version, and its sizes: compare them with this header's once at start. */
+uint32_t bournejade_version(void);
+size_t bournejade_state_size(void);
+size_t bournejade_answer_size(void);
+size_t bournejade_image_size(void);
+size_t bournejade_line_size(void);
+
+/* Begin with settings: the vendor opcode (0xFC00 to 0xFFFF) and the event prefix (0 to 32 octets). The state is fresh:
+ * position 0, filter off, no monitors. 9 and the blank state (opcode 0xFC00, no prefix) where a setting is out of range.
+ * What stood in the state before does not matter. Never refused otherwise. */
+uint8_t bournejade_begin(bournejade_state *state, uint16_t opcode, const uint8_t *prefix, size_t prefix_size);
+
+/* The number of the last executed frame (0: none yet): the next frame has the number above it. Of a block that is not
+ * sound, the number that stands there. */
+uint32_t bournejade_position(const bournejade_state *state);
+
+/* Give a frame as octets: kind (1 command, 2 packet, 3 tick), number (4, least octet first), payload. Its answer, all
+ * the HCI events that it causes one behind another, perhaps none, is written at the front of out, and *wrote is its length
+ * (0 at a refusal). Refusals, in this order: 7, 3, 4, 1, 2, 5, 6. */
+uint8_t bournejade_submit(bournejade_state *state, const uint8_t *frame, size_t frame_size, uint8_t *out,
+                          size_t out_size, size_t *wrote);
+
+/* Give a frame as its line (upper-case hexadecimal and LF), with the same result. */
+uint8_t bournejade_submit_line(bournejade_state *state, const uint8_t *line, size_t line_size, uint8_t *out,
+                               size_t out_size, size_t *wrote);
+
+/* Write the line of a frame, for the journal: 2 characters an octet and LF. Refusals: 3 (less than 527), 4 (not a
+ * frame). */
+uint8_t bournejade_write_line(const uint8_t *frame, size_t frame_size, uint8_t *out, size_t out_size, size_t *wrote);
+
+/* Write the state's image, a text of lines. Refusals: 7, 3. */
+uint8_t bournejade_save(const bournejade_state *state, uint8_t *out, size_t out_size, size_t *wrote);
+
+/* Take the state of an image's text, all of it. 10 and the blank state where it is not the image of a sound state. What
+ * stood in the state before does not matter. */
+uint8_t bournejade_restore(bournejade_state *state, const uint8_t *image, size_t image_size);
+
+/* Replay a piece of a journal: its whole lines, one after another, into one output. Lines that are seen (1) are
+ * skipped. *taken is how many characters were read, *wrote how many octets of answers were written.
+ *  - 0: all whole lines were read. Show what is behind *taken again, with more of the journal, in the next call.
+ *  - 3: fewer than 2,880 octets of the output are left. Empty it and call again with the journal from *taken on. (An
+ *    output of less than 2,880 octets never gets further.)
+ *  - any other: the line at *taken was refused so, and replay stops there. What was read before it is executed, and its
+ *    answers are in the output.
+ * The state is checked once a call (7, with *taken and *wrote 0, where the piece has a whole line). */
+uint8_t bournejade_replay(bournejade_state *state, const uint8_t *journal, size_t journal_size, uint8_t *out,
+                          size_t out_size, size_t *taken, size_t *wrote);
+
+#ifdef __cplusplus
+}
+#endif
+
+#endif
