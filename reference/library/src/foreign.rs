@@ -1,0 +1,126 @@
+//! The declarations of `include/bournejade.h`, and a safe function over each. The only unsafe code: a slice is valid for
+//! its length and never null, a block has 4,761 octets, and what is lent mutably overlaps nothing.
+
+use crate::{Ran, Refused, STATE};
+
+extern "C" {
+    fn bournejade_version() -> u32;
+    fn bournejade_state_size() -> usize;
+    fn bournejade_answer_size() -> usize;
+    fn bournejade_image_size() -> usize;
+    fn bournejade_line_size() -> usize;
+    fn bournejade_begin(state: *mut u8, opcode: u16, prefix: *const u8, prefix_size: usize) -> u8;
+    fn bournejade_position(state: *const u8) -> u32;
+    fn bournejade_submit(
+        state: *mut u8,
+        frame: *const u8,
+        frame_size: usize,
+        out: *mut u8,
+        out_size: usize,
+        wrote: *mut usize,
+    ) -> u8;
+    fn bournejade_submit_line(
+        state: *mut u8,
+        line: *const u8,
+        line_size: usize,
+        out: *mut u8,
+        out_size: usize,
+        wrote: *mut usize,
+    ) -> u8;
+    fn bournejade_write_line(
+        frame: *const u8,
+        frame_size: usize,
+        out: *mut u8,
+        out_size: usize,
+        wrote: *mut usize,
+    ) -> u8;
+    fn bournejade_save(state: *const u8, out: *mut u8, out_size: usize, wrote: *mut usize) -> u8;
+    fn bournejade_restore(state: *mut u8, image: *const u8, image_size: usize) -> u8;
+    fn bournejade_replay(
+        state: *mut u8,
+        journal: *const u8,
+        journal_size: usize,
+        out: *mut u8,
+        out_size: usize,
+        taken: *mut usize,
+        wrote: *mut usize,
+    ) -> u8;
+}
+
+type Block = [u8; STATE];
+
+fn told(refusal: u8, wrote: usize) -> Result<usize, Refused> {
+    match refusal {
+        0 => Ok(wrote),
+        _ => Err(refusal),
+    }
+}
+
+pub fn sizes() -> (u32, [usize; 4]) {
+    unsafe {
+        let sizes = [
+            bournejade_state_size(),
+            bournejade_answer_size(),
+            bournejade_image_size(),
+            bournejade_line_size(),
+        ];
+        (bournejade_version(), sizes)
+    }
+}
+
+pub fn begin(block: &mut Block, opcode: u16, prefix: &[u8]) -> Refused {
+    unsafe { bournejade_begin(block.as_mut_ptr(), opcode, prefix.as_ptr(), prefix.len()) }
+}
+
+pub fn position(block: &Block) -> u32 {
+    unsafe { bournejade_position(block.as_ptr()) }
+}
+
+pub fn submit(block: &mut Block, frame: &[u8], out: &mut [u8]) -> Result<usize, Refused> {
+    let (state, room) = (block.as_mut_ptr(), out.len());
+    let mut wrote = 0;
+    told(
+        unsafe { bournejade_submit(state, frame.as_ptr(), frame.len(), out.as_mut_ptr(), room, &mut wrote) },
+        wrote,
+    )
+}
+
+pub fn submit_line(block: &mut Block, line: &[u8], out: &mut [u8]) -> Result<usize, Refused> {
+    let (state, room) = (block.as_mut_ptr(), out.len());
+    let mut wrote = 0;
+    told(
+        unsafe {
+            bournejade_submit_line(state, line.as_ptr(), line.len(), out.as_mut_ptr(), room, &mut wrote)
+        },
+        wrote,
+    )
+}
+
+pub fn write_line(frame: &[u8], out: &mut [u8]) -> Result<usize, Refused> {
+    let mut wrote = 0;
+    told(
+        unsafe {
+            bournejade_write_line(frame.as_ptr(), frame.len(), out.as_mut_ptr(), out.len(), &mut wrote)
+        },
+        wrote,
+    )
+}
+
+pub fn save(block: &Block, out: &mut [u8]) -> Result<usize, Refused> {
+    let mut wrote = 0;
+    told(unsafe { bournejade_save(block.as_ptr(), out.as_mut_ptr(), out.len(), &mut wrote) }, wrote)
+}
+
+pub fn restore(block: &mut Block, image: &[u8]) -> Refused {
+    unsafe { bournejade_restore(block.as_mut_ptr(), image.as_ptr(), image.len()) }
+}
+
+pub fn replay(block: &mut Block, journal: &[u8], out: &mut [u8]) -> Ran {
+    let (state, room) = (block.as_mut_ptr(), out.len());
+    let (mut taken, mut wrote) = (0, 0);
+    let refusal = unsafe {
+        let text = journal.as_ptr();
+        bournejade_replay(state, text, journal.len(), out.as_mut_ptr(), room, &mut taken, &mut wrote)
+    };
+    Ran { taken, wrote, refusal }
+}

@@ -1,0 +1,89 @@
+//! The library beside the independent implementation.
+
+use library::compare::{self, Counts};
+use library::timing;
+use reference::fault::{Fault, FAULTS};
+use std::process::ExitCode;
+use std::{env, fs};
+
+const USAGE: &str = "\
+library compare COUNT SEED            COUNT random sessions and scripts through both
+library faults COUNT SEED             how many of them notice each wrong build of the independent implementation
+library time IMAGE JOURNAL TIMES      replay in memory by both: nanoseconds, the shortest of TIMES runs
+library run WHO IMAGE JOURNAL         one replay by WHO, library or reference: the octets of the answers
+";
+
+fn main() -> ExitCode {
+    let words: Vec<String> = env::args().skip(1).collect();
+    let words: Vec<&str> = words.iter().map(String::as_str).collect();
+    match run(&words) {
+        Ok(text) => {
+            println!("{text}");
+            ExitCode::SUCCESS
+        }
+        Err(message) => {
+            eprintln!("{message}");
+            ExitCode::FAILURE
+        }
+    }
+}
+
+fn run(words: &[&str]) -> Result<String, String> {
+    match words {
+        ["compare", count, seed] => compared(number(count)?, number(seed)?),
+        ["faults", count, seed] => Ok(faults(number(count)?, number(seed)?)),
+        ["time", image, journal, times] => time(&read(image)?, &read(journal)?, number(times)? as usize),
+        ["run", who, image, journal] => {
+            let replay = match *who {
+                "library" => timing::by_library,
+                "reference" => timing::by_reference,
+                _ => return Err(USAGE.to_string()),
+            };
+            let answers = replay(&read(image)?, &read(journal)?).ok_or("refused")?;
+            Ok(answers.len().to_string())
+        }
+        _ => Err(USAGE.to_string()),
+    }
+}
+
+fn number(text: &str) -> Result<u64, String> {
+    text.parse().map_err(|_| USAGE.to_string())
+}
+
+fn read(path: &str) -> Result<Vec<u8>, String> {
+    fs::read(path).map_err(|error| format!("{path}: {error}"))
+}
+
+fn compared(count: u64, seed: u64) -> Result<String, String> {
+    if library::sizes() != (0x010000, [library::STATE, library::ANSWER, library::IMAGE, library::LINE]) {
+        return Err("the library's version and sizes are others".to_string());
+    }
+    let mut counts = Counts::default();
+    for index in 0..count {
+        if let Some(place) = compare::first_difference(seed, index, Fault::None, &mut counts) {
+            return Err(format!("seed {seed}, script {index}: call {place} differs"));
+        }
+    }
+    let Counts { scripts, calls, octets } = counts;
+    Ok(format!("{scripts} scripts, {calls} calls, {octets} octets written: no difference"))
+}
+
+fn faults(count: u64, seed: u64) -> String {
+    let noticed = |fault: Fault| {
+        (0..count)
+            .filter(|i| compare::first_difference(seed, *i, fault, &mut Counts::default()).is_some())
+            .count()
+    };
+    let rows = FAULTS.iter().enumerate().map(|(place, (fault, words))| (place + 1, words, noticed(*fault)));
+    rows.map(|(n, words, times)| format!("{n:>4} {times:>6} {words}")).collect::<Vec<_>>().join("\n")
+}
+
+fn time(image: &[u8], journal: &[u8], times: usize) -> Result<String, String> {
+    let lines = journal.iter().filter(|c| **c == b'\n').count() as u128;
+    let (ours, fast) = timing::timed(|| timing::by_library(image, journal), times).ok_or("refused")?;
+    let (theirs, slow) = timing::timed(|| timing::by_reference(image, journal), times).ok_or("refused")?;
+    if ours != theirs {
+        return Err("the answers differ".to_string());
+    }
+    Ok(format!("{} {}", fast / lines, slow / lines))
+}
