@@ -34,11 +34,12 @@ def characters():
 
 
 def head(filter_on=1, opcode=OPCODE, prefix=b"MS", position=9):
-    return line(b"\xA0" + position.to_bytes(4, "little") + bytes([filter_on]) + opcode + bytes([len(prefix)]) + prefix)
+    settings = opcode + bytes([len(prefix)]) + prefix
+    return line(b"\xA0" + position.to_bytes(4, "little") + bytes([filter_on]) + settings)
 
 
 def monitor(handle=0, high=-60, low=-80, interval=60, sampling=4, condition=of_device(1), length=None):
-    """An A1 line. A length that is given stands for that of the condition, which is then cut or filled to 64 octets."""
+    """An A1 line. A length that is given stands for that of the condition, which then has 64 octets."""
     octets = condition[1:] if length is None else condition[1:].ljust(64, b"\x00")[:64]
     length = len(octets) if length is None else length
     return line(bytes([0xA1, handle, high & 255, low & 255, interval, sampling, condition[0], length]) + octets)

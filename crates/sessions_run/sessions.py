@@ -2,9 +2,9 @@
 """Makes the sessions of the program (stdin) and what it must write (stdout): sessions.py REFERENCE, in this directory.
 
 REFERENCE is the independent implementation, built (reference/README.md). Nothing here comes from the program itself.
-The first sessions are made below and in edges.py, line by line from document 01's formats, one for each edge of packets,
-ticks, images and conditions; what is to be written for them is what `REFERENCE replay` writes. The rest are short ones
-of `REFERENCE cases`.
+The first sessions are made below and in edges.py, line by line from document 01's formats, one for each edge of
+packets, ticks, images and conditions; what is to be written for them is what `REFERENCE replay` writes. The rest are
+short ones of `REFERENCE cases`.
 """
 import os
 import subprocess
