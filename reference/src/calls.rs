@@ -10,7 +10,7 @@ use crate::cases::given;
 use crate::fault::Fault;
 use crate::generate;
 use crate::history::History;
-use crate::limits::ANSWER;
+use crate::limits::{ANSWER, IMAGE};
 use crate::lines;
 use crate::random::Random;
 use crate::script::{self, Call, Outcome};
@@ -152,7 +152,8 @@ pub fn input(stored: &Stored) -> Vec<u8> {
             Call::Start { opcode, .. } => (*opcode as usize, 0),
             Call::Octets { lent, .. } | Call::Line { lent, .. } => (*lent, 0),
             Call::Save { lent } | Call::WriteLine { lent, .. } => (*lent, 0),
-            Call::Restore { .. } | Call::Failover | Call::Adopt(_) => (0, 0),
+            Call::Failover => (IMAGE, 0),
+            Call::Restore { .. } | Call::Adopt(_) => (0, 0),
             Call::Replay { .. } => {
                 let showing = showings.next().expect("a showing for each replay");
                 (showing.lent, showing.piece)
