@@ -1,0 +1,137 @@
+//! The state as the block of 4,761 octets that the proved calls are given (docs/DESIGN.md, "The block"): the
+//! fields of A0 at 0, a row for each handle at 40, the pairs' rows in start order at 1176, their number at
+//! 4760; the rows hold the fields of A1 and A2, whatever is not in use is 0.
+//!
+//! `of` and `state` undo each other: `of(&state(&b))` is `Some(b)` for any octets, and where `of(&s)` is
+//! `Some(b)`, `state(&b)` is `s`. So a block is sound exactly where its record is.
+
+use crate::limits::{MONITORS, PAIRS};
+use crate::state::{Device, Monitor, Pair, State};
+
+/// Octets of the block.
+pub const SIZE: usize = 4761;
+
+const PREFIX_AT: usize = 8;
+const MONITORS_AT: usize = 40;
+const MONITOR_ROW: usize = 71;
+const PAIRS_AT: usize = 1176;
+const PAIR_ROW: usize = 56;
+const COUNT_AT: usize = 4760;
+
+/// The number of monitors in the record of a block that has a row at another place than its handle's. No
+/// sound state has so many; the rows are then held as they stand in the block, one place each.
+const MISPLACED: u8 = 255;
+
+/// The block of a record. None where no block holds it: two monitors with one handle, a handle above 15,
+/// monitors not in rising order, an unused place of the monitors that is not 0, a number of monitors above 16.
+pub fn of(state: &State) -> Option<[u8; SIZE]> {
+    let mut block = [0; SIZE];
+    block[..4].copy_from_slice(&state.position.to_le_bytes());
+    block[4] = state.filter;
+    block[5..7].copy_from_slice(&state.opcode.to_le_bytes());
+    block[7] = state.prefix_length;
+    block[PREFIX_AT..MONITORS_AT].copy_from_slice(&state.prefix);
+    for (index, monitor) in state.monitors().iter().enumerate() {
+        let place = if state.monitor_count == MISPLACED { index } else { monitor.handle as usize };
+        if place >= MONITORS {
+            return None;
+        }
+        let row = MONITORS_AT + MONITOR_ROW * place;
+        block[row..row + MONITOR_ROW].copy_from_slice(&monitor_row(monitor));
+    }
+    for (place, pair) in state.pairs.iter().enumerate() {
+        let row = PAIRS_AT + PAIR_ROW * place;
+        block[row..row + PAIR_ROW].copy_from_slice(&pair_row(pair));
+    }
+    block[COUNT_AT] = state.pair_count;
+    (self::state(&block) == *state).then_some(block)
+}
+
+/// The record that a block holds, whatever its octets. Octets that should be 0 and are not stand in the
+/// record too, in places that are not in use.
+pub fn state(block: &[u8; SIZE]) -> State {
+    let mut state = State::blank();
+    state.position = u32::from_le_bytes(part(block, 0));
+    state.filter = block[4];
+    state.opcode = u16::from_le_bytes(part(block, 5));
+    state.prefix_length = block[7];
+    state.prefix = part(block, PREFIX_AT);
+    let rows: [Monitor; MONITORS] =
+        std::array::from_fn(|h| monitor(&part(block, MONITORS_AT + MONITOR_ROW * h)));
+    let used = || rows.iter().enumerate().filter(|(_, row)| **row != Monitor::NONE);
+    if used().all(|(place, row)| row.handle as usize == place) {
+        for (place, (_, row)) in used().enumerate() {
+            state.monitors[place] = *row;
+        }
+        state.monitor_count = used().count() as u8;
+    } else {
+        state.monitors = rows;
+        state.monitor_count = MISPLACED;
+    }
+    state.pairs = std::array::from_fn::<_, PAIRS, _>(|i| pair(&part(block, PAIRS_AT + PAIR_ROW * i)));
+    state.pair_count = block[COUNT_AT];
+    state
+}
+
+/// N octets from a place on.
+fn part<const N: usize>(octets: &[u8], at: usize) -> [u8; N] {
+    octets[at..at + N].try_into().expect("N octets")
+}
+
+/// Handle, high, low, interval, sampling, type, condition length, condition.
+fn monitor_row(m: &Monitor) -> [u8; MONITOR_ROW] {
+    let mut row = [0; MONITOR_ROW];
+    row[..7].copy_from_slice(&[
+        m.handle,
+        m.high as u8,
+        m.low as u8,
+        m.interval,
+        m.sampling,
+        m.kind,
+        m.length,
+    ]);
+    row[7..].copy_from_slice(&m.octets);
+    row
+}
+
+fn monitor(row: &[u8; MONITOR_ROW]) -> Monitor {
+    Monitor {
+        handle: row[0],
+        high: row[1] as i8,
+        low: row[2] as i8,
+        interval: row[3],
+        sampling: row[4],
+        kind: row[5],
+        length: row[6],
+        octets: part(row, 7),
+    }
+}
+
+/// Handle, address type, address, ticks since a good packet (2), ticks in the window (1), packets (4), sum (8),
+/// event type, n, data.
+fn pair_row(p: &Pair) -> [u8; PAIR_ROW] {
+    let mut row = [0; PAIR_ROW];
+    row[..2].copy_from_slice(&[p.handle, p.device.kind]);
+    row[2..8].copy_from_slice(&p.device.address);
+    row[8..10].copy_from_slice(&p.quiet.to_le_bytes());
+    row[10] = p.window_ticks;
+    row[11..15].copy_from_slice(&p.packets.to_le_bytes());
+    row[15..23].copy_from_slice(&p.sum.to_le_bytes());
+    row[23..25].copy_from_slice(&[p.event_type, p.n]);
+    row[25..].copy_from_slice(&p.data);
+    row
+}
+
+fn pair(row: &[u8; PAIR_ROW]) -> Pair {
+    Pair {
+        handle: row[0],
+        device: Device { kind: row[1], address: part(row, 2) },
+        quiet: u16::from_le_bytes(part(row, 8)),
+        window_ticks: row[10],
+        packets: u32::from_le_bytes(part(row, 11)),
+        sum: i64::from_le_bytes(part(row, 15)),
+        event_type: row[23],
+        n: row[24],
+        data: part(row, 25),
+    }
+}
