@@ -92,8 +92,8 @@ fn gathered(random: &mut Random, calls: &[Call]) -> Vec<Call> {
     made
 }
 
-/// How the journals of a script are shown: by the largest size below the text's length that was not used yet; one
-/// in ten by a size above it.
+/// How the journals of a script are shown: short ones often in small pieces, the others in pieces of the largest size
+/// below the text's length that was not used yet; one in ten in a single piece.
 fn showings(random: &mut Random, used: &mut [bool], calls: &[Call]) -> Vec<Showing> {
     let mut showings = Vec::new();
     for call in calls {
@@ -102,13 +102,14 @@ fn showings(random: &mut Random, used: &mut [bool], calls: &[Call]) -> Vec<Showi
         let any = random.between(ANSWER as i64, 6000) as usize;
         let lent = random.pick(&[ANSWER, ANSWER + 1, 6000, any]);
         let unused = (1..used.len().min(length)).rev().find(|size| !used[*size]);
-        let piece = match unused {
-            _ if random.percent(10) => length + 1 + random.below(300),
-            Some(size) => {
+        let piece = match (random.below(10), unused) {
+            (0, _) => length + 1 + random.below(300),
+            (1..=5, _) if length < 300 => 1 + random.below(40),
+            (_, None) => 1 + random.below(length + 1),
+            (_, Some(size)) => {
                 used[size] = true;
                 size
             }
-            None => 1 + random.below(length + 1),
         };
         showings.push(Showing { piece, lent });
     }

@@ -1,22 +1,19 @@
-// Runs scripts through every call (document 01, Refusal numbers, Sessions and failover; both sides of each edge).
-// Standard input is a list of calls. A call is a tag (1), two numbers (2 each) and the length of its octets (2), low
-// octet first, then its octets. The numbers: of a start the opcode; of the others how many octets are lent as output,
-// and of a replay then the size of the pieces that its text is shown in. Tag 0 ends a script: its image is saved, and
-// a line is written with a digest of all that was seen of its calls, how many they are, and how many octets they
-// wrote. `reference calls` makes the scripts and the lines, by the independent implementation.
+// Runs scripts through every call (document 01, Refusal numbers, Sessions and failover, Both sides of each edge).
+// Standard input is a list of calls. A call is a tag (1 octet), two numbers and the length of its octets (2 each, low
+// octet first), then its octets. The first number is a start's opcode, else how many octets are lent as output; the
+// second is the size of the pieces that a replay's text is shown in. Tag 0 ends a script: its image is saved, and a
+// line is written with a digest of all that was seen of its calls, how many they are, and how many octets they wrote.
+// The independent implementation makes the scripts and the lines (reference/README.md, Stored scripts).
 mod journal;
 mod make;
 mod seen;
 
-ghost use Prim.Native.Nat.{_+_, _≤_, _<_};
-ghost use mathlib.Core.Path.{_≡_};
-ghost use lib.ListN.{length};
 use libc::STDIN_FILENO;
 use libc::STDOUT_FILENO;
 use seen::Tally;
 use state::State;
 
-// The tags of the calls.
+// The tags of the calls, and of a script's end.
 const END: u8 = 0;
 
 const START: u8 = 1;
@@ -53,6 +50,7 @@ struct Head {
     size: u16,
 }
 
+// Writes the line of a script.
 fn show(t: Tally) {
     io::print_hex(STDOUT_FILENO, t.digest, 14);
     io::write_all(STDOUT_FILENO, b" ");
@@ -158,7 +156,7 @@ fn fill_part(text: &mut [u8], n: usize) -> bool {
     fill(&mut text[..n])
 }
 
-// Reads a call's head. The tag is END where the input is at its end, too.
+// What the octets of a head say.
 fn read_head(head: &[u8]) -> Head {
     Head {
         tag: octets::get8(head, 0),
@@ -195,6 +193,7 @@ fn run(block: &mut [u8; 4761], text: &mut [u8], out: &mut [u8]) {
     }
 }
 
+// Begins with the blank state, and lends the buffers.
 fn main() {
     let state = State::blank();
     let mut block = state.block;

@@ -1,8 +1,5 @@
 // Makes the calls of a script but replay, on the script's block: start, give a frame as octets or as its line, save,
 // write a line, restore, fail over, take up a block.
-ghost use Prim.Native.Nat.{_≤_, _<_};
-ghost use mathlib.Core.Path.{_≡_};
-ghost use lib.ListN.{length};
 use super::seen;
 use super::seen::Tally;
 use engine::Loaded;

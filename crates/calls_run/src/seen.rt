@@ -1,7 +1,5 @@
 // What is seen of the calls of a script: of each the octets that it wrote, how many these are, the number of its
 // refusal, and whether the rest of the output that it was lent stayed as it was.
-ghost use Prim.Native.Nat.{_≤_};
-ghost use lib.ListN.{length};
 use lines::Wrote;
 
 // The largest prime below 2^54: the digest is a polynomial's value modulo it.
@@ -33,6 +31,7 @@ fn mix(d: u64, x: u64) -> u64 {
     ((d % PRIME) * 257 + x % 256 + 1) % PRIME
 }
 
+// An octet as a number.
 fn wide(x: u8) -> u64 {
     x as u64
 }
@@ -53,6 +52,7 @@ fn number(from: u64, n: u64) -> u64 {
     mix(mix(mix(mix(from, n), n / 256), n / 65536), n / 16777216)
 }
 
+// A count with n more.
 fn add(count: u64, n: u64) -> u64 {
     (count % COUNTED + n % COUNTED) % COUNTED
 }
