@@ -2,84 +2,22 @@
 """Makes the sessions of the program (stdin) and what it must write (stdout): sessions.py REFERENCE, in this directory.
 
 REFERENCE is the independent implementation, built (reference/README.md). Nothing here comes from the program itself.
-The first sessions are made below, line by line from document 01's formats, one for each edge of packets and ticks;
-what is to be written for them is what `REFERENCE replay` writes. The rest are short ones of `REFERENCE cases`.
+The first sessions are made below and in edges.py, line by line from document 01's formats, one for each edge of
+packets, ticks, images and conditions; what is to be written for them is what `REFERENCE replay` writes. The rest are
+short ones of `REFERENCE cases`.
 """
 import os
 import subprocess
 import sys
 import tempfile
 
+sys.dont_write_bytecode = True
+from edges import characters, conditions, images
+from made import NAMED, OPCODE, SMALL, Session, address, line, long_data, of_device
+
 PRIME = 2**54 - 33
 ROOM = 65536
-SEED, DRAWN, SHORT, TOTAL = 20, 2500, 1400, 1000
-
-OPCODE = bytes.fromhex("1EFC")
-
-
-class Session:
-    """A fresh image with a prefix, and a journal that grows frame by frame."""
-
-    def __init__(self, name, prefix=b"MS", enable=None):
-        self.name, self.number, self.lines, self.frames, self.stops = name, 0, [], 0, 0
-        head = bytes(5) + OPCODE + bytes([len(prefix)]) + prefix
-        self.image = line(b"\xA0" + head) + line(b"\xAF\x00\x00")
-        if enable is not None:
-            self.enable(enable)
-
-    def frame(self, kind, payload=b""):
-        self.number += 1
-        self.octets(bytes([kind]) + self.number.to_bytes(4, "little") + payload)
-
-    def octets(self, frame):
-        self.frames += 1
-        self.lines.append(line(frame))
-
-    def command(self, params):
-        self.frame(1, OPCODE + bytes([len(params)]) + params)
-
-    def add(self, condition, interval=3, sampling=0, high=-60, low=-80):
-        self.command(bytes([3, high & 255, low & 255, interval, sampling]) + condition)
-
-    def cancel(self, handle):
-        self.command(bytes([4, handle]))
-
-    def enable(self, value):
-        self.command(bytes([5, value]))
-
-    def packet(self, device, rssi=-60, data=b"", event=0, kind=0):
-        self.frame(2, bytes([event, kind]) + address(device) + bytes([len(data)]) + data + bytes([rssi & 255]))
-
-    def ticks(self, count):
-        for _ in range(count):
-            self.frame(3)
-
-    def texts(self):
-        return self.image, "".join(self.lines).encode("ascii")
-
-
-def line(octets):
-    """A line of document 01."""
-    return octets.hex().upper() + "\n"
-
-
-def address(device):
-    return bytes([device & 255, device >> 8, 3, 4, 5, 6])
-
-
-def of_device(device, kind=0):
-    """A condition of type 4."""
-    return bytes([4, kind]) + address(device)
-
-
-# A condition of type 1, and data that matches it: AD type 09, an 'A' at offset 0.
-NAMED = bytes([1, 1, 3, 9, 0, 0x41])
-SMALL = bytes([2, 9, 0x41])
-
-
-def long_data(fill):
-    """31 octets of data that match NAMED."""
-    return bytes([30, 9, 0x41]) + bytes([fill]) * 28
+SEED, DRAWN, SHORT, TAKEN = 20, 2500, 1400, 874
 
 
 def full():
@@ -347,20 +285,22 @@ def read(path):
 
 def main():
     reference, sessions, lines = sys.argv[1], [], []
+    kinds = (in_full, full, sixteen, windows, samplings, switched, ends, longest, counted, refused)
     with tempfile.TemporaryDirectory() as folder:
-        for kind in (in_full, full, sixteen, windows, samplings, switched, ends, longest, counted, refused):
+        for kind in kinds + (conditions, characters, images):
             for made in kind():
                 image, journal = made.texts()
                 image = image.encode("ascii")
                 expected = replay(reference, folder, image, journal)
                 text, answers = written(expected)
-                assert text.endswith(" %d\n" % made.stops), (made.name, text)
+                assert text.split()[-1] == str(made.stops), (made.name, text)
                 sessions.append((image, journal))
                 lines.append(text)
                 print(len(sessions), made.name, "(%d frames, %d octets)" % (made.frames, answers))
         subprocess.run([reference, "cases", folder, str(SEED), str(DRAWN)], check=True, stdout=subprocess.DEVNULL)
+        total = len(sessions) + TAKEN
         for name in sorted(os.listdir(folder)):
-            if not name.endswith(".expected") or len(sessions) == TOTAL:
+            if not name.endswith(".expected") or len(sessions) == total:
                 continue
             stem = os.path.join(folder, name[:-9])
             image, journal = read(stem + ".image"), read(stem + ".journal")

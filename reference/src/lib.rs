@@ -2,6 +2,7 @@
 //! sessions, and what is compared with what. All expected answers of the project's tests come from here.
 
 pub mod block;
+pub mod calls;
 pub mod cases;
 pub mod command;
 pub mod compare;

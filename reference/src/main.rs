@@ -1,6 +1,6 @@
 //! The command line of the reference.
 
-use reference::{cases, compare, fault::Fault, history::History, program, timers::Timers};
+use reference::{calls, cases, compare, fault::Fault, history::History, program, timers::Timers};
 use std::io::{self, Write};
 use std::path::Path;
 use std::process::ExitCode;
@@ -10,6 +10,8 @@ const USAGE: &str = "\
 reference replay IMAGE JOURNAL      what document 01 says the program writes (engine with stored timers)
 reference replay IMAGE JOURNAL N    the same with wrong build N switched on (docs/RELIABILITY.md)
 reference history IMAGE JOURNAL     the same by the history rule
+reference calls DIR SEED COUNT      writes DIR/stdin and DIR/stdout: COUNT scripts and one more for crates/calls_run
+reference calls DIR SEED COUNT N    the same scripts, and what wrong build N gives
 reference cases DIR SEED COUNT      writes COUNT cases: DIR/N.image, N.journal, N.expected
 reference vectors KIND SEED COUNT   COUNT vectors, KIND: lines frames conditions commands images means
 reference coverage SEED COUNT       how often COUNT scripts reach each rule, status and refusal
@@ -43,6 +45,13 @@ fn run(arguments: &[&str]) -> Result<Vec<u8>, (u8, String)> {
         }
         ["history", image, journal] => {
             Ok(program::output(&mut History::default(), &read(image)?, &read(journal)?))
+        }
+        ["calls", folder, seed, count] => {
+            write_calls(Path::new(folder), number(seed)?, number(count)?, Fault::None)
+        }
+        ["calls", folder, seed, count, fault] => {
+            let fault = Fault::of_number(number(fault)? as usize).ok_or_else(usage)?;
+            write_calls(Path::new(folder), number(seed)?, number(count)?, fault)
         }
         ["cases", folder, seed, count] => write_cases(Path::new(folder), number(seed)?, number(count)?),
         ["vectors", kind, seed, count] => {
@@ -106,4 +115,21 @@ fn write_cases(folder: &Path, seed: u64, count: u64) -> Result<Vec<u8>, (u8, Str
         }
     }
     Ok(Vec::new())
+}
+
+fn write_calls(folder: &Path, seed: u64, count: u64, fault: Fault) -> Result<Vec<u8>, (u8, String)> {
+    let failed = |error: io::Error| (3, format!("{}: {error}\n", folder.display()));
+    let scripts = calls::scripts(seed, count as usize);
+    let input: Vec<u8> = scripts.iter().flat_map(calls::input).collect();
+    let lines: String = scripts
+        .iter()
+        .map(|script| match fault {
+            Fault::None => calls::line(&calls::expected(&script.calls)),
+            _ => calls::line(&calls::expected_wrong(&script.calls, fault)),
+        })
+        .collect();
+    fs::create_dir_all(folder).map_err(failed)?;
+    fs::write(folder.join("stdin"), input).map_err(failed)?;
+    fs::write(folder.join("stdout"), lines).map_err(failed)?;
+    Ok(calls::census(&scripts).text().into_bytes())
 }

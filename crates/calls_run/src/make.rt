@@ -1,0 +1,145 @@
+// Makes the calls of a script but replay, on the script's block: start, give a frame as octets or as its line, save,
+// write a line, restore, fail over, take up a block.
+use super::seen;
+use super::seen::Tally;
+use engine::Loaded;
+use lines::Wrote;
+use state::Start;
+use state::State;
+
+// Octets of a block.
+const SIZE: usize = 4761;
+
+// The block of a state that a call returned is the next call's.
+fn hold(block: &mut [u8; 4761], state: State) {
+    let held = state.block;
+    parts::copy(block, 0, &held);
+}
+
+// Starts with settings.
+pub fn start(block: &mut [u8; 4761], opcode: u16, prefix: &[u8], t: Tally) -> Tally {
+    let begun = State::fresh(opcode, prefix);
+    let answer = begun.answer;
+    let state = begun.state;
+    hold(block, state);
+    match answer {
+        Start::Fresh => seen::bare(t, 0),
+        Start::Refused(x) => seen::bare(t, lines::number_of(x)),
+    }
+}
+
+// Gives a frame as octets.
+pub fn submit(block: &mut [u8; 4761], frame: &[u8], out: &mut [u8], t: Tally) -> Tally {
+    seen::mark(out);
+    let r = engine::submit(block, frame, out);
+    seen::answered(t, out, r)
+}
+
+// Gives a frame as its line.
+pub fn submit_line(block: &mut [u8; 4761], text: &[u8], out: &mut [u8], t: Tally) -> Tally {
+    seen::mark(out);
+    let r = engine::submit_line(block, text, out);
+    seen::answered(t, out, r)
+}
+
+// Saves an image.
+pub fn save(block: &[u8; 4761], out: &mut [u8], t: Tally) -> Tally {
+    seen::mark(out);
+    let r = engine::save(block, out);
+    seen::answered(t, out, r)
+}
+
+// Writes the line of a frame's octets.
+pub fn write_line(frame: &[u8], out: &mut [u8], t: Tally) -> Tally {
+    seen::mark(out);
+    let r = lines::write_line(frame, out);
+    seen::answered(t, out, r)
+}
+
+// Restores an image: the number of the refusal, 0 for none.
+fn load(block: &mut [u8; 4761], text: &[u8]) -> u8 {
+    let restored = engine::load(text);
+    let answer = restored.answer;
+    let state = restored.state;
+    hold(block, state);
+    match answer {
+        Loaded::Accepted => 0,
+        Loaded::Rejected(x) => lines::number_of(x),
+    }
+}
+
+// Restores an image.
+pub fn restore(block: &mut [u8; 4761], text: &[u8], t: Tally) -> Tally {
+    seen::bare(t, load(block, text))
+}
+
+// Restores the image that was saved at an output's start. What is seen of it is the refusal alone.
+fn restore_saved(block: &mut [u8; 4761], out: &[u8], n: usize, t: Tally) -> Tally {
+    if out.len() < n {
+        return seen::closed(t, seen::took(seen::opened(t), out, n), 0);
+    }
+    restore(block, &out[..n], t)
+}
+
+// Saves an image and restores it.
+pub fn fail_over(block: &mut [u8; 4761], out: &mut [u8], t: Tally) -> Tally {
+    seen::mark(out);
+    let r = engine::save(block, out);
+    match r {
+        Wrote::Done(n) => restore_saved(block, out, n, t),
+        Wrote::Refused(_) => seen::answered(t, out, r),
+    }
+}
+
+// Where a packed block goes on: at which octet of the block, and whether a number of zeros is next.
+struct Place {
+    at: usize,
+    zeros: bool,
+}
+
+// How far n octets after an index are, in a block.
+fn after(at: usize, n: u8) -> usize {
+    (at % SIZE + n as usize) % SIZE
+}
+
+// Lays one octet of a packed block: a 0 and a number stand for so many zeros, any other octet for itself.
+fn lay(block: &mut [u8; 4761], x: u8, p: Place) -> Place {
+    let at = p.at;
+    if p.zeros {
+        return Place {
+            at: after(at, x),
+            zeros: false,
+        };
+    }
+    if x == 0 {
+        return Place {
+            at: at,
+            zeros: true,
+        };
+    }
+    octets::put8(block, at, x);
+    Place {
+        at: after(at, 1),
+        zeros: false,
+    }
+}
+
+// Lays a packed block over zeros.
+fn unpack(block: &mut [u8; 4761], packed: &[u8]) {
+    let mut p = Place {
+        at: 0,
+        zeros: false,
+    };
+    let mut i = 0;
+    while i < packed.len() {
+        p = lay(block, packed[i], p);
+        i += 1;
+    }
+}
+
+// Takes up a block, whatever its octets.
+pub fn adopt(block: &mut [u8; 4761], packed: &[u8], t: Tally) -> Tally {
+    parts::fill(block, 0, SIZE, 0);
+    unpack(block, packed);
+    seen::bare(t, 0)
+}

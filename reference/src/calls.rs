@@ -1,0 +1,280 @@
+//! Scripts for the program that makes every proved call (crates/calls_run): what it reads, and the line that it
+//! must write of each script.
+//!
+//! A call is a tag, two numbers and the length of its octets, two octets each, low octet first; then its octets.
+//! Tag 0 ends a script: an image is saved, and the line is written. The line has a digest over all that is seen of
+//! the calls, how many they are, and how many octets they wrote.
+
+use crate::block;
+use crate::cases::given;
+use crate::fault::Fault;
+use crate::generate;
+use crate::history::History;
+use crate::limits::{ANSWER, IMAGE};
+use crate::lines;
+use crate::random::Random;
+use crate::script::{self, Call, Outcome};
+use crate::state::State;
+use crate::timers::Timers;
+use std::collections::BTreeSet;
+
+/// A script, and for each of its replays how the text is shown and the output is lent.
+pub struct Stored {
+    pub calls: Vec<Call>,
+    pub showings: Vec<Showing>,
+}
+
+/// A journal shown in pieces of so many octets, into an output of so many.
+#[derive(Clone, Copy, PartialEq, Eq, Debug)]
+pub struct Showing {
+    pub piece: usize,
+    pub lent: usize,
+}
+
+/// Every size of a piece up to this one is used for a text that is longer.
+pub const PIECES: usize = 700;
+/// The longest output that the program lends.
+const MOST_LENT: usize = 9800;
+/// The digest is a polynomial's value modulo this prime.
+const PRIME: u64 = (1 << 54) - 33;
+
+/// `count` scripts of a seed that are not too long, and the one made by hand.
+pub fn scripts(seed: u64, count: usize) -> Vec<Stored> {
+    let mut made: Vec<Stored> = Vec::new();
+    let mut sizes = [false; PIECES + 1];
+    let mut index = 0;
+    while made.len() < count {
+        let mut random = Random::of(seed ^ 0xCA11, index);
+        let mut calls = generate::script(seed, index);
+        index += 1;
+        calls.retain(|call| !matches!(call, Call::Adopt(state) if block::of(state).is_none()));
+        if made.len() % 4 == 1 {
+            calls = gathered(&mut random, &calls);
+        }
+        if wanted(made.len(), &calls) {
+            let showings = showings(&mut random, &mut sizes, &calls);
+            made.push(Stored { calls, showings });
+        }
+    }
+    made.push(by_hand());
+    made
+}
+
+/// Journals on a block that is not sound: refused at the first whole line, and not before there is one.
+fn by_hand() -> Stored {
+    let mut state = State::blank();
+    state.filter = 2;
+    let adopt = Call::Adopt(Box::new(state));
+    let journal = |text: &[u8]| Call::Replay { text: text.to_vec() };
+    let calls = vec![adopt, journal(b"0301000000"), journal(b"0301000000\n0302000000\n"), journal(b"\n")];
+    Stored { calls, showings: vec![Showing { piece: 4, lent: ANSWER }; 3] }
+}
+
+/// Is this script taken for a place? Most are short, a fourth have journals; some restore images or take up
+/// blocks, some are long.
+fn wanted(place: usize, calls: &[Call]) -> bool {
+    let size: usize = calls.iter().map(|call| 7 + octets(call).len()).sum();
+    let images = || calls.iter().any(|call| matches!(call, Call::Restore { .. } | Call::Adopt(_)));
+    match place % 32 {
+        0 => (4000..9000).contains(&size),
+        4 | 12 | 20 | 28 => size < 4400 && images(),
+        n if n % 4 == 1 => (600..1600).contains(&size),
+        _ => size < 700,
+    }
+}
+
+/// The script with frames that are executed or seen gathered into journals, which are replayed.
+fn gathered(random: &mut Random, calls: &[Call]) -> Vec<Call> {
+    let mut follower = Timers::default();
+    let (mut made, mut text) = (Vec::new(), Vec::new());
+    let mut most = random.pick(&[30, 300, 900, 2000]);
+    for call in calls {
+        let refusal = script::call(&mut follower, call).refusal;
+        let frame = given(call).filter(|_| refusal <= 1);
+        if !text.is_empty() && (frame.is_none() || text.len() > most) {
+            made.push(Call::Replay { text: std::mem::take(&mut text) });
+            most = random.pick(&[30, 300, 900, 2000]);
+        }
+        match frame {
+            Some(octets) => text.extend(lines::write(&octets)),
+            None => made.push(call.clone()),
+        }
+    }
+    made.push(Call::Replay { text });
+    made
+}
+
+/// How the journals of a script are shown: short ones often in small pieces, the others in pieces of the largest size
+/// below the text's length that was not used yet; one in ten in a single piece.
+fn showings(random: &mut Random, used: &mut [bool], calls: &[Call]) -> Vec<Showing> {
+    let mut showings = Vec::new();
+    for call in calls {
+        let Call::Replay { text } = call else { continue };
+        let length = text.len();
+        let any = random.between(ANSWER as i64, 6000) as usize;
+        let lent = random.pick(&[ANSWER, ANSWER + 1, 6000, any]);
+        let unused = (1..used.len().min(length)).rev().find(|size| !used[*size]);
+        let piece = match (random.below(10), unused) {
+            (0, _) => length + 1 + random.below(300),
+            (1..=5, _) if length < 300 => 1 + random.below(40),
+            (_, None) => 1 + random.below(length + 1),
+            (_, Some(size)) => {
+                used[size] = true;
+                size
+            }
+        };
+        showings.push(Showing { piece, lent });
+    }
+    showings
+}
+
+/// What both engines see of a script.
+pub fn expected(calls: &[Call]) -> Vec<Outcome> {
+    let outcomes = script::run(&mut Timers::default(), calls);
+    assert_eq!(outcomes, script::run(&mut History::default(), calls), "the engines differ");
+    outcomes
+}
+
+/// What a wrong build sees of it.
+pub fn expected_wrong(calls: &[Call], fault: Fault) -> Vec<Outcome> {
+    script::run(&mut Timers::with_fault(fault), calls)
+}
+
+/// The line that the program writes: of each call the octets written, their number, the refusal's number, and
+/// whether the rest of the output stayed as it was.
+pub fn line(outcomes: &[Outcome]) -> String {
+    let (mut digest, mut total) = (0, 0);
+    for outcome in outcomes {
+        let mut seen = outcome.written.concat();
+        let count = seen.len();
+        seen.extend((count as u32).to_le_bytes());
+        seen.extend([outcome.refusal, outcome.rest_kept as u8]);
+        digest = seen.iter().fold(digest, |value: u64, octet| (value * 257 + *octet as u64 + 1) % PRIME);
+        total += count;
+    }
+    format!("{digest:014x} {} {total}\n", outcomes.len())
+}
+
+/// What the program reads of a script.
+pub fn input(stored: &Stored) -> Vec<u8> {
+    let mut showings = stored.showings.iter();
+    let mut input = Vec::new();
+    for call in &stored.calls {
+        let octets = octets(call);
+        let (first, second) = match call {
+            Call::Start { opcode, .. } => (*opcode as usize, 0),
+            Call::Octets { lent, .. } | Call::Line { lent, .. } => (*lent, 0),
+            Call::Save { lent } | Call::WriteLine { lent, .. } => (*lent, 0),
+            Call::Failover => (IMAGE, 0),
+            Call::Restore { .. } | Call::Adopt(_) => (0, 0),
+            Call::Replay { .. } => {
+                let showing = showings.next().expect("a showing for each replay");
+                (showing.lent, showing.piece)
+            }
+        };
+        assert!(matches!(call, Call::Start { .. }) || first <= MOST_LENT);
+        input.push(tag(call));
+        for number in [first, second, octets.len()] {
+            input.extend(u16::try_from(number).expect("a number of two octets").to_le_bytes());
+        }
+        input.extend(octets);
+    }
+    input.extend([0; 7]);
+    input
+}
+
+/// The names of the calls, in the order of their tags from 1.
+pub const NAMES: [&str; 9] =
+    ["start", "octets", "line", "save", "write a line", "restore", "failover", "replay", "adopt"];
+
+fn tag(call: &Call) -> u8 {
+    match call {
+        Call::Start { .. } => 1,
+        Call::Octets { .. } => 2,
+        Call::Line { .. } => 3,
+        Call::Save { .. } => 4,
+        Call::WriteLine { .. } => 5,
+        Call::Restore { .. } => 6,
+        Call::Failover => 7,
+        Call::Replay { .. } => 8,
+        Call::Adopt(_) => 9,
+    }
+}
+
+/// What occurs in some scripts.
+#[derive(Clone, PartialEq, Eq, Debug, Default)]
+pub struct Census {
+    /// Calls of each kind, in the order of `NAMES`; the save at each script's end is not counted.
+    pub calls: [usize; 9],
+    /// Calls with refusal n, at place n.
+    pub refusals: [usize; 11],
+    /// Sizes of pieces that are smaller than their text.
+    pub sizes: BTreeSet<usize>,
+    /// Journals shown whole.
+    pub whole: usize,
+}
+
+pub fn census(scripts: &[Stored]) -> Census {
+    let mut census = Census::default();
+    for stored in scripts {
+        let mut showings = stored.showings.iter();
+        for call in &stored.calls {
+            census.calls[tag(call) as usize - 1] += 1;
+            if let Call::Replay { text } = call {
+                match showings.next() {
+                    Some(showing) if showing.piece < text.len() => drop(census.sizes.insert(showing.piece)),
+                    _ => census.whole += 1,
+                }
+            }
+        }
+        let outcomes = script::run(&mut Timers::default(), &stored.calls);
+        outcomes.iter().for_each(|outcome| census.refusals[outcome.refusal as usize] += 1);
+    }
+    census
+}
+
+impl Census {
+    /// A line for each count.
+    pub fn text(&self) -> String {
+        let mut text = String::new();
+        for (name, count) in NAMES.iter().zip(self.calls) {
+            text += &format!("{count:>8} {name}\n");
+        }
+        for (number, count) in self.refusals.iter().enumerate() {
+            text += &format!("{count:>8} calls with refusal {number}\n");
+        }
+        text += &format!("{:>8} sizes of pieces below their text's length\n", self.sizes.len());
+        text + &format!("{:>8} journals shown whole\n", self.whole)
+    }
+}
+
+/// The octets that a call gives.
+fn octets(call: &Call) -> Vec<u8> {
+    match call {
+        Call::Start { prefix, .. } => prefix.clone(),
+        Call::Octets { octets, .. } | Call::WriteLine { octets, .. } => octets.clone(),
+        Call::Line { text, .. } | Call::Restore { text } | Call::Replay { text } => text.clone(),
+        Call::Save { .. } | Call::Failover => Vec::new(),
+        Call::Adopt(state) => packed(&block::of(state).expect("states without a block were left out")),
+    }
+}
+
+/// Octets with runs of zeros written short: a 0 and how many they are, 1 to 255.
+fn packed(octets: &[u8]) -> Vec<u8> {
+    let mut packed = Vec::new();
+    let mut zeros = 0;
+    for octet in octets {
+        if zeros > 0 && (*octet != 0 || zeros == 255) {
+            packed.extend([0, zeros]);
+            zeros = 0;
+        }
+        match octet {
+            0 => zeros += 1,
+            _ => packed.push(*octet),
+        }
+    }
+    if zeros > 0 {
+        packed.extend([0, zeros]);
+    }
+    packed
+}
