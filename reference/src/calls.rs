@@ -14,7 +14,6 @@ use crate::limits::{ANSWER, IMAGE};
 use crate::lines;
 use crate::random::Random;
 use crate::script::{self, Call, Outcome};
-use crate::state::State;
 use crate::timers::Timers;
 use std::collections::BTreeSet;
 
@@ -38,7 +37,7 @@ const MOST_LENT: usize = 9800;
 /// The digest is a polynomial's value modulo this prime.
 const PRIME: u64 = (1 << 54) - 33;
 
-/// `count` scripts of a seed that are not too long, and the one made by hand.
+/// `count` scripts of a seed that are not too long.
 pub fn scripts(seed: u64, count: usize) -> Vec<Stored> {
     let mut made: Vec<Stored> = Vec::new();
     let mut sizes = [false; PIECES + 1];
@@ -56,18 +55,7 @@ pub fn scripts(seed: u64, count: usize) -> Vec<Stored> {
             made.push(Stored { calls, showings });
         }
     }
-    made.push(by_hand());
     made
-}
-
-/// Journals on a block that is not sound: refused at the first whole line, and not before there is one.
-fn by_hand() -> Stored {
-    let mut state = State::blank();
-    state.filter = 2;
-    let adopt = Call::Adopt(Box::new(state));
-    let journal = |text: &[u8]| Call::Replay { text: text.to_vec() };
-    let calls = vec![adopt, journal(b"0301000000"), journal(b"0301000000\n0302000000\n"), journal(b"\n")];
-    Stored { calls, showings: vec![Showing { piece: 4, lent: ANSWER }; 3] }
 }
 
 /// Is this script taken for a place? Most are short, a fourth have journals; some restore images or take up
