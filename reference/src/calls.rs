@@ -14,7 +14,7 @@ use crate::limits::{ANSWER, IMAGE};
 use crate::lines;
 use crate::random::Random;
 use crate::script::{self, Call, Outcome};
-use crate::timers::Timers;
+use crate::timers::{self, Timers};
 use std::collections::BTreeSet;
 
 /// A script, and for each of its replays how the text is shown and the output is lent.
@@ -47,6 +47,7 @@ pub fn scripts(seed: u64, count: usize) -> Vec<Stored> {
         let mut calls = generate::script(seed, index);
         index += 1;
         calls.retain(|call| !matches!(call, Call::Adopt(state) if block::of(state).is_none()));
+        calls = calls.into_iter().flat_map(|call| tried(&mut random, call)).collect();
         if made.len() % 4 == 1 {
             calls = gathered(&mut random, &calls);
         }
@@ -69,6 +70,18 @@ fn wanted(place: usize, calls: &[Call]) -> bool {
         n if n % 4 == 1 => (600..1600).contains(&size),
         _ => size < 700,
     }
+}
+
+/// A call; after a state that is not sound also a replay and a failover, which leave it as it is.
+fn tried(random: &mut Random, call: Call) -> Vec<Call> {
+    let Call::Adopt(state) = &call else { return vec![call] };
+    if timers::sound(state, Fault::None) {
+        return vec![call];
+    }
+    let number = state.position.wrapping_add(random.below(2) as u32);
+    let mut text = lines::write(&[&[3], &number.to_le_bytes()[..]].concat());
+    text.truncate(random.pick(&[0, 10, 11, 11, 11]));
+    vec![call, Call::Replay { text }, Call::Failover]
 }
 
 /// The script with frames that are executed or seen gathered into journals, which are replayed.
