@@ -14,8 +14,7 @@ use crate::limits::{ANSWER, IMAGE};
 use crate::lines;
 use crate::random::Random;
 use crate::script::{self, Call, Outcome};
-use crate::state::State;
-use crate::timers::Timers;
+use crate::timers::{self, Timers};
 use std::collections::BTreeSet;
 
 /// A script, and for each of its replays how the text is shown and the output is lent.
@@ -38,7 +37,7 @@ const MOST_LENT: usize = 9800;
 /// The digest is a polynomial's value modulo this prime.
 const PRIME: u64 = (1 << 54) - 33;
 
-/// `count` scripts of a seed that are not too long, and the one made by hand.
+/// `count` scripts of a seed that are not too long.
 pub fn scripts(seed: u64, count: usize) -> Vec<Stored> {
     let mut made: Vec<Stored> = Vec::new();
     let mut sizes = [false; PIECES + 1];
@@ -48,6 +47,7 @@ pub fn scripts(seed: u64, count: usize) -> Vec<Stored> {
         let mut calls = generate::script(seed, index);
         index += 1;
         calls.retain(|call| !matches!(call, Call::Adopt(state) if block::of(state).is_none()));
+        calls = calls.into_iter().flat_map(|call| tried(&mut random, call)).collect();
         if made.len() % 4 == 1 {
             calls = gathered(&mut random, &calls);
         }
@@ -56,18 +56,7 @@ pub fn scripts(seed: u64, count: usize) -> Vec<Stored> {
             made.push(Stored { calls, showings });
         }
     }
-    made.push(by_hand());
     made
-}
-
-/// Journals on a block that is not sound: refused at the first whole line, and not before there is one.
-fn by_hand() -> Stored {
-    let mut state = State::blank();
-    state.filter = 2;
-    let adopt = Call::Adopt(Box::new(state));
-    let journal = |text: &[u8]| Call::Replay { text: text.to_vec() };
-    let calls = vec![adopt, journal(b"0301000000"), journal(b"0301000000\n0302000000\n"), journal(b"\n")];
-    Stored { calls, showings: vec![Showing { piece: 4, lent: ANSWER }; 3] }
 }
 
 /// Is this script taken for a place? Most are short, a fourth have journals; some restore images or take up
@@ -81,6 +70,18 @@ fn wanted(place: usize, calls: &[Call]) -> bool {
         n if n % 4 == 1 => (600..1600).contains(&size),
         _ => size < 700,
     }
+}
+
+/// A call; after a state that is not sound also a replay and a failover, which leave it as it is.
+fn tried(random: &mut Random, call: Call) -> Vec<Call> {
+    let Call::Adopt(state) = &call else { return vec![call] };
+    if timers::sound(state, Fault::None) {
+        return vec![call];
+    }
+    let number = state.position.wrapping_add(random.below(2) as u32);
+    let mut text = lines::write(&[&[3], &number.to_le_bytes()[..]].concat());
+    text.truncate(random.pick(&[0, 10, 11, 11, 11]));
+    vec![call, Call::Replay { text }, Call::Failover]
 }
 
 /// The script with frames that are executed or seen gathered into journals, which are replayed.

@@ -10,7 +10,7 @@ const USAGE: &str = "\
 reference replay IMAGE JOURNAL      what document 01 says the program writes (engine with stored timers)
 reference replay IMAGE JOURNAL N    the same with wrong build N switched on (docs/RELIABILITY.md)
 reference history IMAGE JOURNAL     the same by the history rule
-reference calls DIR SEED COUNT      writes DIR/stdin and DIR/stdout: COUNT scripts and one more for crates/calls_run
+reference calls DIR SEED COUNT      writes DIR/stdin and DIR/stdout: COUNT scripts for crates/calls_run
 reference calls DIR SEED COUNT N    the same scripts, and what wrong build N gives
 reference cases DIR SEED COUNT      writes COUNT cases: DIR/N.image, N.journal, N.expected
 reference vectors KIND SEED COUNT   COUNT vectors, KIND: lines frames conditions commands images means
