@@ -17,7 +17,7 @@ fn hold(block: &mut [u8; 4761], state: State) {
 }
 
 // Starts with settings.
-pub fn start(block: &mut [u8; 4761], opcode: u16, prefix: &[u8], t: Tally) -> Tally {
+pub(super) fn start(block: &mut [u8; 4761], opcode: u16, prefix: &[u8], t: Tally) -> Tally {
     let begun = State::fresh(opcode, prefix);
     let answer = begun.answer;
     let state = begun.state;
@@ -29,28 +29,28 @@ pub fn start(block: &mut [u8; 4761], opcode: u16, prefix: &[u8], t: Tally) -> Ta
 }
 
 // Gives a frame as octets.
-pub fn submit(block: &mut [u8; 4761], frame: &[u8], out: &mut [u8], t: Tally) -> Tally {
+pub(super) fn submit(block: &mut [u8; 4761], frame: &[u8], out: &mut [u8], t: Tally) -> Tally {
     seen::mark(out);
     let r = engine::submit(block, frame, out);
     seen::answered(t, out, r)
 }
 
 // Gives a frame as its line.
-pub fn submit_line(block: &mut [u8; 4761], text: &[u8], out: &mut [u8], t: Tally) -> Tally {
+pub(super) fn submit_line(block: &mut [u8; 4761], text: &[u8], out: &mut [u8], t: Tally) -> Tally {
     seen::mark(out);
     let r = engine::submit_line(block, text, out);
     seen::answered(t, out, r)
 }
 
 // Saves an image.
-pub fn save(block: &[u8; 4761], out: &mut [u8], t: Tally) -> Tally {
+pub(super) fn save(block: &[u8; 4761], out: &mut [u8], t: Tally) -> Tally {
     seen::mark(out);
     let r = engine::save(block, out);
     seen::answered(t, out, r)
 }
 
 // Writes the line of a frame's octets.
-pub fn write_line(frame: &[u8], out: &mut [u8], t: Tally) -> Tally {
+pub(super) fn write_line(frame: &[u8], out: &mut [u8], t: Tally) -> Tally {
     seen::mark(out);
     let r = lines::write_line(frame, out);
     seen::answered(t, out, r)
@@ -69,7 +69,7 @@ fn load(block: &mut [u8; 4761], text: &[u8]) -> u8 {
 }
 
 // Restores an image.
-pub fn restore(block: &mut [u8; 4761], text: &[u8], t: Tally) -> Tally {
+pub(super) fn restore(block: &mut [u8; 4761], text: &[u8], t: Tally) -> Tally {
     seen::bare(t, load(block, text))
 }
 
@@ -82,7 +82,7 @@ fn restore_saved(block: &mut [u8; 4761], out: &[u8], n: usize, t: Tally) -> Tall
 }
 
 // Saves an image and restores it.
-pub fn fail_over(block: &mut [u8; 4761], out: &mut [u8], t: Tally) -> Tally {
+pub(super) fn fail_over(block: &mut [u8; 4761], out: &mut [u8], t: Tally) -> Tally {
     seen::mark(out);
     let r = engine::save(block, out);
     match r {
@@ -138,7 +138,7 @@ fn unpack(block: &mut [u8; 4761], packed: &[u8]) {
 }
 
 // Takes up a block, whatever its octets.
-pub fn adopt(block: &mut [u8; 4761], packed: &[u8], t: Tally) -> Tally {
+pub(super) fn adopt(block: &mut [u8; 4761], packed: &[u8], t: Tally) -> Tally {
     parts::fill(block, 0, SIZE, 0);
     unpack(block, packed);
     seen::bare(t, 0)

@@ -70,7 +70,7 @@ fn untouched(s: &[u8]) -> bool {
 }
 
 // Nothing seen yet of a script.
-pub fn begin() -> Tally {
+pub(super) fn begin() -> Tally {
     Tally {
         digest: 0,
         calls: 0,
@@ -80,7 +80,7 @@ pub fn begin() -> Tally {
 }
 
 // There is no more to read.
-pub fn end() -> Tally {
+pub(super) fn end() -> Tally {
     Tally {
         digest: 0,
         calls: 0,
@@ -90,13 +90,13 @@ pub fn end() -> Tally {
 }
 
 // Makes an output ready for a call.
-pub fn mark(out: &mut [u8]) {
+pub(super) fn mark(out: &mut [u8]) {
     let n = out.len();
     parts::fill(out, 0, n, BEFORE);
 }
 
 // Nothing seen yet of a call.
-pub fn opened(t: Tally) -> Written {
+pub(super) fn opened(t: Tally) -> Written {
     Written {
         digest: t.digest,
         count: 0,
@@ -105,7 +105,7 @@ pub fn opened(t: Tally) -> Written {
 }
 
 // The first n octets of an output were written. More than the output has are seen as a rest that did not stay.
-pub fn took(w: Written, out: &[u8], n: usize) -> Written {
+pub(super) fn took(w: Written, out: &[u8], n: usize) -> Written {
     if out.len() < n {
         return Written {
             digest: w.digest,
@@ -121,7 +121,7 @@ pub fn took(w: Written, out: &[u8], n: usize) -> Written {
 }
 
 // A call is over, with the number of its refusal, 0 for none.
-pub fn closed(t: Tally, w: Written, refusal: u8) -> Tally {
+pub(super) fn closed(t: Tally, w: Written, refusal: u8) -> Tally {
     let d = mix(number(w.digest, w.count), wide(refusal));
     let kept = if w.kept { 1u64 } else { 0u64 };
     Tally {
@@ -133,12 +133,12 @@ pub fn closed(t: Tally, w: Written, refusal: u8) -> Tally {
 }
 
 // A call that is lent nothing.
-pub fn bare(t: Tally, refusal: u8) -> Tally {
+pub(super) fn bare(t: Tally, refusal: u8) -> Tally {
     closed(t, opened(t), refusal)
 }
 
 // A call that is lent an output, and what it answered.
-pub fn answered(t: Tally, out: &[u8], r: Wrote) -> Tally {
+pub(super) fn answered(t: Tally, out: &[u8], r: Wrote) -> Tally {
     match r {
         Wrote::Done(n) => closed(t, took(opened(t), out, n), 0),
         Wrote::Refused(x) => closed(t, took(opened(t), out, 0), lines::number_of(x)),
