@@ -93,18 +93,18 @@ def as_calls(image, journal, places):
     return restored(image, places) + b"".join(call(SUBMIT, places, ANSWER, b"\1" + counted(frame)) for frame in frames)
 
 
-def full(pattern, sampling, packets):
-    """The largest image there is: 16 monitors with a condition of 64 octets, 64 pairs with 31 octets of data."""
+def full(pattern, sampling, packets, pairs):
+    """16 monitors with conditions of 64 octets and so many pairs. With 64, and packets, the largest image there is."""
     condition = bytes([1, len(pattern) + 2, 0xFF, 0]) + pattern
     records = [bytes([0xA0]) + number(1000, 4) + b"\1\x1e\xfc" + counted(bytes(range(32)), 1)]
     for handle in range(16):
         records.append(bytes([0xA1, handle, 0xC4, 0xB0, 60, sampling, 1]) + counted(condition, 1))
-    for pair in range(64):
+    for pair in range(pairs):
         device = bytes([pair % 16, pair // 16 % 2, pair, 2, 3, 4, 5, 6])
         window = number(packets, 4) + (-60 * packets).to_bytes(8, "little", signed=True)
         data = counted(bytes([30, 0xFF]) + pattern[:29], 1) if packets else b"\0"
         records.append(b"\xa2" + device + number(599) + number(sampling - 1, 1) + window + b"\0" + data)
-    records.append(b"\xaf" + bytes([16, 64]))
+    records.append(b"\xaf" + bytes([16, pairs]))
     return text_of(records)
 
 
@@ -144,9 +144,9 @@ def inputs():
     for i, (image, journal) in enumerate([noon, watched()] + list(sessions())):
         made = [form(image, journal, 31 * ((i + j) % 2)) for j, form in enumerate((as_texts, as_frames, as_calls))]
         yield from (one for one in made if len(one) <= LONGEST)
-    for packets in (0, 9):
+    for packets, pairs in (0, 64), (9, 64), (0, 65):
         journal = b"03E9030000\n03EA030000\n"
-        image = full(bytes(range(60)), 2, packets)
+        image = full(bytes(range(60)), 2, packets, pairs)
         yield as_texts(image, journal, 31)
         yield as_frames(image, journal, 0)
     yield from singles()
