@@ -1,0 +1,85 @@
+-- Demand 3 as firmware sees it through the library for C: what the calls' contracts say of the octets lent and left and of the numbers
+-- returned, call after call. Document 01, Sessions and failover. `delivered` is the claim over the definitions; here a session is what was
+-- seen of it, so that no step from the contracts to the claim is left to a reader. Assumes nothing.
+use Prim.Native.Nat.{ℕ, zero, suc, _+_, _≤_, _<_}
+use mathlib.Core.Path.{_≡_}
+use mathlib.Core.List.{List, [], _∷_, _++_, map, flatten}
+use lib.ListN.{length, take}
+use Rattle.laws.specs.Put.{put}
+use Rattle.laws.specs.Tests.{pick}
+use Rattle.laws.specs.Rows.{flat}
+use Rattle.sessions.specs.Machine.{Form}
+use Rattle.sessions.specs.Session.{Call, give, save, answer, image, since}
+use Rattle.model.specs.Image.{isImage}
+use Rattle.model.specs.Engine.{engine}
+use Rattle.replays.specs.Into.{replayInto}
+use Rattle.engine.specs.Public.{blockIn}
+use Rattle.bournejade.specs.Gives.{Gave, Replayed}
+use Rattle.delivery.specs.Given.{lineGiven}
+
+-- What firmware saw of one call: of a frame its form and octets, the output before, the block and the output after, the count and the
+-- number; of a save the output before and after, the count and the number.
+pub data Step : Type 0 where
+  gave : Form → List ℕ → List ℕ → List ℕ → List ℕ → ℕ → ℕ → Step
+  saved : List ℕ → List ℕ → ℕ → ℕ → Step
+
+-- the call of document 01 that it is
+unfoldable pub callOf : Step → Call
+callOf (gave w raw out t left n r) = give (length out) w raw
+callOf (saved out left n r) = save (length out)
+
+-- the block after it
+unfoldable pub blockAfter : List ℕ → Step → List ℕ
+blockAfter s (gave w raw out t left n r) = t
+blockAfter s (saved out left n r) = s
+
+-- what its contract says of it (`bournejade_submit`, `bournejade_submit_line`, `bournejade_save`)
+abbrev pub Kept : List ℕ → Step → Type 0
+Kept s (gave w raw out t left n r) = Gave (answer engine (length out) s w raw) s out t left n r
+Kept s (saved out left n r) = Gave (image engine (length out) s) s out s left n r
+
+-- calls one after another, each on the block that the one before left, from s to u
+abbrev pub Seen : List ℕ → List Step → List ℕ → Type 0
+Seen s [] u = s ≡ u
+Seen s (x ∷ xs) u = Kept s x × Seen (blockAfter s x) xs u
+
+-- What firmware keeps of an executed frame: its line, for the journal, and its answer.
+pub record Heard : Type 0 where
+  pub line : List ℕ
+  pub answer : List ℕ
+
+-- what it keeps of a call: where a frame returned 0, the line given or written of its octets, and the octets at the output's front, as many
+-- as were told
+unfoldable pub heard : Step → List Heard
+heard (gave w raw out t left n zero) = record { line = lineGiven w raw; answer = take n left } ∷ []
+heard (gave w raw out t left n (suc r)) = []
+heard (saved out left n r) = []
+
+unfoldable pub heardIn : List Step → List Heard
+heardIn [] = []
+heardIn (x ∷ xs) = heard x ++ heardIn xs
+
+-- the journal that it kept, from frame j on
+unfoldable pub keptFrom : ℕ → List Heard → List ℕ
+keptFrom j hs = flatten (since j (map (λ (h : Heard). h .line) hs))
+
+-- the answers' octets, one after another
+unfoldable pub answersOf : List Heard → List ℕ
+answersOf hs = flat (map (λ (h : Heard). h .answer) hs)
+
+-- A session of the library in which an image was saved: what was kept before it, the block then, what was kept after it, the block at the
+-- end. A standby that is given the image and the journal kept from frame j on:
+--   restored: restoring returns 0 and leaves the block as it was at the save.
+--   goes-on: for j from 1 to k + 1, k frames being executed before the save, replay into one output, unless it returns 3 (the output has to
+--     be emptied), returns 0, leaves the block of the unbroken run and writes exactly the answers given after the save.
+--   gapped: for a later j, n at most, it returns 2 and leaves the block and the output as they were.
+pub record TakenOver (before later : List Heard) (at end img : List ℕ) : Type 0 where
+  pub restored : (b : List ℕ) (r : ℕ) → r ≡ pick (isImage img) 0 10 → b ≡ blockIn (isImage img) img → (r ≡ 0) × (b ≡ at)
+  pub goes-on :
+      (j : ℕ) → 1 ≤ j → j ≤ length before + 1 → (out b left : List ℕ) (m n r : ℕ)
+      → Replayed (replayInto engine (length out) at (keptFrom j (before ++ later))) out b left m n r → (r ≡ 3 → ⊥)
+      → (r ≡ 0) × (b ≡ end) × (left ≡ put out 0 (answersOf later)) × (n ≡ length (answersOf later))
+  pub gapped :
+      (j : ℕ) → length before + 1 < j → j ≤ length before + length later → (out b left : List ℕ) (m n r : ℕ)
+      → Replayed (replayInto engine (length out) at (keptFrom j (before ++ later))) out b left m n r → (r ≡ 3 → ⊥)
+      → (r ≡ 2) × (b ≡ at) × (left ≡ out) × (n ≡ 0)
