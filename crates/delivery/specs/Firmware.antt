@@ -3,13 +3,15 @@
 -- seen of it, so that no step from the contracts to the claim is left to a reader. Assumes nothing.
 use Prim.Native.Nat.{ℕ, zero, suc, _+_, _≤_, _<_}
 use mathlib.Core.Path.{_≡_}
+use mathlib.Core.Logic.{_⊎_}
 use mathlib.Core.List.{List, [], _∷_, _++_, map, flatten}
-use lib.ListN.{length, take}
+use lib.ListN.{length, take, drop}
 use Rattle.laws.specs.Put.{put}
 use Rattle.laws.specs.Tests.{pick}
 use Rattle.laws.specs.Rows.{flat}
 use Rattle.sessions.specs.Machine.{Form}
 use Rattle.sessions.specs.Session.{Call, give, save, answer, image, since}
+use Rattle.sessions.specs.Saved.{cut}
 use Rattle.model.specs.Image.{isImage}
 use Rattle.model.specs.Engine.{engine}
 use Rattle.replays.specs.Into.{replayInto}
@@ -67,18 +69,49 @@ keptFrom j hs = flatten (since j (map (λ (h : Heard). h .line) hs))
 unfoldable pub answersOf : List Heard → List ℕ
 answersOf hs = flat (map (λ (h : Heard). h .answer) hs)
 
+-- What firmware saw of one call of replay: the part of the journal that it showed, the output before, the block and the output after, how far
+-- was read, how much was written, the number.
+pub record Turn : Type 0 where
+  pub shown : List ℕ
+  pub out : List ℕ
+  pub block : List ℕ
+  pub left : List ℕ
+  pub taken : ℕ
+  pub count : ℕ
+  pub number : ℕ
+
+-- calls of replay one after another, from the block s with the text t unread to the block u with v unread: each was shown a part of what was
+-- unread, as long as firmware liked, with an output of its own, kept its contract (`bournejade_replay`) and returned 0 or 3
+abbrev pub Turns : List ℕ → List ℕ → List Turn → List ℕ → List ℕ → Type 0
+Turns s t [] u v = (s ≡ u) × (t ≡ v)
+Turns s t (x ∷ xs) u v =
+    ((hidden : List ℕ) × (t ≡ x .shown ++ hidden))
+    × Replayed (replayInto engine (length (x .out)) s (x .shown)) (x .out) (x .block) (x .left) (x .taken) (x .count) (x .number)
+    × ((x .number ≡ 0) ⊎ (x .number ≡ 3))
+    × Turns (x .block) (drop (x .taken) t) xs u v
+
+-- the octets that they wrote, one behind another
+unfoldable pub writtenIn : List Turn → List ℕ
+writtenIn [] = []
+writtenIn (x ∷ xs) = take (x .count) (x .left) ++ writtenIn xs
+
 -- A session of the library in which an image was saved: what was kept before it, the block then, what was kept after it, the block at the
 -- end. A standby that is given the image and the journal kept from frame j on:
 --   restored: restoring returns 0 and leaves the block as it was at the save.
 --   goes-on: for j from 1 to k + 1, k frames being executed before the save, replay into one output, unless it returns 3 (the output has to
 --     be emptied), returns 0, leaves the block of the unbroken run and writes exactly the answers given after the save.
---   gapped: for a later j, n at most, it returns 2 and leaves the block and the output as they were.
+--   in-turns: the same of any number of calls that return 0 or 3, however the journal is cut and the outputs are lent, once no whole line is
+--     left unread: the block of the unbroken run, and exactly the answers given after the save, once each.
+--   gapped: for a later j, n at most, replay returns 2 and leaves the block and the output as they were.
 pub record TakenOver (before later : List Heard) (at end img : List ℕ) : Type 0 where
   pub restored : (b : List ℕ) (r : ℕ) → r ≡ pick (isImage img) 0 10 → b ≡ blockIn (isImage img) img → (r ≡ 0) × (b ≡ at)
   pub goes-on :
       (j : ℕ) → 1 ≤ j → j ≤ length before + 1 → (out b left : List ℕ) (m n r : ℕ)
       → Replayed (replayInto engine (length out) at (keptFrom j (before ++ later))) out b left m n r → (r ≡ 3 → ⊥)
       → (r ≡ 0) × (b ≡ end) × (left ≡ put out 0 (answersOf later)) × (n ≡ length (answersOf later))
+  pub in-turns :
+      (j : ℕ) → 1 ≤ j → j ≤ length before + 1 → (xs : List Turn) (b rest : List ℕ) → Turns at (keptFrom j (before ++ later)) xs b rest
+      → cut rest ≡ [] → (b ≡ end) × (writtenIn xs ≡ answersOf later)
   pub gapped :
       (j : ℕ) → length before + 1 < j → j ≤ length before + length later → (out b left : List ℕ) (m n r : ℕ)
       → Replayed (replayInto engine (length out) at (keptFrom j (before ++ later))) out b left m n r → (r ≡ 3 → ⊥)

@@ -4,17 +4,17 @@ use Prim.Native.Nat.{ℕ, zero, suc, _+_, _≤_}
 use mathlib.Core.Path.{_≡_, refl, sym, ap, _∙_, subst}
 use mathlib.Core.Bool.{Bool, true, false, not, false≢true}
 use mathlib.Core.Option.{Option, none, some}
-use mathlib.Core.List.{List, [], _∷_, _++_, map, flatten}
+use mathlib.Core.List.{List, [], _∷_, _++_, map, flatten, append-nil}
 use native.Mathlib.Omega.{arith}
 use lib.Dec.{ltb}
 use lib.ListN.{length, take, drop, length-map, length-append}
-use Rattle.laws.specs.Put.{put, put-nil, take-put}
+use Rattle.laws.specs.Put.{put, put-nil}
 use Rattle.laws.specs.Tests.{pick}
 use Rattle.laws.specs.Rows.{flat}
 use Rattle.lines.specs.Numbers.{number}
 use Rattle.sessions.specs.Machine.{Form, Line, Outcome, refused, done, answerRoom, saveRoom}
 use Rattle.sessions.specs.Session.{Call, save, Entry, entries, refuseIf, written, judge, answer, image, reply, after, ran, since, linesOf, walk, trace, executed, answers, journal}
-use Rattle.sessions.specs.Saved.{SavedAfter, frames}
+use Rattle.sessions.specs.Saved.{Replayed as Whole, SavedAfter, Failover, frames, cut}
 use Rattle.sessions.specs.Runs.{walk-append, trace-append}
 use Rattle.model.specs.Frames.{Body, read, write}
 use Rattle.model.specs.Image.{imageText}
@@ -25,13 +25,12 @@ use Rattle.replays.specs.Into.{Reached, replayInto}
 use Rattle.engine.specs.Calls.{caseOf}
 use Rattle.bournejade.specs.Numbered.{isNumber, known, known-answer}
 use Rattle.bournejade.specs.Gives.{numberOf, stopIn, Gave, Replayed}
+use Rattle.failover.specs.Proof.{demand3}
 use Rattle.delivery.specs.Given.{lineGiven, line-given}
 use Rattle.delivery.specs.Delivery.{Ended, Delivered, delivered}
-use Rattle.delivery.specs.Firmware.{Step, gave, saved, callOf, blockAfter, Kept, Seen, Heard, heard, heardIn, keptFrom, answersOf, TakenOver}
-
--- octets written at an output's front and read back
-front : (out l left : List ℕ) (n : ℕ) → n ≡ length l → left ≡ put out 0 l → take n left ≡ l
-front out l left n e f = ap (λ (x : List ℕ). take n x) f ∙ ap (λ (k : ℕ). take k (put out 0 l)) e ∙ take-put out 0 l (omega arith)
+use Rattle.delivery.specs.Firmware.{Step, gave, saved, callOf, blockAfter, Kept, Seen, Heard, heard, heardIn, keptFrom, answersOf, Turn, Turns, writtenIn, TakenOver}
+use Rattle.delivery.specs.Turns.{Then, whole, enough}
+use Rattle.delivery.specs.Shown.{front, seen-turns, nothing-left}
 
 -- a call's block is that of the definitions
 step-after : (s : List ℕ) (x : Step) → Kept s x → blockAfter s x ≡ after engine s (callOf x)
@@ -238,6 +237,18 @@ replay-kept : (at out b left t u : List ℕ) (m n r : ℕ) → t ≡ u → Repla
     → Replayed (replayInto engine (length out) at u) out b left m n r
 replay-kept at out b left t u m n r e p = subst (λ (x : List ℕ). Replayed (replayInto engine (length out) at x) out b left m n r) e p
 
+-- turns until no whole line is left: the replay of the whole
+all-turns : (at t : List ℕ) (state : List ℕ) (said : List (List ℕ)) → whole engine at t ≡ record { state = state; answers = said; stop = none }
+    → (xs : List Turn) (b rest : List ℕ) → Turns at t xs b rest → cut rest ≡ [] → (b ≡ state) × (writtenIn xs ≡ flat said)
+unfolding flat
+all-turns at t state said y xs b rest k e =
+    let w : Then engine (whole engine at t) (writtenIn xs) (whole engine b rest) = seen-turns at t xs b rest k in
+    let z : whole engine b rest ≡ record { state = b; answers = []; stop = none } = nothing-left b rest e in (
+      sym (ap (λ (v : Whole (List ℕ)). v .state) z) ∙ sym (w .state) ∙ ap (λ (v : Whole (List ℕ)). v .state) y,
+      sym (append-nil (writtenIn xs)) ∙ ap (λ (v : Whole (List ℕ)). writtenIn xs ++ flat (v .answers)) (sym z) ∙ sym (w .wrote-is)
+          ∙ ap (λ (v : Whole (List ℕ)). flat (v .answers)) y,
+    )
+
 from-fresh : (opcode : ℕ) (prefix : List ℕ) → soundSettings opcode prefix ≡ true → (before later : List Step) (out left at end : List ℕ) (n : ℕ)
     → Seen (begin opcode prefix) before at → Gave (image engine (length out) at) at out at left n 0 → Seen at later end
     → TakenOver (heardIn before) (heardIn later) at end (take n left)
@@ -247,14 +258,19 @@ from-fresh opcode prefix ok before later out left at end n b g l =
     let img : List ℕ = take n left in
     let k : ℕ = length (heardIn before) in
     let calls : List Call = sessionOf before (length out) later in
+    let f : Failover engine fresh calls k img at = demand3 opcode prefix ok calls .images k img at (image-there fresh before later out left at end n b g l) in
     let d : Delivered fresh calls k img at = delivered opcode prefix ok calls k img at (image-there fresh before later out left at end n b g l) in
     record {
-      restored = λ c r e f. (e ∙ ap (λ (t : Bool). pick t 0 10) (d .accepted), f ∙ d .loaded);
+      restored = λ c r e q. (e ∙ ap (λ (t : Bool). pick t 0 10) (d .accepted), q ∙ d .loaded);
       goes-on = λ j h i o c o′ m m′ r p q.
           let w = replay-kept at o c o′ _ _ m m′ r (journal-kept fresh before later out left at end n b g l j) p in
           let z = ended-seen _ _ _ _ o c o′ m m′ r (d .goes-on j h i (length o) (not-full _ o c o′ m m′ r w q)) w in
           let y = behind fresh before later out left at end n b g l in
           (z .0, z .1 ∙ ends fresh before later out left at end n b g l, z .2 ∙ ap (λ (x : List ℕ). put o 0 x) y, z .3 ∙ ap (λ (x : List ℕ). length x) y);
+      in-turns = λ j h i xs c v t e.
+          let y = ap (λ (x : List ℕ). whole engine at x) (journal-kept fresh before later out left at end n b g l j) ∙ f .goes-on j h i (λ i. 2880) enough in
+          let z = all-turns at _ _ _ y xs c v t e in
+          (z .0 ∙ ends fresh before later out left at end n b g l, z .1 ∙ behind fresh before later out left at end n b g l);
       gapped = λ j h i o c o′ m m′ r p q.
           let w = replay-kept at o c o′ _ _ m m′ r (journal-kept fresh before later out left at end n b g l j) p in
           let a : j ≤ frames engine fresh calls = subst (λ (x : ℕ). j ≤ x) (sym (number-all fresh before later out left at end n b g l)) i in
