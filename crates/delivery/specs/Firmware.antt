@@ -81,14 +81,18 @@ pub record Turn : Type 0 where
   pub number : ℕ
 
 -- calls of replay one after another, from the block s with the text t unread to the block u with v unread: each was shown a part of what was
--- unread, as long as firmware liked, with an output of its own, kept its contract (`bournejade_replay`) and returned 0 or 3
+-- unread, as long as firmware liked, with an output of its own, and kept its contract (`bournejade_replay`)
 abbrev pub Turns : List ℕ → List ℕ → List Turn → List ℕ → List ℕ → Type 0
 Turns s t [] u v = (s ≡ u) × (t ≡ v)
 Turns s t (x ∷ xs) u v =
     ((hidden : List ℕ) × (t ≡ x .shown ++ hidden))
     × Replayed (replayInto engine (length (x .out)) s (x .shown)) (x .out) (x .block) (x .left) (x .taken) (x .count) (x .number)
-    × ((x .number ≡ 0) ⊎ (x .number ≡ 3))
     × Turns (x .block) (drop (x .taken) t) xs u v
+
+-- each of them returned 0 or 3
+abbrev pub Go : List Turn → Type 0
+Go [] = Unit {0}
+Go (x ∷ xs) = ((x .number ≡ 0) ⊎ (x .number ≡ 3)) × Go xs
 
 -- the octets that they wrote, one behind another
 unfoldable pub writtenIn : List Turn → List ℕ
@@ -100,8 +104,8 @@ writtenIn (x ∷ xs) = take (x .count) (x .left) ++ writtenIn xs
 --   restored: restoring returns 0 and leaves the block as it was at the save.
 --   goes-on: for j from 1 to k + 1, k frames being executed before the save, replay into one output, unless it returns 3 (the output has to
 --     be emptied), returns 0, leaves the block of the unbroken run and writes exactly the answers given after the save.
---   in-turns: the same of any number of calls that return 0 or 3, however the journal is cut and the outputs are lent, once no whole line is
---     left unread: the block of the unbroken run, and exactly the answers given after the save, once each.
+--   in-turns: however the journal is cut and the outputs are lent, every call returns 0 or 3; once no whole line is left unread the block is
+--     that of the unbroken run, and what was written is exactly the answers given after the save, once each.
 --   gapped: for a later j, n at most, replay returns 2 and leaves the block and the output as they were.
 pub record TakenOver (before later : List Heard) (at end img : List ℕ) : Type 0 where
   pub restored : (b : List ℕ) (r : ℕ) → r ≡ pick (isImage img) 0 10 → b ≡ blockIn (isImage img) img → (r ≡ 0) × (b ≡ at)
@@ -111,7 +115,7 @@ pub record TakenOver (before later : List Heard) (at end img : List ℕ) : Type 
       → (r ≡ 0) × (b ≡ end) × (left ≡ put out 0 (answersOf later)) × (n ≡ length (answersOf later))
   pub in-turns :
       (j : ℕ) → 1 ≤ j → j ≤ length before + 1 → (xs : List Turn) (b rest : List ℕ) → Turns at (keptFrom j (before ++ later)) xs b rest
-      → cut rest ≡ [] → (b ≡ end) × (writtenIn xs ≡ answersOf later)
+      → Go xs × (cut rest ≡ [] → (b ≡ end) × (writtenIn xs ≡ answersOf later))
   pub gapped :
       (j : ℕ) → length before + 1 < j → j ≤ length before + length later → (out b left : List ℕ) (m n r : ℕ)
       → Replayed (replayInto engine (length out) at (keptFrom j (before ++ later))) out b left m n r → (r ≡ 3 → ⊥)

@@ -28,7 +28,7 @@ use Rattle.bournejade.specs.Gives.{numberOf, stopIn, Gave, Replayed}
 use Rattle.failover.specs.Proof.{demand3}
 use Rattle.delivery.specs.Given.{lineGiven, line-given}
 use Rattle.delivery.specs.Delivery.{Ended, Delivered, delivered}
-use Rattle.delivery.specs.Firmware.{Step, gave, saved, callOf, blockAfter, Kept, Seen, Heard, heard, heardIn, keptFrom, answersOf, Turn, Turns, writtenIn, TakenOver}
+use Rattle.delivery.specs.Firmware.{Step, gave, saved, callOf, blockAfter, Kept, Seen, Heard, heard, heardIn, keptFrom, answersOf, Turn, Turns, Go, writtenIn, TakenOver}
 use Rattle.delivery.specs.Turns.{Then, whole, enough}
 use Rattle.delivery.specs.Shown.{front, seen-turns, nothing-left}
 
@@ -239,11 +239,16 @@ replay-kept at out b left t u m n r e p = subst (λ (x : List ℕ). Replayed (re
 
 -- turns until no whole line is left: the replay of the whole
 all-turns : (at t : List ℕ) (state : List ℕ) (said : List (List ℕ)) → whole engine at t ≡ record { state = state; answers = said; stop = none }
-    → (xs : List Turn) (b rest : List ℕ) → Turns at t xs b rest → cut rest ≡ [] → (b ≡ state) × (writtenIn xs ≡ flat said)
+    → (xs : List Turn) (b rest : List ℕ) → Turns at t xs b rest
+    → Go xs × (cut rest ≡ [] → (b ≡ state) × (writtenIn xs ≡ flat said))
 unfolding flat
-all-turns at t state said y xs b rest k e =
-    let w : Then engine (whole engine at t) (writtenIn xs) (whole engine b rest) = seen-turns at t xs b rest k in
-    let z : whole engine b rest ≡ record { state = b; answers = []; stop = none } = nothing-left b rest e in (
+all-turns at t state said y xs b rest k =
+    let w = seen-turns at t xs b rest k (ap (λ (v : Whole (List ℕ)). v .stop) y) in
+    (w .0, λ e. done-all (w .1) (nothing-left b rest e))
+  where
+    done-all : Then engine (whole engine at t) (writtenIn xs) (whole engine b rest) → whole engine b rest ≡ record { state = b; answers = []; stop = none }
+        → (b ≡ state) × (writtenIn xs ≡ flat said)
+    done-all w z = (
       sym (ap (λ (v : Whole (List ℕ)). v .state) z) ∙ sym (w .state) ∙ ap (λ (v : Whole (List ℕ)). v .state) y,
       sym (append-nil (writtenIn xs)) ∙ ap (λ (v : Whole (List ℕ)). writtenIn xs ++ flat (v .answers)) (sym z) ∙ sym (w .wrote-is)
           ∙ ap (λ (v : Whole (List ℕ)). flat (v .answers)) y,
@@ -267,10 +272,10 @@ from-fresh opcode prefix ok before later out left at end n b g l =
           let z = ended-seen _ _ _ _ o c o′ m m′ r (d .goes-on j h i (length o) (not-full _ o c o′ m m′ r w q)) w in
           let y = behind fresh before later out left at end n b g l in
           (z .0, z .1 ∙ ends fresh before later out left at end n b g l, z .2 ∙ ap (λ (x : List ℕ). put o 0 x) y, z .3 ∙ ap (λ (x : List ℕ). length x) y);
-      in-turns = λ j h i xs c v t e.
+      in-turns = λ j h i xs c v t.
           let y = ap (λ (x : List ℕ). whole engine at x) (journal-kept fresh before later out left at end n b g l j) ∙ f .goes-on j h i (λ i. 2880) enough in
-          let z = all-turns at _ _ _ y xs c v t e in
-          (z .0 ∙ ends fresh before later out left at end n b g l, z .1 ∙ behind fresh before later out left at end n b g l);
+          let z = all-turns at _ _ _ y xs c v t in
+          (z .0, λ e. (z .1 e .0 ∙ ends fresh before later out left at end n b g l, z .1 e .1 ∙ behind fresh before later out left at end n b g l));
       gapped = λ j h i o c o′ m m′ r p q.
           let w = replay-kept at o c o′ _ _ m m′ r (journal-kept fresh before later out left at end n b g l j) p in
           let a : j ≤ frames engine fresh calls = subst (λ (x : ℕ). j ≤ x) (sym (number-all fresh before later out left at end n b g l)) i in

@@ -2,43 +2,29 @@
 -- Refusal numbers, Sessions and failover. Assumes nothing.
 use Prim.Native.Nat.{ℕ}
 use mathlib.Core.Path.{_≡_, refl, sym, ap, _∙_}
-use mathlib.Core.Bool.{Bool, true, false, false≢true}
 use mathlib.Core.Logic.{_⊎_, inl, inr}
 use mathlib.Core.Option.{Option, none, some}
 use mathlib.Core.List.{List, [], _∷_, _++_, append-assoc}
 use native.Mathlib.Omega.{arith}
 use lib.ListN.{length, take, drop}
 use Rattle.laws.specs.Put.{put, take-put}
-use Rattle.laws.specs.Tests.{pick}
 use Rattle.laws.specs.Rows.{flat}
-use Rattle.lines.specs.Numbers.{number}
 use Rattle.sessions.specs.Saved.{Replayed as Whole, replay, replayLines, cut}
 use Rattle.model.specs.Engine.{engine}
 use Rattle.replays.specs.Into.{Reached, replayInto}
-use Rattle.engine.specs.Calls.{caseOf}
-use Rattle.bournejade.specs.Numbered.{isNumber, knownStop, known-replay}
 use Rattle.bournejade.specs.Gives.{stopIn, Replayed}
-use Rattle.delivery.specs.Turns.{Then, whole, one-turn}
-use Rattle.delivery.specs.Firmware.{Turn, Turns, writtenIn}
+use Rattle.delivery.specs.Turns.{Then, whole, one-turn, turn-goes}
+use Rattle.delivery.specs.Firmware.{Turn, Turns, Go, writtenIn}
 
 -- octets written at an output's front and read back
 pub front : (out l left : List ℕ) (n : ℕ) → n ≡ length l → left ≡ put out 0 l → take n left ≡ l
 front out l left n e f = ap (λ (x : List ℕ). take n x) f ∙ ap (λ (k : ℕ). take k (put out 0 l)) e ∙ take-put out 0 l (omega arith)
 
--- what the numbers 0 and 3 tell
-stop-none : (o : Option ℕ) → knownStop o ≡ true → stopIn o ≡ 0 → o ≡ none
-unfolding knownStop stopIn isNumber caseOf number pick
-stop-none none e q = refl
-stop-none (some n) e q = absurd (false≢true (sym (ap isNumber q) ∙ e))
-
-stop-full : (o : Option ℕ) → stopIn o ≡ 3 → o ≡ some 3
+-- the numbers of a call that was not stopped but for want of room
+told : (o : Option ℕ) (r : ℕ) → r ≡ stopIn o → (o ≡ none) ⊎ (o ≡ some 3) → (r ≡ 0) ⊎ (r ≡ 3)
 unfolding stopIn
-stop-full none q = absurd (omega arith)
-stop-full (some n) q = ap some q
-
-told : (x : Reached (List ℕ)) (r : ℕ) → knownStop (x .stop) ≡ true → r ≡ stopIn (x .stop) → (r ≡ 0) ⊎ (r ≡ 3) → (x .stop ≡ none) ⊎ (x .stop ≡ some 3)
-told x r e q (inl h) = inl (stop-none (x .stop) e (sym q ∙ h))
-told x r e q (inr h) = inr (stop-full (x .stop) (sym q ∙ h))
+told o r q (inl h) = inl (q ∙ ap stopIn h)
+told o r q (inr h) = inr (q ∙ ap stopIn h)
 
 -- one after another
 and-then : (x y z : Whole (List ℕ)) (a b : List ℕ) → Then engine x a y → Then engine y b z → Then engine x (a ++ b) z
@@ -59,34 +45,42 @@ here s t u v e f =
     }
 
 -- a turn in what firmware sees
-seen-turn : (s t hidden : List ℕ) (x : Turn) → t ≡ x .shown ++ hidden
-    → Replayed (replayInto engine (length (x .out)) s (x .shown)) (x .out) (x .block) (x .left) (x .taken) (x .count) (x .number)
-    → (x .number ≡ 0) ⊎ (x .number ≡ 3)
-    → Then engine (whole engine s t) (take (x .count) (x .left)) (whole engine (x .block) (drop (x .taken) t))
-seen-turn s t hidden x e p h =
-    let r : Reached (List ℕ) = replayInto engine (length (x .out)) s (x .shown) in
-    let y = one-turn engine (length (x .out)) s (x .shown) hidden
-    (told r (x .number) (known-replay (length (x .out)) s (x .shown)) (p .number) h) in
-    let z : whole engine (r .state) (drop (r .taken) (x .shown ++ hidden)) ≡ whole engine (x .block) (drop (x .taken) t) =
-    ap (λ (b : List ℕ). whole engine b (drop (r .taken) (x .shown ++ hidden))) (sym (p .state))
-    ∙ ap (λ (n : ℕ). whole engine (x .block) (drop n (x .shown ++ hidden))) (sym (p .taken))
-    ∙ ap (λ (l : List ℕ). whole engine (x .block) (drop (x .taken) l)) (sym e) in
-    let w : r .wrote ≡ take (x .count) (x .left) = sym (front (x .out) (r .wrote) (x .left) (x .count) (p .count) (p .output)) in
-    record {
-      state = ap (λ (l : List ℕ). whole engine s l .state) e ∙ y .state ∙ ap (λ (u : Whole (List ℕ)). u .state) z;
-      stop = ap (λ (l : List ℕ). whole engine s l .stop) e ∙ y .stop ∙ ap (λ (u : Whole (List ℕ)). u .stop) z;
-      wrote-is = ap (λ (l : List ℕ). flat (whole engine s l .answers)) e ∙ y .wrote-is
-          ∙ ap (λ (l : List ℕ). l ++ flat (whole engine (r .state) (drop (r .taken) (x .shown ++ hidden)) .answers)) w
-          ∙ ap (λ (u : Whole (List ℕ)). take (x .count) (x .left) ++ flat (u .answers)) z;
-    }
+module _ (s t hidden : List ℕ) (x : Turn) (e : t ≡ x .shown ++ hidden)
+    (p : Replayed (replayInto engine (length (x .out)) s (x .shown)) (x .out) (x .block) (x .left) (x .taken) (x .count) (x .number))
+    (h : whole engine s t .stop ≡ none) where
+  goes : (replayInto engine (length (x .out)) s (x .shown) .stop ≡ none) ⊎ (replayInto engine (length (x .out)) s (x .shown) .stop ≡ some 3)
+  goes = turn-goes engine (length (x .out)) s (x .shown) hidden (sym (ap (λ (l : List ℕ). whole engine s l .stop) e) ∙ h)
 
-pub seen-turns : (s t : List ℕ) (xs : List Turn) (u v : List ℕ) → Turns s t xs u v
-    → Then engine (whole engine s t) (writtenIn xs) (whole engine u v)
+  turn-number : (x .number ≡ 0) ⊎ (x .number ≡ 3)
+  turn-number = told _ (x .number) (p .number) goes
+
+  seen-turn : Then engine (whole engine s t) (take (x .count) (x .left)) (whole engine (x .block) (drop (x .taken) t))
+  seen-turn =
+      let r : Reached (List ℕ) = replayInto engine (length (x .out)) s (x .shown) in
+      let y = one-turn engine (length (x .out)) s (x .shown) hidden goes in
+      let z : whole engine (r .state) (drop (r .taken) (x .shown ++ hidden)) ≡ whole engine (x .block) (drop (x .taken) t) =
+      ap (λ (b : List ℕ). whole engine b (drop (r .taken) (x .shown ++ hidden))) (sym (p .state))
+      ∙ ap (λ (n : ℕ). whole engine (x .block) (drop n (x .shown ++ hidden))) (sym (p .taken))
+      ∙ ap (λ (l : List ℕ). whole engine (x .block) (drop (x .taken) l)) (sym e) in
+      let w : r .wrote ≡ take (x .count) (x .left) = sym (front (x .out) (r .wrote) (x .left) (x .count) (p .count) (p .output)) in
+      record {
+        state = ap (λ (l : List ℕ). whole engine s l .state) e ∙ y .state ∙ ap (λ (u : Whole (List ℕ)). u .state) z;
+        stop = ap (λ (l : List ℕ). whole engine s l .stop) e ∙ y .stop ∙ ap (λ (u : Whole (List ℕ)). u .stop) z;
+        wrote-is = ap (λ (l : List ℕ). flat (whole engine s l .answers)) e ∙ y .wrote-is
+            ∙ ap (λ (l : List ℕ). l ++ flat (whole engine (r .state) (drop (r .taken) (x .shown ++ hidden)) .answers)) w
+            ∙ ap (λ (u : Whole (List ℕ)). take (x .count) (x .left) ++ flat (u .answers)) z;
+      }
+
+pub seen-turns : (s t : List ℕ) (xs : List Turn) (u v : List ℕ) → Turns s t xs u v → whole engine s t .stop ≡ none
+    → Go xs × Then engine (whole engine s t) (writtenIn xs) (whole engine u v)
 unfolding writtenIn
-seen-turns s t [] u v k = here s t u v (k .0) (k .1)
-seen-turns s t (x ∷ xs) u v k =
-    and-then (whole engine s t) (whole engine (x .block) (drop (x .taken) t)) (whole engine u v) (take (x .count) (x .left)) (writtenIn xs)
-    (seen-turn s t (k .0 .0) x (k .0 .1) (k .1) (k .2)) (seen-turns (x .block) (drop (x .taken) t) xs u v (k .3))
+seen-turns s t [] u v k h = (tt, here s t u v (k .0) (k .1))
+seen-turns s t (x ∷ xs) u v k h =
+    let y = seen-turn s t (k .0 .0) x (k .0 .1) (k .1) h in
+    let z = seen-turns (x .block) (drop (x .taken) t) xs u v (k .2) (sym (y .stop) ∙ h) in (
+      (turn-number s t (k .0 .0) x (k .0 .1) (k .1) h, z .0),
+      and-then (whole engine s t) (whole engine (x .block) (drop (x .taken) t)) (whole engine u v) (take (x .count) (x .left)) (writtenIn xs) y (z .1),
+    )
 
 -- where no whole line is left, nothing is left to do
 pub nothing-left : (u v : List ℕ) → cut v ≡ [] → whole engine u v ≡ record { state = u; answers = []; stop = none }

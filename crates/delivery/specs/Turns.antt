@@ -13,7 +13,8 @@ use lib.Dec.{eqb}
 use lib.ListN.{length, drop, length-append}
 use lib.Seq.{drop-append-le}
 use Rattle.laws.specs.Rows.{flat, flat-append}
-use Rattle.rule.specs.Base.{none≢some}
+use Rattle.laws.specs.Tests.{cases-eq}
+use Rattle.rule.specs.Base.{none≢some, some-inj}
 use Rattle.sessions.specs.Machine.{Machine, Outcome, refused, done, text, answerRoom}
 use Rattle.sessions.specs.Session.{answer}
 use Rattle.sessions.specs.Saved.{Replayed, withAnswer, resume, replayLines, replay, cut, Enough}
@@ -75,6 +76,30 @@ module _ (M : Machine) where
           }
       go (refused n) ih h = skips n (eqb n 1) ih h
 
+  -- lines that stopped a replay, and then others
+  lines-stop : (s : M .S) (ls ks : List (List ℕ)) (n : ℕ) → replayLines M (λ i. 2880) s ls .stop ≡ some n
+      → replayLines M (λ i. 2880) s (ls ++ ks) .stop ≡ some n
+  unfolding replayLines resume withAnswer
+  lines-stop s [] ks n e = absurd (none≢some e)
+  lines-stop s (l ∷ ls) ks n e = go (answer M 2880 s text l) (λ t h. lines-stop t ls ks n h) e
+    where
+      r : M .S → Replayed (M .S)
+      r t = replayLines M (λ i. 2880) t ls
+
+      q : M .S → Replayed (M .S)
+      q t = replayLines M (λ i. 2880) t (ls ++ ks)
+
+      skips : (b : Bool) (m : ℕ) → ((t : M .S) → r t .stop ≡ some n → q t .stop ≡ some n)
+          → cond b (r s) (record { state = s; answers = []; stop = some m }) .stop ≡ some n
+          → cond b (q s) (record { state = s; answers = []; stop = some m }) .stop ≡ some n
+      skips true m ih k = ih s k
+      skips false m ih k = k
+
+      go : (o : Outcome (M .S)) → ((t : M .S) → r t .stop ≡ some n → q t .stop ≡ some n) → resume s o r .stop ≡ some n
+          → resume s o q .stop ≡ some n
+      go (done t a) ih h = ih t h
+      go (refused m) ih h = skips (eqb m 1) m ih h
+
   -- One call that was shown a part of a text and did not stop but for want of room: the replay of the whole text is what it wrote and then
   -- the replay of what it left unread.
   module _ (room : ℕ) (s : M .S) (shown hidden : List ℕ) where
@@ -129,3 +154,19 @@ module _ (M : Machine) where
         (whole (replayInto M room s shown .state) (drop (replayInto M room s shown .taken) (shown ++ hidden)))
     one-turn (inl e) = through e
     one-turn (inr e) = full e
+
+    -- a call that is shown a part of a text whose replay runs through is not stopped but for want of room
+    pub turn-goes : whole s (shown ++ hidden) .stop ≡ none → (replayInto M room s shown .stop ≡ none) ⊎ (replayInto M room s shown .stop ≡ some 3)
+    unfolding replay
+    turn-goes h = go (replayInto M room s shown .stop) refl
+      where
+        halts : (n : ℕ) → replayInto M room s shown .stop ≡ some n → (n ≡ 3 → ⊥) → whole s (shown ++ hidden) .stop ≡ some n
+        halts n e f =
+            let w : Same [] (replayInto M room s shown) (whole s shown) =
+            replay-whole M room s shown (λ i. 2880) (λ k. f (some-inj (sym e ∙ k))) enough in
+            ap (λ (ls : List (List ℕ)). replayLines M (λ i. 2880) s ls .stop) (cut-append shown hidden)
+            ∙ lines-stop s (cut shown) (cut (rest shown ++ hidden)) n (sym (w .stop) ∙ e)
+
+        go : (o : Option ℕ) → replayInto M room s shown .stop ≡ o → (replayInto M room s shown .stop ≡ none) ⊎ (replayInto M room s shown .stop ≡ some 3)
+        go none e = inl e
+        go (some n) e = cases-eq n 3 (λ k. inr (e ∙ ap some k)) (λ k. absurd (none≢some (sym h ∙ halts n e k)))
