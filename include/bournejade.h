@@ -109,6 +109,15 @@ uint8_t bournejade_restore(bournejade_state *state, const uint8_t *image, size_t
 uint8_t bournejade_replay(bournejade_state *state, const uint8_t *journal, size_t journal_size, uint8_t *out,
                           size_t out_size, size_t *taken, size_t *wrote);
 
+/* Replay up to the frame `last`: the same, but a further line is read only while the position is below `last`. A standby
+ * that knows the number of the last delivered answer replays up to it, drops what was written, and hands on what
+ * bournejade_replay then writes: each answer is delivered once.
+ *  - 0: the position is `last` or more, with *taken behind the line of the frame that made it so (0 where it was so
+ *    already: seen lines are not read then), or all whole lines were read.
+ *  - 3 and any other: as above. 7 only where the position that stands in the block is below `last`. */
+uint8_t bournejade_replay_to(bournejade_state *state, uint32_t last, const uint8_t *journal, size_t journal_size,
+                             uint8_t *out, size_t out_size, size_t *taken, size_t *wrote);
+
 #ifdef __cplusplus
 }
 #endif

@@ -31,12 +31,6 @@ struct Section {
     to: usize,
 }
 
-fn wide(x: u8) -> usize
-    ensures { λ r. ⌜ (r ≡ x) × (r < 256) ⌝ }
-{
-    x as usize
-}
-
 // The index after the part that begins at i, or i where there is none.
 fn part_end(text: &[u8], i: usize, least: usize) -> usize
     requires { ⌜ i ≤ length (now text) ⌝ }
@@ -46,7 +40,7 @@ fn part_end(text: &[u8], i: usize, least: usize) -> usize
     if i == n {
         return i;
     }
-    let x = wide(text[i]);
+    let x = octets::wide(text[i]);
     if x < least {
         return i;
     }
@@ -136,7 +130,7 @@ fn pattern_meets(pattern: &[u8], adv: &[u8]) -> bool
     ensures { λ r. ⌜ r ≡ patternMeets (now (adv .entry)) (now (pattern .entry)) ⌝ }
 {
     let t = pattern[0];
-    let start = wide(pattern[1]);
+    let start = octets::wide(pattern[1]);
     some_holds(adv, t, start, &pattern[2..])
 }
 

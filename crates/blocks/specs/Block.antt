@@ -13,10 +13,10 @@ use Rattle.laws.specs.Rows.{row, rows}
 use Rattle.octets.specs.Little.{little, isOctet}
 use Rattle.rule.specs.Base.{All}
 use Rattle.rule.specs.Engine.{find}
-use Rattle.model.specs.Types.{Model, Monitor, Pair, mostMonitors, mostPairs}
+use Rattle.model.specs.Types.{Model, Monitor, Pair}
 use Rattle.model.specs.Image.{headRow, pairRow, monitorIn, pairIn}
 use Rattle.model.specs.Sound.{soundModel}
-use Rattle.model.specs.Block.{headSize, monitorSize, pairSize, monitorsAt, pairsAt, countAt, padTo, monitorPlace}
+use Rattle.model.specs.Block.{padTo, monitorPlace}
 use Rattle.model.specs.Block.{monitorBlock, pairBlock, padded, inUse, monitorTable, pairTable, held, sound}
 use Rattle.blocks.specs.Rows.{length-headRow, length-padTo, headRow-position, headRow-filter, headRow-opcode}
 use Rattle.blocks.specs.Rows.{headRow-count, headRow-prefix, drop-past, padTo-octets, octets-append, octets-cons}
@@ -27,13 +27,14 @@ use Rattle.blocks.specs.Monitors.{Short, mons-short, length-monitorBlock
 use Rattle.blocks.specs.Monitors.{monitors-read, monitorBlock-octets}
 use Rattle.blocks.specs.Pairs.{pairPlaces, length-pairBlock, rows-pairBlock, row-pairBlock, row-pairBlock-zero}
 use Rattle.blocks.specs.Pairs.{pairs-read, pairBlock-octets}
+use Rattle.model.specs.Layout.{blockSize, countAt, filterAt, headSize, monitorSize, monitorsAt, monitorsSize, mostMonitors, mostPairs, mostPrefix, opcodeAt, pairSize, pairsAt, pairsSize, positionAt, prefixAt, prefixLengthAt}
 
 -- What the parts of a block measure where its rows have room: less than soundness, and enough to say what stands where.
 pub record Measured (m : Model) : Type 0 where
-  pub prefix-most : length (m .prefix) ≤ 32
+  pub prefix-most : length (m .prefix) ≤ mostPrefix
   pub short : Short (m .mons)
   pub fit : All Fits (m .pairs)
-  pub pairs-most : length (m .pairs) ≤ 64
+  pub pairs-most : length (m .pairs) ≤ mostPairs
 
 pub sound-measured : (m : Model) → SoundModel m → Measured m
 sound-measured m f =
@@ -54,95 +55,95 @@ tables m = monitorBlock (m .mons) ++ (pairBlock (m .pairs) ++ (length (m .pairs)
 abbrev pub ending : Model → List ℕ
 ending m = pairBlock (m .pairs) ++ (length (m .pairs) ∷ [])
 
-pub length-head : (m : Model) → length (m .prefix) ≤ 32 → length (padTo 40 (headRow m)) ≡ 40
-length-head m h = let n = length-headRow m in length-padTo 40 (headRow m) (omega arith)
+pub length-head : (m : Model) → length (m .prefix) ≤ mostPrefix → length (padTo headSize (headRow m)) ≡ headSize
+length-head m h = let n = length-headRow m in length-padTo headSize (headRow m) (omega arith)
 
 module _ (m : Model) (f : Measured m) where
-  pub length-padded : length (padded m) ≡ 4761
-  unfolding padded headSize
+  pub length-padded : length (padded m) ≡ blockSize
+  unfolding padded
   length-padded =
       let a = length-head m (f .prefix-most) in
       let b = length-monitorBlock (m .mons) (f .short) in
       let c = length-pairBlock (m .pairs) (f .fit) (f .pairs-most) in
       simp length-append (omega arith)
 
-  pub drop-head : drop 40 (padded m) ≡ tables m
-  unfolding padded headSize
-  drop-head = drop-at (padTo 40 (headRow m)) (tables m) 40 (length-head m (f .prefix-most))
+  pub drop-head : drop monitorsAt (padded m) ≡ tables m
+  unfolding padded
+  drop-head = drop-at (padTo headSize (headRow m)) (tables m) headSize (length-head m (f .prefix-most))
 
-  pub drop-monitors : drop 1176 (padded m) ≡ ending m
-  unfolding padded headSize
+  pub drop-monitors : drop pairsAt (padded m) ≡ ending m
+  unfolding padded
   drop-monitors =
-      drop-past (padTo 40 (headRow m)) (tables m) 40 (length-head m (f .prefix-most)) 1136
-      ∙ drop-at (monitorBlock (m .mons)) (ending m) 1136 (length-monitorBlock (m .mons) (f .short))
+      drop-past (padTo headSize (headRow m)) (tables m) headSize (length-head m (f .prefix-most)) monitorsSize
+      ∙ drop-at (monitorBlock (m .mons)) (ending m) monitorsSize (length-monitorBlock (m .mons) (f .short))
 
   -- the number of pairs, the pair part
-  pub getD-count : getD (padded m) 4760 0 ≡ length (m .pairs)
+  pub getD-count : getD (padded m) countAt 0 ≡ length (m .pairs)
   getD-count =
-      sym (lib.Seq.getD-drop 1176 (padded m) 3584 0) ∙ ap (λ (l : List ℕ). getD l 3584 0) drop-monitors
-      ∙ lib.Seq.getD-at (pairBlock (m .pairs)) (length (m .pairs)) [] 0 3584
+      sym (lib.Seq.getD-drop pairsAt (padded m) pairsSize 0) ∙ ap (λ (l : List ℕ). getD l pairsSize 0) drop-monitors
+      ∙ lib.Seq.getD-at (pairBlock (m .pairs)) (length (m .pairs)) [] 0 pairsSize
       (length-pairBlock (m .pairs) (f .fit) (f .pairs-most))
 
-  pub take-pairs : take 3584 (drop 1176 (padded m)) ≡ pairBlock (m .pairs)
+  pub take-pairs : take pairsSize (drop pairsAt (padded m)) ≡ pairBlock (m .pairs)
   take-pairs =
-      ap (λ (l : List ℕ). take 3584 l) drop-monitors
-      ∙ take-at (pairBlock (m .pairs)) (length (m .pairs) ∷ []) 3584
+      ap (λ (l : List ℕ). take pairsSize l) drop-monitors
+      ∙ take-at (pairBlock (m .pairs)) (length (m .pairs) ∷ []) pairsSize
       (length-pairBlock (m .pairs) (f .fit) (f .pairs-most))
 
   -- the row of a handle, and the monitor table
-  pub row-monitors : (h : ℕ) → h < 16 → row 71 h (drop 40 (padded m)) ≡ monitorPlace h (find (m .mons) h)
-  row-monitors h b = ap (λ (l : List ℕ). row 71 h l) drop-head ∙ row-monitorBlock (m .mons) (f .short) (ending m) h b
+  pub row-monitors : (h : ℕ) → h < mostMonitors → row monitorSize h (drop monitorsAt (padded m)) ≡ monitorPlace h (find (m .mons) h)
+  row-monitors h b = ap (λ (l : List ℕ). row monitorSize h l) drop-head ∙ row-monitorBlock (m .mons) (f .short) (ending m) h b
 
-  pub table-monitors : monitorTable (padded m) ≡ from (λ h. monitorPlace h (find (m .mons) h)) 0 16
-  unfolding monitorTable monitorSize monitorsAt mostMonitors
-  table-monitors = ap (λ (l : List ℕ). rows 71 16 l) drop-head ∙ rows-monitorBlock (m .mons) (f .short) (ending m)
+  pub table-monitors : monitorTable (padded m) ≡ from (λ h. monitorPlace h (find (m .mons) h)) 0 mostMonitors
+  unfolding monitorTable
+  table-monitors = ap (λ (l : List ℕ). rows monitorSize mostMonitors l) drop-head ∙ rows-monitorBlock (m .mons) (f .short) (ending m)
 
   -- the row of a pair, the rows behind the pairs, and the pair table
   pub row-pairs : (i : ℕ) (d : Pair) → i < length (m .pairs)
-      → row 56 i (drop 1176 (padded m)) ≡ padTo 56 (pairRow (getD (m .pairs) i d))
+      → row pairSize i (drop pairsAt (padded m)) ≡ padTo pairSize (pairRow (getD (m .pairs) i d))
   row-pairs i d b =
-      ap (λ (l : List ℕ). row 56 i l) drop-monitors
+      ap (λ (l : List ℕ). row pairSize i l) drop-monitors
       ∙ row-pairBlock (m .pairs) (f .fit) (f .pairs-most) (length (m .pairs) ∷ []) i d b
 
-  pub row-pairs-zero : (i : ℕ) → length (m .pairs) ≤ i → i < 64 → row 56 i (drop 1176 (padded m)) ≡ replicate 56 0
+  pub row-pairs-zero : (i : ℕ) → length (m .pairs) ≤ i → i < mostPairs → row pairSize i (drop pairsAt (padded m)) ≡ replicate pairSize 0
   row-pairs-zero i b c =
-      ap (λ (l : List ℕ). row 56 i l) drop-monitors
+      ap (λ (l : List ℕ). row pairSize i l) drop-monitors
       ∙ row-pairBlock-zero (m .pairs) (f .fit) (f .pairs-most) (length (m .pairs) ∷ []) i b c
 
   pub table-pairs : pairTable (padded m) ≡ pairPlaces (m .pairs)
-  unfolding pairTable pairSize pairsAt mostPairs
+  unfolding pairTable
   table-pairs =
-      ap (λ (l : List ℕ). rows 56 64 l) drop-monitors
+      ap (λ (l : List ℕ). rows pairSize mostPairs l) drop-monitors
       ∙ rows-pairBlock (m .pairs) (f .fit) (f .pairs-most) (length (m .pairs) ∷ [])
 
 -- the block opens with the head row
 abbrev pub behind : Model → List ℕ
-behind m = replicate (40 - length (headRow m)) 0 ++ tables m
+behind m = replicate (headSize - length (headRow m)) 0 ++ tables m
 
 pub padded-head : (m : Model) → padded m ≡ headRow m ++ behind m
-unfolding padded padTo headSize
-padded-head m = append-assoc (headRow m) (replicate (40 - length (headRow m)) 0) (tables m)
+unfolding padded padTo
+padded-head m = append-assoc (headRow m) (replicate (headSize - length (headRow m)) 0) (tables m)
 
 module _ (m : Model) where
-  pub read-position : m .position < 4294967296 → little 4 (padded m) 0 ≡ m .position
+  pub read-position : m .position < 4294967296 → little 4 (padded m) positionAt ≡ m .position
   read-position h = rw (padded-head m) (headRow-position m (behind m) h)
 
-  pub read-filter : getD (padded m) 4 0 ≡ m .filter
+  pub read-filter : getD (padded m) filterAt 0 ≡ m .filter
   read-filter = rw (padded-head m) (headRow-filter m (behind m))
 
-  pub read-opcode : m .opcode < 65536 → little 2 (padded m) 5 ≡ m .opcode
+  pub read-opcode : m .opcode < 65536 → little 2 (padded m) opcodeAt ≡ m .opcode
   read-opcode h = rw (padded-head m) (headRow-opcode m (behind m) h)
 
-  pub read-count : getD (padded m) 7 0 ≡ length (m .prefix)
+  pub read-count : getD (padded m) prefixLengthAt 0 ≡ length (m .prefix)
   read-count = rw (padded-head m) (headRow-count m (behind m))
 
-  pub read-prefix : take (length (m .prefix)) (drop 8 (padded m)) ≡ m .prefix
+  pub read-prefix : take (length (m .prefix)) (drop prefixAt (padded m)) ≡ m .prefix
   read-prefix = rw (padded-head m) (headRow-prefix m (behind m))
 
-pub position-read : (m : Model) → soundModel m ≡ true → little 4 (padded m) 0 ≡ m .position
+pub position-read : (m : Model) → soundModel m ≡ true → little 4 (padded m) positionAt ≡ m .position
 position-read m e = let f : SoundModel m = sound-facts m e in read-position m (omega (arith, f .position-most))
 
-pub opcode-read : (m : Model) → soundModel m ≡ true → little 2 (padded m) 5 ≡ m .opcode
+pub opcode-read : (m : Model) → soundModel m ≡ true → little 2 (padded m) opcodeAt ≡ m .opcode
 opcode-read m e = let f : SoundModel m = sound-facts m e in read-opcode m (omega (arith, f .opcode-most))
 
 -- two states with the same fields are one
@@ -153,16 +154,16 @@ model-eq m e1 e2 e3 e4 e5 e6 = rw (e1, e2, e3, e4, e5, e6)
 
 -- the block of a sound state holds that state
 pub held-facts : (m : Model) → SoundModel m → held (padded m) ≡ m
-unfolding held monitorTable pairTable monitorSize mostMonitors monitorsAt pairSize mostPairs pairsAt countAt
+unfolding held monitorTable pairTable
 held-facts m f =
     let s : Measured m = sound-measured m f in
     model-eq m (read-position m (omega (arith, f .position-most))) (read-filter m)
     (read-opcode m (omega (arith, f .opcode-most)))
-    (ap (λ (k : ℕ). take k (drop 8 (padded m))) (read-count m) ∙ read-prefix m)
-    (ap (λ (l : List ℕ). map monitorIn (keep inUse (rows 71 16 l))) (drop-head m s)
+    (ap (λ (k : ℕ). take k (drop prefixAt (padded m))) (read-count m) ∙ read-prefix m)
+    (ap (λ (l : List ℕ). map monitorIn (keep inUse (rows monitorSize mostMonitors l))) (drop-head m s)
     ∙ monitors-read (m .mons) (f .mons-sound) (ending m))
-    (ap (λ (k : ℕ). map pairIn (take k (rows 56 64 (drop 1176 (padded m))))) (getD-count m s)
-    ∙ ap (λ (l : List ℕ). map pairIn (take (length (m .pairs)) (rows 56 64 l))) (drop-monitors m s)
+    (ap (λ (k : ℕ). map pairIn (take k (rows pairSize mostPairs (drop pairsAt (padded m))))) (getD-count m s)
+    ∙ ap (λ (l : List ℕ). map pairIn (take (length (m .pairs)) (rows pairSize mostPairs l))) (drop-monitors m s)
     ∙ pairs-read (m .pairs) (s .fit) (s .pairs-most) (length (m .pairs) ∷ []))
 
 pub held-padded : (m : Model) → soundModel m ≡ true → held (padded m) ≡ m
@@ -182,7 +183,7 @@ padded-octets m e =
     octets-append (pairBlock (m .pairs)) (length (m .pairs) ∷ []) (pairBlock-octets (m .pairs) (pairs-fit m f)) (
     octets-cons (length (m .pairs)) [] (omega (arith, f .pairs-most)) refl)))
 
-pub padded-length : (m : Model) → soundModel m ≡ true → length (padded m) ≡ 4761
+pub padded-length : (m : Model) → soundModel m ≡ true → length (padded m) ≡ blockSize
 padded-length m e = length-padded m (measured m e)
 
 -- any block: a sound one is the block of the sound state that it holds
@@ -195,7 +196,7 @@ module _ (s : List ℕ) (e : sound s ≡ true) where
   unfolding sound
   padded-held = sames-eq (padded (held s)) s (and-right (soundModel (held s)) (sames (padded (held s)) s) e)
 
-  pub sound-length : length s ≡ 4761
+  pub sound-length : length s ≡ blockSize
   sound-length = ap (λ (l : List ℕ). length l) (sym padded-held) ∙ padded-length (held s) sound-held
 
   pub sound-octets : every isOctet s ≡ true

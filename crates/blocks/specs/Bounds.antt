@@ -23,6 +23,7 @@ use Rattle.model.specs.Image.{headRow, monitorRow, pairRow, pairIn}
 use Rattle.model.specs.Sound.{soundWindow, soundEmpty, soundPair}
 use Rattle.blocks.specs.Rows.{headRow-octets, monitorRow-octets, pairRow-octets, pairIn-row}
 use Rattle.blocks.specs.Facts.{SoundMonitor, SoundPair, SoundModel, pair-facts}
+use Rattle.model.specs.Layout.{mostData, mostMonitors}
 
 -- a sound monitor's row is octets, where its handle is one
 pub sound-monitorRow : (x : ℕ × Monitor) → x .0 < 256 → SoundMonitor (x .1) → every isOctet (monitorRow x) ≡ true
@@ -79,15 +80,15 @@ window-facts position m q = go (leb 1 (m .sampling)) (leb (m .sampling) 254) ref
     go false t h e z = idle e z
 
 -- the monitor of a live handle
-pub live-handle : (m : Model) → SoundModel m → (h : ℕ) (n : Monitor) → find (m .mons) h ≡ some n → h < 16
-live-handle m f h n e = find-all (λ x. (0 ≤ x .0) × (x .0 < 16)) (m .mons) h n (f .mons-sound .handles) e .1
+pub live-handle : (m : Model) → SoundModel m → (h : ℕ) (n : Monitor) → find (m .mons) h ≡ some n → h < mostMonitors
+live-handle m f h n e = find-all (λ x. (0 ≤ x .0) × (x .0 < mostMonitors)) (m .mons) h n (f .mons-sound .handles) e .1
 
 pub live-monitor : (m : Model) → SoundModel m → (h : ℕ) (n : Monitor) → find (m .mons) h ≡ some n → SoundMonitor n
 live-monitor m f h n e = find-all (λ x. SoundMonitor (x .1)) (m .mons) h n (f .mons-sound .monitors) e
 
 -- what a pair's row is written from: fields that fit
 pub record Fits (q : Pair) : Type 0 where
-  pub handle-most : q .handle < 16
+  pub handle-most : q .handle < mostMonitors
   pub kind-most : q .kind ≤ 1
   pub address-length : length (q .address) ≡ 6
   pub address-octets : every isOctet (q .address) ≡ true
@@ -96,7 +97,7 @@ pub record Fits (q : Pair) : Type 0 where
   pub packets-most : q .packets ≤ 4294967295
   pub sum-most : q .sum < 18446744073709551616
   pub event-most : q .event ≤ 3
-  pub adv-most : length (q .adv) ≤ 31
+  pub adv-most : length (q .adv) ≤ mostData
   pub adv-octets : every isOctet (q .adv) ≡ true
 
 pub pair-fits : (m : Model) → SoundModel m → (q : Pair) → SoundPair m q → Fits q

@@ -16,10 +16,11 @@ use Rattle.rule.specs.Base.{All}
 use Rattle.rule.specs.Engine.{find}
 use Rattle.rule.specs.Finds.{Rising}
 use Rattle.sessions.specs.Machine.{lastNumber}
-use Rattle.model.specs.Types.{Model, Monitor, Pair, mostMonitors, mostPairs, mostPrefix, mostData}
+use Rattle.model.specs.Types.{Model, Monitor, Pair}
 use Rattle.model.specs.Monitors.{accepts, runOf}
 use Rattle.model.specs.Sound.{octetsUpTo, soundSettings, soundMonitor, soundMonitors, soundWindow, soundEmpty}
 use Rattle.model.specs.Sound.{soundFields, soundOf, soundPair, apart, soundModel}
+use Rattle.model.specs.Layout.{mostData, mostMonitors, mostPairs, mostPrefix}
 
 -- a list of at most n octets
 pub up-to : (n : ℕ) (l : List ℕ) → octetsUpTo n l ≡ true → (length l ≤ n) × (every isOctet l ≡ true)
@@ -74,20 +75,20 @@ facts-monitor m f =
 -- "monitors held in rising handle order, handles 0 to 15"; each handle at least k
 pub record SoundMonitors (k : ℕ) (l : List (ℕ × Monitor)) : Type 0 where
   pub rising : Rising l
-  pub handles : All (λ x. (k ≤ x .0) × (x .0 < 16)) l
+  pub handles : All (λ x. (k ≤ x .0) × (x .0 < mostMonitors)) l
   pub monitors : All (λ x. SoundMonitor (x .1)) l
 
-all-past : (j k : ℕ) (l : List (ℕ × Monitor)) → k ≤ j → All (λ x. (suc j ≤ x .0) × (x .0 < 16)) l
-    → All (λ x. (k ≤ x .0) × (x .0 < 16)) l
+all-past : (j k : ℕ) (l : List (ℕ × Monitor)) → k ≤ j → All (λ x. (suc j ≤ x .0) × (x .0 < mostMonitors)) l
+    → All (λ x. (k ≤ x .0) × (x .0 < mostMonitors)) l
 all-past j k [] h a = tt
 all-past j k (x ∷ l) h a = ((omega (arith, a .0 .0), a .0 .1), all-past j k l h (a .1))
 
-all-over : (j : ℕ) (l : List (ℕ × Monitor)) → All (λ x. (suc j ≤ x .0) × (x .0 < 16)) l → All (λ x. j < x .0) l
+all-over : (j : ℕ) (l : List (ℕ × Monitor)) → All (λ x. (suc j ≤ x .0) × (x .0 < mostMonitors)) l → All (λ x. j < x .0) l
 all-over j [] a = tt
 all-over j (x ∷ l) a = (a .0 .0, all-over j l (a .1))
 
-over-all : (j k : ℕ) (l : List (ℕ × Monitor)) → All (λ x. j < x .0) l → All (λ x. (k ≤ x .0) × (x .0 < 16)) l
-    → All (λ x. (suc j ≤ x .0) × (x .0 < 16)) l
+over-all : (j k : ℕ) (l : List (ℕ × Monitor)) → All (λ x. j < x .0) l → All (λ x. (k ≤ x .0) × (x .0 < mostMonitors)) l
+    → All (λ x. (suc j ≤ x .0) × (x .0 < mostMonitors)) l
 over-all j k [] a b = tt
 over-all j k (x ∷ l) a b = ((a .0, b .0 .1), over-all j k l (a .1) (b .1))
 
@@ -117,11 +118,11 @@ pub monitors-over : (k : ℕ) (l : List (ℕ × Monitor)) → SoundMonitors (suc
 monitors-over k l f = all-over k l (f .handles)
 
 pub monitors-facts : (k : ℕ) (l : List (ℕ × Monitor)) → soundMonitors k l ≡ true → SoundMonitors k l
-unfolding soundMonitors mostMonitors
+unfolding soundMonitors
 monitors-facts k [] e = record { rising = tt; handles = tt; monitors = tt }
 monitors-facts k (x ∷ l) e =
     let a = leb k (x .0) in
-    let b = ltb (x .0) 16 in
+    let b = ltb (x .0) mostMonitors in
     let c = soundMonitor (x .1) in
     let d = soundMonitors (suc (x .0)) l in
     let e2 = and-left (a && b && c) d e in
@@ -130,15 +131,15 @@ monitors-facts k (x ∷ l) e =
     let h : k ≤ x .0 = leb-true k (x .0) (and-left a b e1) in
     record {
       rising = (all-over (x .0) l (r .handles), r .rising);
-      handles = ((h, ltb-true (x .0) 16 (and-right a b e1)), all-past (x .0) k l h (r .handles));
+      handles = ((h, ltb-true (x .0) mostMonitors (and-right a b e1)), all-past (x .0) k l h (r .handles));
       monitors = (monitor-facts (x .1) (and-right (a && b) c e2), r .monitors);
     }
 
 pub facts-monitors : (k : ℕ) (l : List (ℕ × Monitor)) → SoundMonitors k l → soundMonitors k l ≡ true
-unfolding soundMonitors mostMonitors
+unfolding soundMonitors
 facts-monitors k [] f = refl
 facts-monitors k (x ∷ l) f =
-    rw (le-leb k (x .0) (f .handles .0 .0), lt-ltb (x .0) 16 (f .handles .0 .1), facts-monitor (x .1) (f .monitors .0))
+    rw (le-leb k (x .0) (f .handles .0 .0), lt-ltb (x .0) mostMonitors (f .handles .0 .1), facts-monitor (x .1) (f .monitors .0))
     (facts-monitors (suc (x .0)) l (monitors-tail k x l f))
 
 -- what soundness says of a pair, given the monitor of its handle
@@ -147,20 +148,20 @@ pub record SoundOf (position : ℕ) (m : Monitor) (q : Pair) : Type 0 where
   pub address-length : length (q .address) ≡ 6
   pub address-octets : every isOctet (q .address) ≡ true
   pub event-most : q .event ≤ 3
-  pub adv-most : length (q .adv) ≤ 31
+  pub adv-most : length (q .adv) ≤ mostData
   pub adv-octets : every isOctet (q .adv) ≡ true
   pub silent-below : q .silent < runOf m
   pub window : soundWindow position m q ≡ true
   pub empty : soundEmpty q ≡ true
 
 pub of-facts : (position : ℕ) (m : Monitor) (q : Pair) → soundOf position (some m) q ≡ true → SoundOf position m q
-unfolding soundOf soundFields mostData
+unfolding soundOf soundFields
 of-facts position m q e =
     let k = leb (q .kind) 1 in
     let l = eqb (length (q .address)) 6 in
     let a = every isOctet (q .address) in
     let v = leb (q .event) 3 in
-    let d = octetsUpTo 31 (q .adv) in
+    let d = octetsUpTo mostData (q .adv) in
     let s = ltb (q .silent) (runOf m) in
     let w = soundWindow position m q in
     let z = soundEmpty q in
@@ -171,7 +172,7 @@ of-facts position m q e =
     let g3 = and-left (k && l && a && v) d g4 in
     let g2 = and-left (k && l && a) v g3 in
     let g1 = and-left (k && l) a g2 in
-    let u = up-to 31 (q .adv) (and-right (k && l && a && v) d g4) in
+    let u = up-to mostData (q .adv) (and-right (k && l && a && v) d g4) in
     record {
       kind-most = leb-true (q .kind) 1 (and-left k l g1);
       address-length = eqb-true (length (q .address)) 6 (and-right k l g1);
@@ -185,14 +186,14 @@ of-facts position m q e =
     }
 
 pub facts-of : (position : ℕ) (m : Monitor) (q : Pair) → SoundOf position m q → soundOf position (some m) q ≡ true
-unfolding soundOf soundFields mostData
+unfolding soundOf soundFields
 facts-of position m q f =
     rw (
       le-leb (q .kind) 1 (f .kind-most),
       eq-eqb (length (q .address)) 6 (f .address-length),
       f .address-octets,
       le-leb (q .event) 3 (f .event-most),
-      to-up 31 (q .adv) (f .adv-most) (f .adv-octets),
+      to-up mostData (q .adv) (f .adv-most) (f .adv-octets),
       lt-ltb (q .silent) (runOf m) (f .silent-below),
       f .window,
     )
@@ -222,26 +223,26 @@ pub record SoundModel (m : Model) : Type 0 where
   pub filter-most : m .filter ≤ 1
   pub opcode-least : 0xFC00 ≤ m .opcode
   pub opcode-most : m .opcode ≤ 0xFFFF
-  pub prefix-most : length (m .prefix) ≤ 32
+  pub prefix-most : length (m .prefix) ≤ mostPrefix
   pub prefix-octets : every isOctet (m .prefix) ≡ true
   pub mons-sound : SoundMonitors 0 (m .mons)
-  pub pairs-most : length (m .pairs) ≤ 64
+  pub pairs-most : length (m .pairs) ≤ mostPairs
   pub pairs-apart : apart (m .pairs) ≡ true
   pub pairs-sound : every (soundPair m) (m .pairs) ≡ true
 
 pub sound-facts : (m : Model) → soundModel m ≡ true → SoundModel m
-unfolding soundModel soundSettings lastNumber mostPrefix mostPairs
+unfolding soundModel soundSettings lastNumber
 sound-facts m e =
     let p = leb (m .position) 4294967295 in
     let f = leb (m .filter) 1 in
     let s = soundSettings (m .opcode) (m .prefix) in
     let n = soundMonitors 0 (m .mons) in
-    let l = leb (length (m .pairs)) 64 in
+    let l = leb (length (m .pairs)) mostPairs in
     let a = apart (m .pairs) in
     let q = every (soundPair m) (m .pairs) in
     let o = leb 0xFC00 (m .opcode) in
     let r = leb (m .opcode) 0xFFFF in
-    let x = octetsUpTo 32 (m .prefix) in
+    let x = octetsUpTo mostPrefix (m .prefix) in
     let e5 = and-left (p && f && s && n && l && a) q e in
     let e4 = and-left (p && f && s && n && l) a e5 in
     let e3 = and-left (p && f && s && n) l e4 in
@@ -249,7 +250,7 @@ sound-facts m e =
     let e1 = and-left (p && f) s e2 in
     let t = and-right (p && f) s e2 in
     let u = and-left (o && r) x t in
-    let v = up-to 32 (m .prefix) (and-right (o && r) x t) in
+    let v = up-to mostPrefix (m .prefix) (and-right (o && r) x t) in
     record {
       position-most = leb-true (m .position) 4294967295 (and-left p f e1);
       filter-most = leb-true (m .filter) 1 (and-right p f e1);
@@ -258,22 +259,22 @@ sound-facts m e =
       prefix-most = v .0;
       prefix-octets = v .1;
       mons-sound = monitors-facts 0 (m .mons) (and-right (p && f && s) n e3);
-      pairs-most = leb-true (length (m .pairs)) 64 (and-right (p && f && s && n) l e4);
+      pairs-most = leb-true (length (m .pairs)) mostPairs (and-right (p && f && s && n) l e4);
       pairs-apart = and-right (p && f && s && n && l) a e5;
       pairs-sound = and-right (p && f && s && n && l && a) q e;
     }
 
 pub facts-sound : (m : Model) → SoundModel m → soundModel m ≡ true
-unfolding soundModel soundSettings lastNumber mostPrefix mostPairs
+unfolding soundModel soundSettings lastNumber
 facts-sound m f =
     rw (
       le-leb (m .position) 4294967295 (f .position-most),
       le-leb (m .filter) 1 (f .filter-most),
       le-leb 0xFC00 (m .opcode) (f .opcode-least),
       le-leb (m .opcode) 0xFFFF (f .opcode-most),
-      to-up 32 (m .prefix) (f .prefix-most) (f .prefix-octets),
+      to-up mostPrefix (m .prefix) (f .prefix-most) (f .prefix-octets),
       facts-monitors 0 (m .mons) (f .mons-sound),
-      le-leb (length (m .pairs)) 64 (f .pairs-most),
+      le-leb (length (m .pairs)) mostPairs (f .pairs-most),
       f .pairs-apart,
     )
     (f .pairs-sound)

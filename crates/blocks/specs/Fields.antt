@@ -4,8 +4,8 @@ use Prim.Native.Nat.{ℕ, _+_, _-_, _≤_}
 use mathlib.Core.Path.{_≡_, refl, sym, ap, _∙_}
 use mathlib.Core.List.{List, [], _∷_, _++_, append-assoc, append-nil}
 use native.Mathlib.Omega.{arith}
-use lib.ListN.{length, take, replicate, length-append, length-replicate, drop-of-length-le}
-use Rattle.laws.specs.Put.{put, put-right}
+use lib.ListN.{length, take, replicate, length-append, length-replicate, drop-of-length-le, replicate-append-replicate}
+use Rattle.laws.specs.Put.{put, put-left, put-right}
 use Rattle.octets.specs.Little.{octetsOf, length-octets}
 use Rattle.model.specs.Types.{Packet, Pair}
 use Rattle.model.specs.Level.{addRssi}
@@ -13,29 +13,50 @@ use Rattle.model.specs.Image.{pairRow}
 use Rattle.model.specs.Watch.{withSilent, withTicks, gathered, emptied, startPair}
 use Rattle.model.specs.Block.{padTo}
 use Rattle.blocks.specs.Rows.{length-pairRow}
+use Rattle.model.specs.Layout.{dataAt, dataRoom, mostData, packetsAt, pairSize, silentAt, spareSize, ticksAt, timesSize, windowSize, windowedSize}
 
--- a pair's key, its window from the packets on, and all that follows the key, with the zeros behind it
+-- a pair's key, its window from the packets on, and all that follows the key, with zeros behind the data up to a room
 abbrev pub keyOf : Pair → List ℕ
 keyOf q = q .handle ∷ q .kind ∷ q .address
 
+abbrev pub windowIn : ℕ → ℕ → ℕ → ℕ → List ℕ → List ℕ
+windowIn room packets sum event adv =
+    octetsOf 4 packets ++ (octetsOf 8 sum ++ (event ∷ length adv ∷ (adv ++ replicate (room - length adv) 0)))
+
 abbrev pub windowOf : ℕ → ℕ → ℕ → List ℕ → List ℕ
-windowOf packets sum event adv =
-    octetsOf 4 packets ++ (octetsOf 8 sum ++ (event ∷ length adv ∷ (adv ++ replicate (31 - length adv) 0)))
+windowOf packets sum event adv = windowIn mostData packets sum event adv
+
+abbrev pub timesIn : ℕ → Pair → List ℕ
+timesIn room q = octetsOf 2 (q .silent) ++ (q .ticks ∷ windowIn room (q .packets) (q .sum) (q .event) (q .adv))
 
 abbrev pub timesOf : Pair → List ℕ
-timesOf q = octetsOf 2 (q .silent) ++ (q .ticks ∷ windowOf (q .packets) (q .sum) (q .event) (q .adv))
+timesOf q = timesIn dataRoom q
 
-pub place-split : (q : Pair) → length (q .address) ≡ 6 → padTo 56 (pairRow q) ≡ keyOf q ++ timesOf q
+pub place-split : (q : Pair) → length (q .address) ≡ 6 → padTo pairSize (pairRow q) ≡ keyOf q ++ timesOf q
 unfolding padTo pairRow octetsOf
 place-split q h =
-    let n : length (pairRow q) ≡ 25 + length (q .adv) = length-pairRow q h in
-    let e : 56 - length (pairRow q) ≡ 31 - length (q .adv) = omega arith in
+    let n : length (pairRow q) ≡ dataAt + length (q .adv) = length-pairRow q h in
+    let e : pairSize - length (pairRow q) ≡ dataRoom - length (q .adv) = omega arith in
     ap (λ (k : ℕ). pairRow q ++ replicate k 0) e
-    ∙ ap (λ (l : List ℕ). q .handle ∷ q .kind ∷ l) (append-assoc (q .address) _ (replicate (31 - length (q .adv)) 0))
+    ∙ ap (λ (l : List ℕ). q .handle ∷ q .kind ∷ l) (append-assoc (q .address) _ (replicate (dataRoom - length (q .adv)) 0))
+
+-- the octets that no field has
+spare : List ℕ
+spare = replicate spareSize 0
+
+times-split : (q : Pair) → length (q .adv) ≤ mostData → timesOf q ≡ timesIn mostData q ++ spare
+unfolding octetsOf spare
+times-split q l =
+    let e : dataRoom - length (q .adv) ≡ mostData - length (q .adv) + spareSize = omega arith in
+    ap (λ (x : List ℕ). octetsOf 2 (q .silent) ++ (q .ticks ∷ (octetsOf 4 (q .packets) ++ (octetsOf 8 (q .sum)
+    ++ (q .event ∷ length (q .adv) ∷ x)))))
+    (ap (λ (k : ℕ). q .adv ++ replicate k 0) e
+    ∙ ap (λ (z : List ℕ). q .adv ++ z) (sym (replicate-append-replicate (mostData - length (q .adv)) spareSize 0))
+    ∙ sym (append-assoc (q .adv) (replicate (mostData - length (q .adv)) 0) (replicate spareSize 0)))
 
 -- a write behind the key
 put-times : (q p : Pair) → length (q .address) ≡ 6 → length (p .address) ≡ 6 → keyOf q ≡ keyOf p → (i : ℕ) (ys : List ℕ)
-    → put (timesOf q) i ys ≡ timesOf p → put (padTo 56 (pairRow q)) (8 + i) ys ≡ padTo 56 (pairRow p)
+    → put (timesOf q) i ys ≡ timesOf p → put (padTo pairSize (pairRow q)) (8 + i) ys ≡ padTo pairSize (pairRow p)
 put-times q p h g k i ys e =
     let z : 8 + i ≡ length (keyOf q) + i = omega arith in
     ap (λ (l : List ℕ). put l (8 + i) ys) (place-split q h)
@@ -45,11 +66,11 @@ put-times q p h g k i ys e =
     ∙ ap (λ (l : List ℕ). l ++ timesOf p) k
     ∙ sym (place-split p g)
 
-pub length-window : (packets sum event : ℕ) (adv : List ℕ) → length adv ≤ 31
-    → length (windowOf packets sum event adv) ≡ 45
+pub length-window : (packets sum event : ℕ) (adv : List ℕ) → length adv ≤ mostData
+    → length (windowOf packets sum event adv) ≡ windowSize
 length-window packets sum event adv h = simp (length-append, length-octets, length-replicate) (omega arith)
 
-length-times : (q : Pair) → length (q .adv) ≤ 31 → length (timesOf q) ≡ 48
+length-times : (q : Pair) → length (q .adv) ≤ mostData → length (timesIn mostData q) ≡ timesSize
 length-times q h = simp (length-append, length-octets, length-replicate) (omega arith)
 
 -- a write up to the end
@@ -57,36 +78,45 @@ put-end : (xs : List ℕ) (at : ℕ) (ys : List ℕ) → length xs ≤ at + leng
 unfolding put
 put-end xs at ys h = rw (drop-of-length-le xs {i = at + length ys} h) (append-nil (take at xs ++ ys))
 
+-- a write from a field to the end of the data
+put-last : (q p : Pair) → length (q .adv) ≤ mostData → length (p .adv) ≤ mostData → (i : ℕ) (ys : List ℕ) → i + length ys ≡ timesSize
+    → take i (timesIn mostData q) ++ ys ≡ timesIn mostData p → put (timesOf q) i ys ≡ timesOf p
+put-last q p l k i ys b e =
+    let n : length (timesIn mostData q) ≡ timesSize = length-times q l in
+    ap (λ (x : List ℕ). put x i ys) (times-split q l)
+    ∙ put-left (timesIn mostData q) spare i ys (omega arith)
+    ∙ ap (λ (x : List ℕ). x ++ spare) (put-end (timesIn mostData q) i ys (omega arith) ∙ e)
+    ∙ sym (times-split p k)
+
 module _ (q : Pair) (h : length (q .address) ≡ 6) where
   -- the ticks since a good packet, the ticks in the window
-  pub put-silent : (n : ℕ) → put (padTo 56 (pairRow q)) 8 (octetsOf 2 n) ≡ padTo 56 (pairRow (withSilent q n))
+  pub put-silent : (n : ℕ) → put (padTo pairSize (pairRow q)) silentAt (octetsOf 2 n) ≡ padTo pairSize (pairRow (withSilent q n))
   unfolding put octetsOf withSilent
   put-silent n = put-times q (withSilent q n) h h refl 0 (octetsOf 2 n) refl
 
-  pub put-ticks : (n : ℕ) → put (padTo 56 (pairRow q)) 10 (n ∷ []) ≡ padTo 56 (pairRow (withTicks q n))
+  pub put-ticks : (n : ℕ) → put (padTo pairSize (pairRow q)) ticksAt (n ∷ []) ≡ padTo pairSize (pairRow (withTicks q n))
   unfolding put octetsOf withTicks
   put-ticks n = put-times q (withTicks q n) h h refl 2 (n ∷ []) refl
 
   -- the window from the packets on: one packet more; an empty window
-  pub put-gathered : (p : Packet) → length (q .adv) ≤ 31 → length (p .adv) ≤ 31
-      → put (padTo 56 (pairRow q)) 11 (windowOf (q .packets + 1) (addRssi (q .sum) (p .rssi)) (p .event) (p .adv))
-      ≡ padTo 56 (pairRow (gathered p q))
+  pub put-gathered : (p : Packet) → length (q .adv) ≤ mostData → length (p .adv) ≤ mostData
+      → put (padTo pairSize (pairRow q)) packetsAt (windowOf (q .packets + 1) (addRssi (q .sum) (p .rssi)) (p .event) (p .adv))
+      ≡ padTo pairSize (pairRow (gathered p q))
   unfolding gathered octetsOf
   put-gathered p l k =
       let w : List ℕ = windowOf (q .packets + 1) (addRssi (q .sum) (p .rssi)) (p .event) (p .adv) in
-      let a : length w ≡ 45 = length-window (q .packets + 1) (addRssi (q .sum) (p .rssi)) (p .event) (p .adv) k in
-      let b : length (timesOf q) ≡ 48 = length-times q l in
-      put-times q (gathered p q) h h refl 3 w (put-end (timesOf q) 3 w (omega arith))
+      let a : length w ≡ windowSize = length-window (q .packets + 1) (addRssi (q .sum) (p .rssi)) (p .event) (p .adv) k in
+      put-times q (gathered p q) h h refl 3 w (put-last q (gathered p q) l k 3 w (omega arith) refl)
 
-  pub put-emptied : length (q .adv) ≤ 31
-      → put (padTo 56 (pairRow q)) 10 (replicate 46 0) ≡ padTo 56 (pairRow (emptied q))
+  pub put-emptied : length (q .adv) ≤ mostData
+      → put (padTo pairSize (pairRow q)) ticksAt (replicate windowedSize 0) ≡ padTo pairSize (pairRow (emptied q))
   unfolding emptied octetsOf
   put-emptied l =
-      let b : length (timesOf q) ≡ 48 = length-times q l in
-      put-times q (emptied q) h h refl 2 (replicate 46 0) (put-end (timesOf q) 2 (replicate 46 0) (omega arith))
+      put-times q (emptied q) h h refl 2 (replicate windowedSize 0)
+      (put-last q (emptied q) l (omega arith) 2 (replicate windowedSize 0) (omega arith) refl)
 
 -- a pair at its start: its key over an empty row
 pub put-start : (n : ℕ) (p : Packet) → length (p .address) ≡ 6
-    → put (replicate 56 0) 0 (n ∷ p .kind ∷ p .address) ≡ padTo 56 (pairRow (startPair n p))
+    → put (replicate pairSize 0) 0 (n ∷ p .kind ∷ p .address) ≡ padTo pairSize (pairRow (startPair n p))
 unfolding put startPair octetsOf
 put-start n p h = rw h (sym (place-split (startPair n p) h))

@@ -14,6 +14,7 @@ use Rattle.blocks.specs.Tables.{from}
 use Rattle.blocks.specs.Pairs.{pairPlaces}
 use Rattle.blocks.specs.Block.{Measured, measured, padded-held, sound-held, getD-count, take-pairs, row-monitors}
 use Rattle.blocks.specs.Block.{table-monitors, row-pairs, row-pairs-zero, table-pairs, read-count}
+use Rattle.model.specs.Layout.{countAt, monitorSize, monitorsAt, mostMonitors, mostPairs, pairSize, pairsAt, pairsSize, prefixLengthAt}
 
 module _ (s : List ℕ) (e : sound s ≡ true) where
   pub held-facts-of : SoundModel (held s)
@@ -23,32 +24,32 @@ module _ (s : List ℕ) (e : sound s ≡ true) where
   held-measured = measured (held s) (sound-held s e)
 
   -- the number of octets of the prefix, the number of pairs
-  pub held-prefix-count : getD s 7 0 ≡ length (held s .prefix)
+  pub held-prefix-count : getD s prefixLengthAt 0 ≡ length (held s .prefix)
   held-prefix-count = ap (λ (l : List ℕ). getD l 7 0) (sym (padded-held s e)) ∙ read-count (held s)
 
-  pub held-count : getD s 4760 0 ≡ length (held s .pairs)
-  held-count = ap (λ (l : List ℕ). getD l 4760 0) (sym (padded-held s e)) ∙ getD-count (held s) held-measured
+  pub held-count : getD s countAt 0 ≡ length (held s .pairs)
+  held-count = ap (λ (l : List ℕ). getD l countAt 0) (sym (padded-held s e)) ∙ getD-count (held s) held-measured
 
   -- the rows of a handle, of a pair, behind the pairs
-  pub held-monitor : (h : ℕ) → h < 16 → row 71 h (drop 40 s) ≡ monitorPlace h (find (held s .mons) h)
+  pub held-monitor : (h : ℕ) → h < mostMonitors → row monitorSize h (drop monitorsAt s) ≡ monitorPlace h (find (held s .mons) h)
   held-monitor h b =
-      ap (λ (l : List ℕ). row 71 h (drop 40 l)) (sym (padded-held s e)) ∙ row-monitors (held s) held-measured h b
+      ap (λ (l : List ℕ). row monitorSize h (drop monitorsAt l)) (sym (padded-held s e)) ∙ row-monitors (held s) held-measured h b
 
   pub held-pair : (i : ℕ) (d : Pair) → i < length (held s .pairs)
-      → row 56 i (drop 1176 s) ≡ padTo 56 (pairRow (getD (held s .pairs) i d))
+      → row pairSize i (drop pairsAt s) ≡ padTo pairSize (pairRow (getD (held s .pairs) i d))
   held-pair i d b =
-      ap (λ (l : List ℕ). row 56 i (drop 1176 l)) (sym (padded-held s e)) ∙ row-pairs (held s) held-measured i d b
+      ap (λ (l : List ℕ). row pairSize i (drop pairsAt l)) (sym (padded-held s e)) ∙ row-pairs (held s) held-measured i d b
 
-  pub held-zero : (i : ℕ) → length (held s .pairs) ≤ i → i < 64 → row 56 i (drop 1176 s) ≡ replicate 56 0
+  pub held-zero : (i : ℕ) → length (held s .pairs) ≤ i → i < mostPairs → row pairSize i (drop pairsAt s) ≡ replicate pairSize 0
   held-zero i b c =
-      ap (λ (l : List ℕ). row 56 i (drop 1176 l)) (sym (padded-held s e)) ∙ row-pairs-zero (held s) held-measured i b c
+      ap (λ (l : List ℕ). row pairSize i (drop pairsAt l)) (sym (padded-held s e)) ∙ row-pairs-zero (held s) held-measured i b c
 
   -- the tables, and the pair part
-  pub held-monitors : monitorTable s ≡ from (λ h. monitorPlace h (find (held s .mons) h)) 0 16
+  pub held-monitors : monitorTable s ≡ from (λ h. monitorPlace h (find (held s .mons) h)) 0 mostMonitors
   held-monitors = ap monitorTable (sym (padded-held s e)) ∙ table-monitors (held s) held-measured
 
   pub held-pairs : pairTable s ≡ pairPlaces (held s .pairs)
   held-pairs = ap pairTable (sym (padded-held s e)) ∙ table-pairs (held s) held-measured
 
-  pub held-part : take 3584 (drop 1176 s) ≡ pairBlock (held s .pairs)
-  held-part = ap (λ (l : List ℕ). take 3584 (drop 1176 l)) (sym (padded-held s e)) ∙ take-pairs (held s) held-measured
+  pub held-part : take pairsSize (drop pairsAt s) ≡ pairBlock (held s .pairs)
+  held-part = ap (λ (l : List ℕ). take pairsSize (drop pairsAt l)) (sym (padded-held s e)) ∙ take-pairs (held s) held-measured

@@ -17,19 +17,20 @@ use Rattle.rule.specs.Base.{All}
 use Rattle.rule.specs.Engine.{find, insert, remove}
 use Rattle.rule.specs.Finds.{find-all, find-above, find-insert-same, find-insert-other, find-remove-same}
 use Rattle.rule.specs.Finds.{find-remove-other, all-insert, all-remove}
-use Rattle.model.specs.Types.{Monitor, mostMonitors}
+use Rattle.model.specs.Types.{Monitor}
 use Rattle.model.specs.Accepted.{Accepted, accepted}
 use Rattle.model.specs.Image.{monitorRow, monitorIn}
-use Rattle.model.specs.Block.{padTo, monitorSize, monitorPlace, monitorBlock, inUse}
+use Rattle.model.specs.Block.{padTo, monitorPlace, monitorBlock, inUse}
 use Rattle.blocks.specs.Rows.{length-monitorRow, length-padTo, monitorIn-row, padTo-octets, octets-zeros}
 use Rattle.blocks.specs.Rows.{octets-append}
 use Rattle.blocks.specs.Facts.{SoundMonitor, SoundMonitors, monitors-tail, monitors-from, monitors-over}
 use Rattle.blocks.specs.Bounds.{sound-monitorRow}
 use Rattle.blocks.specs.Tables.{from, length-places, row-places, rows-places, put-places}
+use Rattle.model.specs.Layout.{monitorSize, monitorsSize, mostCondition, mostMonitors}
 
 -- conditions of at most 64 octets: what the rows have room for
 abbrev pub Short : List (ℕ × Monitor) → Type 0
-Short l = All (λ x. length (x .1 .condition) ≤ 64) l
+Short l = All (λ x. length (x .1 .condition) ≤ mostCondition) l
 
 short-of : (l : List (ℕ × Monitor)) → All (λ x. SoundMonitor (x .1)) l → Short l
 short-of [] a = tt
@@ -43,35 +44,35 @@ abbrev pub placeIn : List (ℕ × Monitor) → ℕ → List ℕ
 placeIn l h = monitorPlace h (find l h)
 
 -- every row has 71 octets
-pub length-full : (x : ℕ × Monitor) → length (x .1 .condition) ≤ 64 → length (padTo 71 (monitorRow x)) ≡ 71
-length-full x s = let n = length-monitorRow x in length-padTo 71 (monitorRow x) (omega arith)
+pub length-full : (x : ℕ × Monitor) → length (x .1 .condition) ≤ mostCondition → length (padTo monitorSize (monitorRow x)) ≡ monitorSize
+length-full x s = let n = length-monitorRow x in length-padTo monitorSize (monitorRow x) (omega arith)
 
-pub length-place : (l : List (ℕ × Monitor)) → Short l → (h : ℕ) → length (placeIn l h) ≡ 71
-unfolding monitorPlace monitorSize
+pub length-place : (l : List (ℕ × Monitor)) → Short l → (h : ℕ) → length (placeIn l h) ≡ monitorSize
+unfolding monitorPlace
 length-place l s h = go (find l h) refl
   where
-    go : (o : Option Monitor) → find l h ≡ o → length (monitorPlace h o) ≡ 71
+    go : (o : Option Monitor) → find l h ≡ o → length (monitorPlace h o) ≡ monitorSize
     go none e = refl
-    go (some m) e = length-full (h, m) (find-all (λ x. length (x .1 .condition) ≤ 64) l h m s e)
+    go (some m) e = length-full (h, m) (find-all (λ x. length (x .1 .condition) ≤ mostCondition) l h m s e)
 
 -- the table: 16 rows, the row of handle h at place h
-pub length-monitorBlock : (l : List (ℕ × Monitor)) → Short l → length (monitorBlock l) ≡ 1136
-unfolding monitorBlock mostMonitors
-length-monitorBlock l s = length-places (placeIn l) 71 (length-place l s) 16
+pub length-monitorBlock : (l : List (ℕ × Monitor)) → Short l → length (monitorBlock l) ≡ monitorsSize
+unfolding monitorBlock
+length-monitorBlock l s = length-places (placeIn l) monitorSize (length-place l s) mostMonitors
 
-pub row-monitorBlock : (l : List (ℕ × Monitor)) → Short l → (t : List ℕ) (h : ℕ) → h < 16
-    → row 71 h (monitorBlock l ++ t) ≡ monitorPlace h (find l h)
-unfolding monitorBlock mostMonitors
-row-monitorBlock l s t h b = row-places (placeIn l) 71 (length-place l s) 16 t h b
+pub row-monitorBlock : (l : List (ℕ × Monitor)) → Short l → (t : List ℕ) (h : ℕ) → h < mostMonitors
+    → row monitorSize h (monitorBlock l ++ t) ≡ monitorPlace h (find l h)
+unfolding monitorBlock
+row-monitorBlock l s t h b = row-places (placeIn l) monitorSize (length-place l s) mostMonitors t h b
 
 pub rows-monitorBlock : (l : List (ℕ × Monitor)) → Short l → (t : List ℕ)
-    → rows 71 16 (monitorBlock l ++ t) ≡ from (λ h. monitorPlace h (find l h)) 0 16
-unfolding monitorBlock mostMonitors
-rows-monitorBlock l s t = rows-places (placeIn l) 71 (length-place l s) 16 t
+    → rows monitorSize mostMonitors (monitorBlock l ++ t) ≡ from (λ h. monitorPlace h (find l h)) 0 mostMonitors
+unfolding monitorBlock
+rows-monitorBlock l s t = rows-places (placeIn l) monitorSize (length-place l s) mostMonitors t
 
 -- a row is in use exactly where a monitor stands in it
 pub inUse-none : (h : ℕ) → inUse (monitorPlace h none) ≡ false
-unfolding inUse monitorPlace monitorSize
+unfolding inUse monitorPlace
 inUse-none h = refl
 
 pub inUse-some : (h : ℕ) (m : Monitor) → SoundMonitor m → inUse (monitorPlace h (some m)) ≡ true
@@ -85,7 +86,7 @@ unfolding monitorPlace padTo
 monitorIn-some h m = monitorIn-row (h, m) (replicate (monitorSize - length (monitorRow (h, m))) 0)
 
 -- the monitors read from the rows of handles k on
-read-from : (l : List (ℕ × Monitor)) (n k : ℕ) (r : List (ℕ × Monitor)) → k + n ≡ 16 → SoundMonitors k r
+read-from : (l : List (ℕ × Monitor)) (n k : ℕ) (r : List (ℕ × Monitor)) → k + n ≡ mostMonitors → SoundMonitors k r
     → ((h : ℕ) → k ≤ h → find l h ≡ find r h)
     → map monitorIn (keep inUse (from (λ h. monitorPlace h (find l h)) k n)) ≡ r
 unfolding from keep only
@@ -122,8 +123,8 @@ read-from l (suc n) k (x ∷ r) e f q =
 
 -- the monitors read from the table are those that it was written from
 pub monitors-read : (l : List (ℕ × Monitor)) → SoundMonitors 0 l → (t : List ℕ)
-    → map monitorIn (keep inUse (rows 71 16 (monitorBlock l ++ t))) ≡ l
-monitors-read l f t = rw (rows-monitorBlock l (mons-short 0 l f) t) (read-from l 16 0 l refl f (λ h b. refl))
+    → map monitorIn (keep inUse (rows monitorSize mostMonitors (monitorBlock l ++ t))) ≡ l
+monitors-read l f t = rw (rows-monitorBlock l (mons-short 0 l f) t) (read-from l mostMonitors 0 l refl f (λ h b. refl))
 
 -- the table is octets
 every-places : (f : ℕ → List ℕ) (k : ℕ) → ((i : ℕ) → i < k → every isOctet (f i) ≡ true)
@@ -134,38 +135,38 @@ every-places f (suc k) h =
     octets-append (upTo f k) (f k) (every-places f k (λ i b. h i (omega arith))) (h k (omega arith))
 
 pub monitorBlock-octets : (l : List (ℕ × Monitor)) → SoundMonitors 0 l → every isOctet (monitorBlock l) ≡ true
-unfolding monitorBlock monitorPlace mostMonitors
-monitorBlock-octets l f = every-places (placeIn l) 16 (λ h b. go h b (find l h) refl)
+unfolding monitorBlock monitorPlace
+monitorBlock-octets l f = every-places (placeIn l) mostMonitors (λ h b. go h b (find l h) refl)
   where
-    go : (h : ℕ) → h < 16 → (o : Option Monitor) → find l h ≡ o → every isOctet (monitorPlace h o) ≡ true
+    go : (h : ℕ) → h < mostMonitors → (o : Option Monitor) → find l h ≡ o → every isOctet (monitorPlace h o) ≡ true
     go h b none e = octets-zeros monitorSize
     go h b (some m) e =
         padTo-octets monitorSize (monitorRow (h, m)) (sound-monitorRow (h, m) (omega arith)
         (find-all (λ x. SoundMonitor (x .1)) l h m (f .monitors) e))
 
 -- a row written in the table: the table of other monitors, where these agree at every other handle
-pub put-monitorBlock : (l r : List (ℕ × Monitor)) → Short l → Short r → (h : ℕ) → h < 16
+pub put-monitorBlock : (l r : List (ℕ × Monitor)) → Short l → Short r → (h : ℕ) → h < mostMonitors
     → ((g : ℕ) → (g ≡ h → ⊥) → find r g ≡ find l g)
-    → put (monitorBlock l) (71 * h) (monitorPlace h (find r h)) ≡ monitorBlock r
-unfolding monitorBlock mostMonitors
+    → put (monitorBlock l) (monitorSize * h) (monitorPlace h (find r h)) ≡ monitorBlock r
+unfolding monitorBlock
 put-monitorBlock l r s t h b q =
-    put-places (placeIn l) (placeIn r) 71 (length-place l s) 16 h b (length-place r t h)
+    put-places (placeIn l) (placeIn r) monitorSize (length-place l s) mostMonitors h b (length-place r t h)
     (λ j c n. ap (monitorPlace j) (sym (q j n)))
 
 -- a monitor's row written, and a row cleared
-pub put-insert : (l : List (ℕ × Monitor)) → Short l → (h : ℕ) (x : Monitor) → h < 16 → length (x .condition) ≤ 64
+pub put-insert : (l : List (ℕ × Monitor)) → Short l → (h : ℕ) (x : Monitor) → h < mostMonitors → length (x .condition) ≤ mostCondition
     → find l h ≡ none
-    → put (monitorBlock l) (71 * h) (padTo 71 (monitorRow (h, x))) ≡ monitorBlock (insert h x l)
-unfolding monitorPlace monitorSize
+    → put (monitorBlock l) (monitorSize * h) (padTo monitorSize (monitorRow (h, x))) ≡ monitorBlock (insert h x l)
+unfolding monitorPlace
 put-insert l s h x b c e =
     rw (find-insert-same h x l e) at (
-    put-monitorBlock l (insert h x l) s (all-insert (λ y. length (y .1 .condition) ≤ 64) h x l c s) h b
+    put-monitorBlock l (insert h x l) s (all-insert (λ y. length (y .1 .condition) ≤ mostCondition) h x l c s) h b
     (λ g n. find-insert-other h g x l (λ i. n (sym i))))
 
-pub put-remove : (l : List (ℕ × Monitor)) → Short l → (h : ℕ) → h < 16
-    → put (monitorBlock l) (71 * h) (replicate 71 0) ≡ monitorBlock (remove h l)
-unfolding monitorPlace monitorSize
+pub put-remove : (l : List (ℕ × Monitor)) → Short l → (h : ℕ) → h < mostMonitors
+    → put (monitorBlock l) (monitorSize * h) (replicate monitorSize 0) ≡ monitorBlock (remove h l)
+unfolding monitorPlace
 put-remove l s h b =
     rw (find-remove-same h l) at (
-    put-monitorBlock l (remove h l) s (all-remove (λ y. length (y .1 .condition) ≤ 64) h l s) h b
+    put-monitorBlock l (remove h l) s (all-remove (λ y. length (y .1 .condition) ≤ mostCondition) h l s) h b
     (λ g n. find-remove-other h g l (λ i. n (sym i))))

@@ -16,13 +16,14 @@ use Rattle.octets.specs.Little.{octets-octets}
 use Rattle.model.specs.Types.{Model, Monitor, Pair}
 use Rattle.model.specs.Image.{headRow, monitorRow, pairRow, monitorIn, pairIn}
 use Rattle.model.specs.Block.{padTo}
+use Rattle.model.specs.Layout.{dataAt}
 
 -- lengths
 pub length-monitorRow : (x : ℕ × Monitor) → length (monitorRow x) ≡ 7 + length (x .1 .condition)
 unfolding monitorRow
 length-monitorRow x = omega arith
 
-pub length-pairRow : (q : Pair) → length (q .address) ≡ 6 → length (pairRow q) ≡ 25 + length (q .adv)
+pub length-pairRow : (q : Pair) → length (q .address) ≡ 6 → length (pairRow q) ≡ dataAt + length (q .adv)
 unfolding pairRow
 length-pairRow q h = simp (length-append, length-octets) (omega arith)
 

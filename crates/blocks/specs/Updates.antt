@@ -6,32 +6,42 @@ use mathlib.Core.List.{List, [], _∷_, _++_}
 use mathlib.Core.Option.{none}
 use native.Mathlib.Omega.{arith}
 use lib.ListN.{length, set, replicate}
-use Rattle.laws.specs.Put.{put, put-left, put-right}
+use borrow.Author.Tests.{le-leb}
+use Rattle.laws.specs.Put.{put, put-left, put-right, put-if-true}
 use Rattle.laws.specs.Rows.{put-whole}
-use Rattle.octets.specs.Little.{octetsOf}
+use Rattle.octets.specs.Little.{little, octetsOf}
 use Rattle.rule.specs.Base.{All}
 use Rattle.rule.specs.Engine.{find, insert, remove}
 use Rattle.rule.specs.Finds.{all-insert, all-remove}
 use Rattle.model.specs.Types.{Model, Monitor, Pair, withLists, withFilter, moved}
 use Rattle.model.specs.Image.{headRow, monitorRow}
-use Rattle.model.specs.Block.{headSize, padTo, monitorBlock, pairBlock, padded}
+use Rattle.model.specs.Block.{padTo, monitorBlock, pairBlock, padded, advanced}
 use Rattle.blocks.specs.Bounds.{Fits}
 use Rattle.blocks.specs.Monitors.{length-full, length-monitorBlock, put-insert, put-remove}
 use Rattle.blocks.specs.Pairs.{length-pairBlock}
-use Rattle.blocks.specs.Block.{Measured, tables, ending, length-head}
+use Rattle.blocks.specs.Block.{Measured, tables, ending, length-head, read-position}
+use Rattle.model.specs.Layout.{countAt, filterAt, headSize, monitorSize, monitorsAt, monitorsSize, mostCondition, mostMonitors, mostPairs, pairsAt, pairsSize, positionAt}
 
 -- one frame further
 pub put-position : (m : Model) → put (padded m) 0 (octetsOf 4 (m .position + 1)) ≡ padded (moved m)
-unfolding put padded padTo headSize headRow octetsOf moved
+unfolding put padded padTo headRow octetsOf moved
 put-position m = refl
 
+-- the same of a block with room for a position
+pub advanced-moved : (m : Model) (s : List ℕ) → s ≡ padded m → 4 ≤ length s → m .position < 4294967296
+    → advanced s ≡ padded (moved m)
+unfolding advanced
+advanced-moved m s q l h =
+    sym (put-if-true s positionAt (octetsOf 4 (little 4 s positionAt + 1)) (le-leb 4 (length s) l))
+    ∙ rw (q, read-position m h) (put-position m)
+
 -- another filter, stored or put
-pub put-filter : (m : Model) (on : ℕ) → put (padded m) 4 (on ∷ []) ≡ padded (withFilter m on)
-unfolding put padded padTo headSize headRow octetsOf withFilter
+pub put-filter : (m : Model) (on : ℕ) → put (padded m) filterAt (on ∷ []) ≡ padded (withFilter m on)
+unfolding put padded padTo headRow octetsOf withFilter
 put-filter m on = refl
 
-pub set-filter : (m : Model) (on : ℕ) → set (padded m) 4 on ≡ padded (withFilter m on)
-unfolding padded padTo headSize headRow octetsOf withFilter
+pub set-filter : (m : Model) (on : ℕ) → set (padded m) filterAt on ≡ padded (withFilter m on)
+unfolding padded padTo headRow octetsOf withFilter
 set-filter m on = refl
 
 -- rows keep room over every change of a state
@@ -44,13 +54,13 @@ unfolding withFilter
 measured-filter m f on =
     record { prefix-most = f .prefix-most; short = f .short; fit = f .fit; pairs-most = f .pairs-most }
 
-pub measured-insert : (m : Model) → Measured m → (h : ℕ) (x : Monitor) → length (x .condition) ≤ 64
+pub measured-insert : (m : Model) → Measured m → (h : ℕ) (x : Monitor) → length (x .condition) ≤ mostCondition
     → Measured (withLists m (insert h x (m .mons)) (m .pairs))
 unfolding withLists
 measured-insert m f h x c =
     record {
       prefix-most = f .prefix-most;
-      short = all-insert (λ y. length (y .1 .condition) ≤ 64) h x (m .mons) c (f .short);
+      short = all-insert (λ y. length (y .1 .condition) ≤ mostCondition) h x (m .mons) c (f .short);
       fit = f .fit;
       pairs-most = f .pairs-most;
     }
@@ -60,47 +70,47 @@ unfolding withLists
 measured-remove m f h =
     record {
       prefix-most = f .prefix-most;
-      short = all-remove (λ y. length (y .1 .condition) ≤ 64) h (m .mons) (f .short);
+      short = all-remove (λ y. length (y .1 .condition) ≤ mostCondition) h (m .mons) (f .short);
       fit = f .fit;
       pairs-most = f .pairs-most;
     }
 
-pub measured-pairs : (m : Model) → Measured m → (qs : List Pair) → All Fits qs → length qs ≤ 64
+pub measured-pairs : (m : Model) → Measured m → (qs : List Pair) → All Fits qs → length qs ≤ mostPairs
     → Measured (withLists m (m .mons) qs)
 unfolding withLists
 measured-pairs m f qs a h = record { prefix-most = f .prefix-most; short = f .short; fit = a; pairs-most = h }
 
 -- a write inside the monitor table
-pub put-monitors : (m : Model) → Measured m → (l : List (ℕ × Monitor)) (at : ℕ) (ys : List ℕ) → at + length ys ≤ 1136
+pub put-monitors : (m : Model) → Measured m → (l : List (ℕ × Monitor)) (at : ℕ) (ys : List ℕ) → at + length ys ≤ monitorsSize
     → put (monitorBlock (m .mons)) at ys ≡ monitorBlock l
-    → put (padded m) (40 + at) ys ≡ padded (withLists m l (m .pairs))
-unfolding padded headSize headRow withLists
+    → put (padded m) (monitorsAt + at) ys ≡ padded (withLists m l (m .pairs))
+unfolding padded headRow withLists
 put-monitors m f l at ys h e =
-    let n : length (padTo 40 (headRow m)) ≡ 40 = length-head m (f .prefix-most) in
-    let k : length (monitorBlock (m .mons)) ≡ 1136 = length-monitorBlock (m .mons) (f .short) in
-    let z : 40 + at ≡ length (padTo 40 (headRow m)) + at = omega arith in
+    let n : length (padTo headSize (headRow m)) ≡ headSize = length-head m (f .prefix-most) in
+    let k : length (monitorBlock (m .mons)) ≡ monitorsSize = length-monitorBlock (m .mons) (f .short) in
+    let z : monitorsAt + at ≡ length (padTo headSize (headRow m)) + at = omega arith in
     ap (λ (i : ℕ). put (padded m) i ys) z
-    ∙ put-right (padTo 40 (headRow m)) (tables m) at ys
-    ∙ ap (λ (x : List ℕ). padTo 40 (headRow m) ++ x) (put-left (monitorBlock (m .mons)) (ending m) at ys (omega arith))
-    ∙ ap (λ (x : List ℕ). padTo 40 (headRow m) ++ (x ++ ending m)) e
+    ∙ put-right (padTo headSize (headRow m)) (tables m) at ys
+    ∙ ap (λ (x : List ℕ). padTo headSize (headRow m) ++ x) (put-left (monitorBlock (m .mons)) (ending m) at ys (omega arith))
+    ∙ ap (λ (x : List ℕ). padTo headSize (headRow m) ++ (x ++ ending m)) e
 
-room : (h : ℕ) → h < 16 → 71 * h + 71 ≤ 1136
+room : (h : ℕ) → h < mostMonitors → monitorSize * h + monitorSize ≤ monitorsSize
 room h b = omega arith
 
 -- a monitor's row written at a handle not live, and a handle's row cleared
-pub put-monitor : (m : Model) → Measured m → (h : ℕ) (x : Monitor) → h < 16 → length (x .condition) ≤ 64
+pub put-monitor : (m : Model) → Measured m → (h : ℕ) (x : Monitor) → h < mostMonitors → length (x .condition) ≤ mostCondition
     → find (m .mons) h ≡ none
-    → put (padded m) (40 + 71 * h) (padTo 71 (monitorRow (h, x))) ≡ padded
+    → put (padded m) (monitorsAt + monitorSize * h) (padTo monitorSize (monitorRow (h, x))) ≡ padded
     (withLists m (insert h x (m .mons)) (m .pairs))
 put-monitor m f h x b c e =
-    let n : length (padTo 71 (monitorRow (h, x))) ≡ 71 = length-full (h, x) c in
-    put-monitors m f (insert h x (m .mons)) (71 * h) (padTo 71 (monitorRow (h, x))) (omega arith)
+    let n : length (padTo monitorSize (monitorRow (h, x))) ≡ monitorSize = length-full (h, x) c in
+    put-monitors m f (insert h x (m .mons)) (monitorSize * h) (padTo monitorSize (monitorRow (h, x))) (omega arith)
     (put-insert (m .mons) (f .short) h x b c e)
 
-pub clear-monitor : (m : Model) → Measured m → (h : ℕ) → h < 16
-    → put (padded m) (40 + 71 * h) (replicate 71 0) ≡ padded (withLists m (remove h (m .mons)) (m .pairs))
+pub clear-monitor : (m : Model) → Measured m → (h : ℕ) → h < mostMonitors
+    → put (padded m) (monitorsAt + monitorSize * h) (replicate monitorSize 0) ≡ padded (withLists m (remove h (m .mons)) (m .pairs))
 clear-monitor m f h b =
-    put-monitors m f (remove h (m .mons)) (71 * h) (replicate 71 0) (room h b) (put-remove (m .mons) (f .short) h b)
+    put-monitors m f (remove h (m .mons)) (monitorSize * h) (replicate monitorSize 0) (room h b) (put-remove (m .mons) (f .short) h b)
 
 -- a block with a number of pairs that may not be theirs: what stands between the two writes of an update
 unfoldable pub counted : Model → ℕ → List ℕ
@@ -111,18 +121,18 @@ unfolding counted padded
 counted-padded m = refl
 
 -- a write inside the pair table
-pub put-pairs : (m : Model) → Measured m → (c : ℕ) (qs : List Pair) (at : ℕ) (ys : List ℕ) → at + length ys ≤ 3584
+pub put-pairs : (m : Model) → Measured m → (c : ℕ) (qs : List Pair) (at : ℕ) (ys : List ℕ) → at + length ys ≤ pairsSize
     → put (pairBlock (m .pairs)) at ys ≡ pairBlock qs
-    → put (counted m c) (1176 + at) ys ≡ counted (withLists m (m .mons) qs) c
-unfolding counted headSize headRow withLists
+    → put (counted m c) (pairsAt + at) ys ≡ counted (withLists m (m .mons) qs) c
+unfolding counted headRow withLists
 put-pairs m f c qs at ys h e =
-    let u : List ℕ = padTo 40 (headRow m) in
+    let u : List ℕ = padTo headSize (headRow m) in
     let v : List ℕ = monitorBlock (m .mons) in
     let w : List ℕ = pairBlock (m .pairs) in
-    let a : length u ≡ 40 = length-head m (f .prefix-most) in
-    let b : length v ≡ 1136 = length-monitorBlock (m .mons) (f .short) in
-    let d : length w ≡ 3584 = length-pairBlock (m .pairs) (f .fit) (f .pairs-most) in
-    let z : 1176 + at ≡ length u + (length v + at) = omega arith in
+    let a : length u ≡ headSize = length-head m (f .prefix-most) in
+    let b : length v ≡ monitorsSize = length-monitorBlock (m .mons) (f .short) in
+    let d : length w ≡ pairsSize = length-pairBlock (m .pairs) (f .fit) (f .pairs-most) in
+    let z : pairsAt + at ≡ length u + (length v + at) = omega arith in
     ap (λ (i : ℕ). put (counted m c) i ys) z
     ∙ put-right u (v ++ (w ++ (c ∷ []))) (length v + at) ys
     ∙ ap (λ (x : List ℕ). u ++ x) (put-right v (w ++ (c ∷ [])) at ys)
@@ -130,42 +140,42 @@ put-pairs m f c qs at ys h e =
     ∙ ap (λ (x : List ℕ). u ++ (v ++ (x ++ (c ∷ [])))) e
 
 -- the number of pairs written
-pub put-count : (m : Model) → Measured m → (c d : ℕ) → put (counted m c) 4760 (d ∷ []) ≡ counted m d
-unfolding counted headSize put
+pub put-count : (m : Model) → Measured m → (c d : ℕ) → put (counted m c) countAt (d ∷ []) ≡ counted m d
+unfolding counted put
 put-count m f c d =
-    let u : List ℕ = padTo 40 (headRow m) in
+    let u : List ℕ = padTo headSize (headRow m) in
     let v : List ℕ = monitorBlock (m .mons) in
     let w : List ℕ = pairBlock (m .pairs) in
-    let a : length u ≡ 40 = length-head m (f .prefix-most) in
-    let b : length v ≡ 1136 = length-monitorBlock (m .mons) (f .short) in
-    let k : length w ≡ 3584 = length-pairBlock (m .pairs) (f .fit) (f .pairs-most) in
-    let z : 4760 ≡ length u + (length v + (length w + 0)) = omega arith in
+    let a : length u ≡ headSize = length-head m (f .prefix-most) in
+    let b : length v ≡ monitorsSize = length-monitorBlock (m .mons) (f .short) in
+    let k : length w ≡ pairsSize = length-pairBlock (m .pairs) (f .fit) (f .pairs-most) in
+    let z : countAt ≡ length u + (length v + (length w + 0)) = omega arith in
     ap (λ (i : ℕ). put (counted m c) i (d ∷ [])) z
     ∙ put-right u (v ++ (w ++ (c ∷ []))) (length v + (length w + 0)) (d ∷ [])
     ∙ ap (λ (x : List ℕ). u ++ x) (put-right v (w ++ (c ∷ [])) (length w + 0) (d ∷ []))
     ∙ ap (λ (x : List ℕ). u ++ (v ++ x)) (put-right w (c ∷ []) 0 (d ∷ []))
 
 -- the pair part and the number of pairs replaced
-pub put-lists : (m : Model) → Measured m → (qs : List Pair) → All Fits qs → length qs ≤ 64
-    → put (put (padded m) 1176 (pairBlock qs)) 4760 (length qs ∷ []) ≡ padded (withLists m (m .mons) qs)
+pub put-lists : (m : Model) → Measured m → (qs : List Pair) → All Fits qs → length qs ≤ mostPairs
+    → put (put (padded m) pairsAt (pairBlock qs)) countAt (length qs ∷ []) ≡ padded (withLists m (m .mons) qs)
 unfolding withLists
 put-lists m f qs a h =
-    let n : length (pairBlock qs) ≡ 3584 = length-pairBlock qs a h in
-    let k : length (pairBlock (m .pairs)) ≡ 3584 = length-pairBlock (m .pairs) (f .fit) (f .pairs-most) in
+    let n : length (pairBlock qs) ≡ pairsSize = length-pairBlock qs a h in
+    let k : length (pairBlock (m .pairs)) ≡ pairsSize = length-pairBlock (m .pairs) (f .fit) (f .pairs-most) in
     let w : Model = withLists m (m .mons) qs in
     let g : Measured w = measured-pairs m f qs a h in
-    let p : put (padded m) 1176 (pairBlock qs) ≡ counted w (length (m .pairs)) =
-    ap (λ (s : List ℕ). put s 1176 (pairBlock qs)) (sym (counted-padded m))
+    let p : put (padded m) pairsAt (pairBlock qs) ≡ counted w (length (m .pairs)) =
+    ap (λ (s : List ℕ). put s pairsAt (pairBlock qs)) (sym (counted-padded m))
     ∙ put-pairs m f (length (m .pairs)) qs 0 (pairBlock qs) (omega arith)
     (put-whole (pairBlock (m .pairs)) (pairBlock qs) (k ∙ sym n)) in
-    ap (λ (s : List ℕ). put s 4760 (length qs ∷ [])) p ∙ put-count w g (length (m .pairs)) (length qs)
+    ap (λ (s : List ℕ). put s countAt (length qs ∷ [])) p ∙ put-count w g (length (m .pairs)) (length qs)
     ∙ counted-padded w
 
 -- a monitor's row cleared and the pairs replaced: what a cancel leaves
-pub clear-lists : (m : Model) → Measured m → (h : ℕ) (qs : List Pair) → h < 16 → All Fits qs → length qs ≤ 64
-    → put (put (put (padded m) (40 + 71 * h) (replicate 71 0)) 1176 (pairBlock qs)) 4760 (length qs ∷ [])
+pub clear-lists : (m : Model) → Measured m → (h : ℕ) (qs : List Pair) → h < mostMonitors → All Fits qs → length qs ≤ mostPairs
+    → put (put (put (padded m) (monitorsAt + monitorSize * h) (replicate monitorSize 0)) pairsAt (pairBlock qs)) countAt (length qs ∷ [])
     ≡ padded (withLists m (remove h (m .mons)) qs)
 unfolding withLists
 clear-lists m f h qs b a n =
-    ap (λ (s : List ℕ). put (put s 1176 (pairBlock qs)) 4760 (length qs ∷ [])) (clear-monitor m f h b)
+    ap (λ (s : List ℕ). put (put s pairsAt (pairBlock qs)) countAt (length qs ∷ [])) (clear-monitor m f h b)
     ∙ put-lists (withLists m (remove h (m .mons)) (m .pairs)) (measured-remove m f h) qs a n

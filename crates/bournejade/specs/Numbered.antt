@@ -19,7 +19,7 @@ use Rattle.model.specs.Step.{act, actTyped, refusalTyped, stepTyped, answerType
 use Rattle.model.specs.Watch.{windowFull}
 use Rattle.model.specs.Engine.{engine, actBlock, onBlocks}
 use Rattle.model.specs.Block.{held}
-use Rattle.replays.specs.Into.{Reached, begun, reach, lineFrom, linesFrom, replayInto}
+use Rattle.replays.specs.Into.{Reached, begun, reach, lineFrom, linesWhile, replayWhile}
 use Rattle.engine.specs.Calls.{caseOf}
 
 -- whether a number is a refusal's
@@ -100,12 +100,20 @@ unfolding lineFrom
 known-line room (some k) r l e = e
 known-line room none r l e = known-reach r (length l) _ (known-answer (room - length (r .wrote)) (r .state) text l)
 
-known-lines : (room : ℕ) (r : Reached (List ℕ)) (ls : List (List ℕ)) → knownStop (r .stop) ≡ true
-    → knownStop (linesFrom engine room r ls .stop) ≡ true
-unfolding linesFrom
-known-lines room r [] e = e
-known-lines room r (l ∷ ls) e = known-lines room (lineFrom engine room (r .stop) r l) ls (known-line room (r .stop) r l e)
+known-lines : (goes : ℕ → Bool) (room : ℕ) (r : Reached (List ℕ)) (ls : List (List ℕ)) → knownStop (r .stop) ≡ true
+    → knownStop (linesWhile engine goes room r ls .stop) ≡ true
+unfolding linesWhile
+known-lines goes room r [] e = e
+known-lines goes room r (l ∷ ls) e =
+    go (goes (held (r .state) .position)) (known-lines goes room (lineFrom engine room (r .stop) r l) ls (known-line room (r .stop) r l e))
+  where
+    branch : Bool → Reached (List ℕ)
+    branch b = elim b [ true ↦ linesWhile engine goes room (lineFrom engine room (r .stop) r l) ls | false ↦ r ]
 
-pub known-replay : (room : ℕ) (s t : List ℕ) → knownStop (replayInto engine room s t .stop) ≡ true
-unfolding replayInto begun knownStop
-known-replay room s t = known-lines room (begun s) (cut t) refl
+    go : (b : Bool) → knownStop (linesWhile engine goes room (lineFrom engine room (r .stop) r l) ls .stop) ≡ true → knownStop (branch b .stop) ≡ true
+    go true h = h
+    go false h = e
+
+pub known-replay : (goes : ℕ → Bool) (room : ℕ) (s t : List ℕ) → knownStop (replayWhile engine goes room s t .stop) ≡ true
+unfolding replayWhile begun knownStop
+known-replay goes room s t = known-lines goes room (begun s) (cut t) refl

@@ -5,6 +5,7 @@ ghost use mathlib.Core.Path.{_≡_};
 ghost use lib.ListN.{length};
 ghost use Rattle.laws.specs.Tests.{pick};
 ghost use Rattle.lines.specs.Answers.{writeLine, afterWrite};
+ghost use Rattle.lines.specs.Frame.{lineRoom};
 ghost use Rattle.lines.specs.Hex.{textOf};
 ghost use Rattle.sessions.specs.Machine.{text as asText, octets as asOctets, answerRoom, saveRoom};
 ghost use Rattle.sessions.specs.Session.{answer, image};
@@ -12,14 +13,16 @@ ghost use Rattle.model.specs.Sound.{soundSettings};
 ghost use Rattle.model.specs.Image.{isImage};
 ghost use Rattle.model.specs.Block.{held};
 ghost use Rattle.model.specs.Engine.{engine, begin};
-ghost use Rattle.replays.specs.Into.{replayInto};
+ghost use Rattle.replays.specs.Into.{replayInto, replayTo};
 ghost use Rattle.engine.specs.Public.{blockIn};
 ghost use Rattle.bournejade.specs.Gives.{numberIn, countIn, stopNumber, startNumber, loadNumber, Gave, Replayed};
 use engine::Loaded;
+use engine::Ran;
 use engine::Stop;
 use lines::Wrote;
 use state::Start;
 use state::State;
+ghost use Rattle.model.specs.Layout.{blockSize};
 
 // 1.0.0: major, minor and patch in an octet each.
 const VERSION: u32 = 0x010000;
@@ -48,6 +51,16 @@ fn stopped(s: Stop) -> u8
         Stop::End => 0,
         Stop::Refused(x) => lines::number_of(x),
     }
+}
+
+// What a replay did: the number that is returned, how far it read, how much it wrote.
+fn read_told(ran: Ran, taken: &mut usize, wrote: &mut usize) -> u8
+    ensures { λ n. ⌜ (n ≡ stopNumber (ran .stop)) × (now (taken .exit) ≡ ran .taken) × (now (wrote .exit) ≡ ran .wrote) ⌝ }
+{
+    *taken = ran.taken;
+    *wrote = ran.wrote;
+    let stop = ran.stop;
+    stopped(stop)
 }
 
 // What settings and an image's text were answered, as a number.
@@ -80,7 +93,7 @@ pub extern "C" fn bournejade_version() -> u32
 // Octets of a state.
 #[no_mangle]
 pub extern "C" fn bournejade_state_size() -> usize
-    ensures { λ r. ⌜ r ≡ 4761 ⌝ }
+    ensures { λ r. ⌜ r ≡ blockSize ⌝ }
 {
     State::SIZE
 }
@@ -104,14 +117,14 @@ pub extern "C" fn bournejade_image_size() -> usize
 // Octets that the output of a line must have.
 #[no_mangle]
 pub extern "C" fn bournejade_line_size() -> usize
-    ensures { λ r. ⌜ r ≡ 527 ⌝ }
+    ensures { λ r. ⌜ r ≡ lineRoom ⌝ }
 {
     State::LINE
 }
 
 // Begins with settings: 0 and the fresh state, or 9 and the blank one.
 #[no_mangle]
-pub extern "C" fn bournejade_begin(state: &mut [u8; 4761], opcode: u16, prefix: &[u8]) -> u8
+pub extern "C" fn bournejade_begin(state: &mut [u8; State::SIZE], opcode: u16, prefix: &[u8]) -> u8
     ensures { λ r. ⌜ r ≡ pick (soundSettings opcode (now (prefix .entry))) 0 9 ⌝ }
     ensures { λ _. ⌜ now (state .exit) ≡ begin opcode (now (prefix .entry)) ⌝ }
 {
@@ -125,7 +138,7 @@ pub extern "C" fn bournejade_begin(state: &mut [u8; 4761], opcode: u16, prefix: 
 
 // The number of the last executed frame, as the block has it.
 #[no_mangle]
-pub extern "C" fn bournejade_position(state: &[u8; 4761]) -> u32
+pub extern "C" fn bournejade_position(state: &[u8; State::SIZE]) -> u32
     ensures { λ r. ⌜ r ≡ held (now (state .entry)) .position ⌝ }
 {
     octets::get32(state, 0)
@@ -134,7 +147,7 @@ pub extern "C" fn bournejade_position(state: &[u8; 4761]) -> u32
 // Gives a frame as octets: 0, or 7, 3, 4, 1, 2, 5, 6.
 #[no_mangle]
 pub extern "C" fn bournejade_submit(
-    state: &mut [u8; 4761],
+    state: &mut [u8; State::SIZE],
     frame: &[u8],
     out: &mut [u8],
     wrote: &mut usize,
@@ -148,7 +161,7 @@ pub extern "C" fn bournejade_submit(
 // Gives a frame as its line, with the same result.
 #[no_mangle]
 pub extern "C" fn bournejade_submit_line(
-    state: &mut [u8; 4761],
+    state: &mut [u8; State::SIZE],
     line: &[u8],
     out: &mut [u8],
     wrote: &mut usize,
@@ -172,7 +185,11 @@ pub extern "C" fn bournejade_write_line(frame: &[u8], out: &mut [u8], wrote: &mu
 
 // Saves the image's text: 0, or 7, 3.
 #[no_mangle]
-pub extern "C" fn bournejade_save(state: &[u8; 4761], out: &mut [u8], wrote: &mut usize) -> u8
+pub extern "C" fn bournejade_save(
+    state: &[u8; State::SIZE],
+    out: &mut [u8],
+    wrote: &mut usize,
+) -> u8
     ensures { λ r. ⌜ Gave (image engine (length (now (out .entry))) (now (state .entry))) (now (state .entry)) (now (out .entry)) (now (state .entry)) (now (out .exit)) (now (wrote .exit)) r ⌝ }
 {
     let r = engine::save(state, out);
@@ -181,7 +198,7 @@ pub extern "C" fn bournejade_save(state: &[u8; 4761], out: &mut [u8], wrote: &mu
 
 // Restores the state of an image's text: 0, or 10 and the blank state.
 #[no_mangle]
-pub extern "C" fn bournejade_restore(state: &mut [u8; 4761], image: &[u8]) -> u8
+pub extern "C" fn bournejade_restore(state: &mut [u8; State::SIZE], image: &[u8]) -> u8
     ensures { λ r. ⌜ r ≡ pick (isImage (now (image .entry))) 0 10 ⌝ }
     ensures { λ _. ⌜ now (state .exit) ≡ blockIn (isImage (now (image .entry))) (now (image .entry)) ⌝ }
 {
@@ -197,7 +214,7 @@ pub extern "C" fn bournejade_restore(state: &mut [u8; 4761], image: &[u8]) -> u8
 // it read, how much it wrote.
 #[no_mangle]
 pub extern "C" fn bournejade_replay(
-    state: &mut [u8; 4761],
+    state: &mut [u8; State::SIZE],
     journal: &[u8],
     out: &mut [u8],
     taken: &mut usize,
@@ -206,8 +223,21 @@ pub extern "C" fn bournejade_replay(
     ensures { λ r. ⌜ Replayed (replayInto engine (length (now (out .entry))) (now (state .entry)) (now (journal .entry))) (now (out .entry)) (now (state .exit)) (now (out .exit)) (now (taken .exit)) (now (wrote .exit)) r ⌝ }
 {
     let ran = engine::replay(state, journal, out);
-    *taken = ran.taken;
-    *wrote = ran.wrote;
-    let stop = ran.stop;
-    stopped(stop)
+    read_told(ran, taken, wrote)
+}
+
+// Replays up to the frame `last`: the same, but a further line is taken only while the position is below `last`.
+#[no_mangle]
+pub extern "C" fn bournejade_replay_to(
+    state: &mut [u8; State::SIZE],
+    last: u32,
+    journal: &[u8],
+    out: &mut [u8],
+    taken: &mut usize,
+    wrote: &mut usize,
+) -> u8
+    ensures { λ r. ⌜ Replayed (replayTo engine last (length (now (out .entry))) (now (state .entry)) (now (journal .entry))) (now (out .entry)) (now (state .exit)) (now (out .exit)) (now (taken .exit)) (now (wrote .exit)) r ⌝ }
+{
+    let ran = engine::replay_to(state, last, journal, out);
+    read_told(ran, taken, wrote)
 }

@@ -61,7 +61,13 @@ fn show(t: Tally) {
 }
 
 // A call that is lent this output.
-fn lending(block: &mut [u8; 4761], head: Head, octets: &[u8], out: &mut [u8], t: Tally) -> Tally {
+fn lending(
+    block: &mut [u8; State::SIZE],
+    head: Head,
+    octets: &[u8],
+    out: &mut [u8],
+    t: Tally,
+) -> Tally {
     if head.tag == OCTETS {
         return make::submit(block, octets, out, t);
     }
@@ -85,7 +91,7 @@ fn lending(block: &mut [u8; 4761], head: Head, octets: &[u8], out: &mut [u8], t:
 
 // A call that is lent the first n octets of an output.
 fn lend(
-    block: &mut [u8; 4761],
+    block: &mut [u8; State::SIZE],
     head: Head,
     octets: &[u8],
     out: &mut [u8],
@@ -99,7 +105,13 @@ fn lend(
 }
 
 // The call of a head and its octets.
-fn call(block: &mut [u8; 4761], head: Head, octets: &[u8], out: &mut [u8], t: Tally) -> Tally {
+fn call(
+    block: &mut [u8; State::SIZE],
+    head: Head,
+    octets: &[u8],
+    out: &mut [u8],
+    t: Tally,
+) -> Tally {
     if head.tag == START {
         return make::start(block, head.first, octets, t);
     }
@@ -114,7 +126,7 @@ fn call(block: &mut [u8; 4761], head: Head, octets: &[u8], out: &mut [u8], t: Ta
 
 // The call of a head whose octets stand at a text's start.
 fn call_of(
-    block: &mut [u8; 4761],
+    block: &mut [u8; State::SIZE],
     head: Head,
     text: &[u8],
     n: usize,
@@ -128,7 +140,7 @@ fn call_of(
 }
 
 // The end of a script: its image is saved and its line written, and the next begins with the blank state.
-fn finish(block: &mut [u8; 4761], out: &mut [u8], t: Tally) -> Tally {
+fn finish(block: &mut [u8; State::SIZE], out: &mut [u8], t: Tally) -> Tally {
     if out.len() < IMAGE {
         return seen::end();
     }
@@ -167,7 +179,7 @@ fn read_head(head: &[u8]) -> Head {
 }
 
 // Reads and makes one call, where there is one.
-fn next(block: &mut [u8; 4761], text: &mut [u8], out: &mut [u8], t: Tally) -> Tally {
+fn next(block: &mut [u8; State::SIZE], text: &mut [u8], out: &mut [u8], t: Tally) -> Tally {
     let mut octets = [0u8; HEAD];
     if !fill(&mut octets) {
         return seen::end();
@@ -184,7 +196,7 @@ fn next(block: &mut [u8; 4761], text: &mut [u8], out: &mut [u8], t: Tally) -> Ta
 }
 
 // Calls until the input ends. A proved loop has to end: it counts its turns down, from a number that no run uses up.
-fn run(block: &mut [u8; 4761], text: &mut [u8], out: &mut [u8]) {
+fn run(block: &mut [u8; State::SIZE], text: &mut [u8], out: &mut [u8]) {
     let mut t = seen::begin();
     let mut turns = u64::MAX;
     while turns > 0 && t.goes {

@@ -8,16 +8,16 @@ use state::Start;
 use state::State;
 
 // Octets of a block.
-const SIZE: usize = 4761;
+const SIZE: usize = State::SIZE;
 
 // The block of a state that a call returned is the next call's.
-fn hold(block: &mut [u8; 4761], state: State) {
+fn hold(block: &mut [u8; State::SIZE], state: State) {
     let held = state.block;
     parts::copy(block, 0, &held);
 }
 
 // Starts with settings.
-pub(super) fn start(block: &mut [u8; 4761], opcode: u16, prefix: &[u8], t: Tally) -> Tally {
+pub(super) fn start(block: &mut [u8; State::SIZE], opcode: u16, prefix: &[u8], t: Tally) -> Tally {
     let begun = State::fresh(opcode, prefix);
     let answer = begun.answer;
     let state = begun.state;
@@ -29,21 +29,31 @@ pub(super) fn start(block: &mut [u8; 4761], opcode: u16, prefix: &[u8], t: Tally
 }
 
 // Gives a frame as octets.
-pub(super) fn submit(block: &mut [u8; 4761], frame: &[u8], out: &mut [u8], t: Tally) -> Tally {
+pub(super) fn submit(
+    block: &mut [u8; State::SIZE],
+    frame: &[u8],
+    out: &mut [u8],
+    t: Tally,
+) -> Tally {
     seen::mark(out);
     let r = engine::submit(block, frame, out);
     seen::answered(t, out, r)
 }
 
 // Gives a frame as its line.
-pub(super) fn submit_line(block: &mut [u8; 4761], text: &[u8], out: &mut [u8], t: Tally) -> Tally {
+pub(super) fn submit_line(
+    block: &mut [u8; State::SIZE],
+    text: &[u8],
+    out: &mut [u8],
+    t: Tally,
+) -> Tally {
     seen::mark(out);
     let r = engine::submit_line(block, text, out);
     seen::answered(t, out, r)
 }
 
 // Saves an image.
-pub(super) fn save(block: &[u8; 4761], out: &mut [u8], t: Tally) -> Tally {
+pub(super) fn save(block: &[u8; State::SIZE], out: &mut [u8], t: Tally) -> Tally {
     seen::mark(out);
     let r = engine::save(block, out);
     seen::answered(t, out, r)
@@ -57,7 +67,7 @@ pub(super) fn write_line(frame: &[u8], out: &mut [u8], t: Tally) -> Tally {
 }
 
 // Restores an image: the number of the refusal, 0 for none.
-fn load(block: &mut [u8; 4761], text: &[u8]) -> u8 {
+fn load(block: &mut [u8; State::SIZE], text: &[u8]) -> u8 {
     let restored = engine::load(text);
     let answer = restored.answer;
     let state = restored.state;
@@ -69,12 +79,12 @@ fn load(block: &mut [u8; 4761], text: &[u8]) -> u8 {
 }
 
 // Restores an image.
-pub(super) fn restore(block: &mut [u8; 4761], text: &[u8], t: Tally) -> Tally {
+pub(super) fn restore(block: &mut [u8; State::SIZE], text: &[u8], t: Tally) -> Tally {
     seen::bare(t, load(block, text))
 }
 
 // Restores the image that was saved at an output's start. What is seen of it is the refusal alone.
-fn restore_saved(block: &mut [u8; 4761], out: &[u8], n: usize, t: Tally) -> Tally {
+fn restore_saved(block: &mut [u8; State::SIZE], out: &[u8], n: usize, t: Tally) -> Tally {
     if out.len() < n {
         return seen::closed(t, seen::took(seen::opened(t), out, n), 0);
     }
@@ -82,7 +92,7 @@ fn restore_saved(block: &mut [u8; 4761], out: &[u8], n: usize, t: Tally) -> Tall
 }
 
 // Saves an image and restores it.
-pub(super) fn fail_over(block: &mut [u8; 4761], out: &mut [u8], t: Tally) -> Tally {
+pub(super) fn fail_over(block: &mut [u8; State::SIZE], out: &mut [u8], t: Tally) -> Tally {
     seen::mark(out);
     let r = engine::save(block, out);
     match r {
@@ -103,7 +113,7 @@ fn after(at: usize, n: u8) -> usize {
 }
 
 // Lays one octet of a packed block: a 0 and a number stand for so many zeros, any other octet for itself.
-fn lay(block: &mut [u8; 4761], x: u8, p: Place) -> Place {
+fn lay(block: &mut [u8; State::SIZE], x: u8, p: Place) -> Place {
     let at = p.at;
     if p.zeros {
         return Place {
@@ -125,7 +135,7 @@ fn lay(block: &mut [u8; 4761], x: u8, p: Place) -> Place {
 }
 
 // Lays a packed block over zeros.
-fn unpack(block: &mut [u8; 4761], packed: &[u8]) {
+fn unpack(block: &mut [u8; State::SIZE], packed: &[u8]) {
     let mut p = Place {
         at: 0,
         zeros: false,
@@ -138,7 +148,7 @@ fn unpack(block: &mut [u8; 4761], packed: &[u8]) {
 }
 
 // Takes up a block, whatever its octets.
-pub(super) fn adopt(block: &mut [u8; 4761], packed: &[u8], t: Tally) -> Tally {
+pub(super) fn adopt(block: &mut [u8; State::SIZE], packed: &[u8], t: Tally) -> Tally {
     parts::fill(block, 0, SIZE, 0);
     unpack(block, packed);
     seen::bare(t, 0)

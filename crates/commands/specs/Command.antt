@@ -19,14 +19,15 @@ use Rattle.model.specs.Commands.{subOf, status, failure, commanded}
 use Rattle.model.specs.Events.{complete}
 use Rattle.model.specs.Step.{stepTyped, answerTyped}
 use Rattle.model.specs.Sound.{soundModel}
-use Rattle.model.specs.Block.{blockSize, padded}
-use Rattle.blocks.specs.Block.{padded-length, read-position}
-use Rattle.blocks.specs.Updates.{put-position}
+use Rattle.model.specs.Block.{padded, advanced}
+use Rattle.blocks.specs.Block.{padded-length}
+use Rattle.blocks.specs.Updates.{advanced-moved}
 use Rattle.steps.specs.Executed.{commanded-same}
 use Rattle.stepped.specs.Stepped.{Stepped}
 use Rattle.statuses.specs.Answers.{octet-at}
 use Rattle.commands.specs.Replies.{Replied}
 use Rattle.commands.specs.Ran.{Ran, ran-failed, opcode-at}
+use Rattle.model.specs.Layout.{blockSize, opcodeAt, positionAt}
 
 -- whether the block and the output have their lengths
 unfoldable pub fits : List ℕ → List ℕ → Bool
@@ -48,7 +49,7 @@ sub-is l n g e = sym (octet-at l 0 g) ∙ e
 -- every other sub-opcode
 pub other-failed : (m : Model) (s l out : List ℕ) {after wrote : List ℕ} {n o k : ℕ} → soundModel m ≡ true → s
     ≡ padded m
-    → o ≡ numberAt 2 s 5 → k ≡ numberAt 1 l 0 → (k ≡ 0 → ⊥) → (k ≡ 3 → ⊥) → (k ≡ 4 → ⊥) → (k ≡ 5 → ⊥) → after ≡ s
+    → o ≡ numberAt 2 s opcodeAt → k ≡ numberAt 1 l 0 → (k ≡ 0 → ⊥) → (k ≡ 3 → ⊥) → (k ≡ 4 → ⊥) → (k ≡ 5 → ⊥) → after ≡ s
     → Replied out wrote n (complete o (1 ∷ k ∷ [])) → Ran m l after out wrote n
 unfolding status failure subOf
 other-failed m s l out {after} {wrote} {n} {o} {k} e q p g a b c d w r =
@@ -62,31 +63,16 @@ other-failed m s l out {after} {wrote} {n} {o} {k} e q p g a b c d w r =
     ∙ ap (λ (x : ℕ). 1 ∷ x ∷ []) u in
     ran-failed m l out (λ (y : status m l ≡ 0). omega arith) f (w ∙ q) (rw (opcode-at m s e q p) at r)
 
--- the position, moved by one
-pub position-moved : (m : Model) (s : List ℕ) {s1 : List ℕ} {p : ℕ} {r : Bool} → s ≡ padded m → length s ≡ 4761
-    → m .position < 4294967295 → p ≡ numberAt 4 s 0
-    → (r ≡ leb (0 + 4) (length s)) × (s1 ≡ putIf r s 0 (octetsOf 4 (p + 1))) → s1 ≡ padded (moved m)
-position-moved m s {s1} {p} {r} q l h g w =
-    let n : p ≡ m .position =
-    number-of 4 s 0 g (omega arith) ∙ ap (λ (x : List ℕ). little 4 x 0) q ∙ read-position m (omega arith) in
-    put-of s 0 (octetsOf 4 (p + 1)) 4 (length s) (w .0) (omega arith) (w .1)
-    ∙ ap (λ (x : ℕ). put s 0 (octetsOf 4 (x + 1))) n ∙ ap (λ (x : List ℕ). put x 0 (octetsOf 4 (m .position + 1))) q
-    ∙ put-position m
-
--- a position that does not move: the last frame number is reached
-pub position-last : (m : Model) (s : List ℕ) {p : ℕ} {a : List ℕ} → s ≡ padded m → length s ≡ 4761
-    → m .position < 4294967295
-    → p ≡ numberAt 4 s 0 → p ≡ 4294967295 → a ≡ padded (moved m)
-position-last m s {p} q l h g z =
-    let n : p ≡ m .position =
-    number-of 4 s 0 g (omega arith) ∙ ap (λ (x : List ℕ). little 4 x 0) q ∙ read-position m (omega arith) in
-    absurd (omega arith)
+-- the position moved
+pub position-moved : (s : List ℕ) {t : List ℕ} → length s ≡ blockSize → t ≡ advanced s
+    → (m : Model) → s ≡ padded m → m .position < 4294967295 → t ≡ padded (moved m)
+position-moved s l e m q h = e ∙ advanced-moved m s q (omega arith) (omega arith)
 
 -- the whole: executed, then moved
-pub answered : (l s out : List ℕ) {s1 s2 wrote : List ℕ} {n : ℕ} → length s ≡ 4761 → 2880 ≤ length out
+pub answered : (l s out : List ℕ) {s1 s2 wrote : List ℕ} {n : ℕ} → length s ≡ blockSize → answerRoom ≤ length out
     → ((m : Model) → soundModel m ≡ true → s ≡ padded m → Ran m l s1 out wrote n)
     → ((m : Model) → s1 ≡ padded m → m .position < 4294967295 → s2 ≡ padded (moved m)) → Answered l s s2 out wrote n
-unfolding fits stepTyped answerTyped blockSize answerRoom lastNumber
+unfolding fits stepTyped answerTyped lastNumber
 answered l s out h b f g =
     record {
       stepped = λ m e q p r o.
@@ -97,18 +83,17 @@ answered l s out h b f g =
             octets = x .reply .octets;
             count = x .reply .count;
           };
-      refused = λ t. absurd (false≢true (sym t ∙ and-both (eq-eqb (length s) 4761 h) (le-leb 2880 (length out) b)));
+      refused = λ t. absurd (false≢true (sym t ∙ and-both (eq-eqb (length s) blockSize h) (le-leb answerRoom (length out) b)));
     }
 
 -- nothing done where a length is wrong
 module _ (l s out : List ℕ) where
-  pub wrong-block : (length s ≡ 4761 → ⊥) → Answered l s s out out 0
+  pub wrong-block : (length s ≡ blockSize → ⊥) → Answered l s s out out 0
   wrong-block h =
       record {
         stepped = λ m e q p r o. absurd (h (ap length q ∙ padded-length m e));
         refused = λ t. (refl, refl, refl);
       }
 
-  pub wrong-room : length out < 2880 → Answered l s s out out 0
-  unfolding answerRoom
+  pub wrong-room : length out < answerRoom → Answered l s s out out 0
   wrong-room h = record { stepped = λ m e q p r o. absurd (omega arith); refused = λ t. (refl, refl, refl) }

@@ -14,22 +14,23 @@ use Rattle.laws.specs.Tests.{pick, pick-true, pick-false, cases-le}
 use Rattle.laws.specs.Rows.{getD-row}
 use Rattle.rule.specs.Engine.{find, firstOr, slot, insert, insertAt}
 use Rattle.rule.specs.Finds.{slot-some}
-use Rattle.model.specs.Types.{Model, Monitor, withLists, mostMonitors}
+use Rattle.model.specs.Types.{Model, Monitor, withLists}
 use Rattle.model.specs.Image.{monitorRow}
 use Rattle.model.specs.Accepted.{Accepted, accepted}
 use Rattle.model.specs.Commands.{present, handleOr, newHandle, added}
-use Rattle.model.specs.Block.{padTo, monitorSize, monitorPlace, padded}
+use Rattle.model.specs.Block.{padTo, monitorPlace, padded}
 use Rattle.blocks.specs.Facts.{SoundModel}
 use Rattle.blocks.specs.Bounds.{live-handle, live-monitor}
 use Rattle.blocks.specs.Block.{sound-measured, row-monitors}
+use Rattle.model.specs.Layout.{headSize, intervalAt, intervalsAt, monitorSize, monitorsAt, mostMonitors}
 
 -- whether the monitor row of a handle is in use: its interval octet is not 0
 unfoldable pub busyAt : List ℕ → ℕ → Bool
-busyAt s h = not (eqb (getD s (43 + 71 * h) 0) 0)
+busyAt s h = not (eqb (getD s (intervalsAt + monitorSize * h) 0) 0)
 
 -- whether a handle is live; none above 15 is
 unfoldable pub liveAt : List ℕ → ℕ → Bool
-liveAt s h = pick (ltb h 16) (busyAt s h) false
+liveAt s h = pick (ltb h mostMonitors) (busyAt s h) false
 
 -- the lowest handle whose row is not in use, among the n from k on; k + n where there is none
 unfoldable pub lowest : List ℕ → ℕ → ℕ → ℕ
@@ -37,49 +38,49 @@ lowest s zero k = k
 lowest s (suc n) k = pick (busyAt s k) (lowest s n (suc k)) k
 
 -- the turns of the loop that looks for it
-module _ (s : List ℕ) (i : ℕ) (h : i < 16) (q : lowest s (16 - i) i ≡ lowest s 16 0) where
-  more : 16 - i ≡ suc (16 - (i + 1))
+module _ (s : List ℕ) (i : ℕ) (h : i < mostMonitors) (q : lowest s (mostMonitors - i) i ≡ lowest s mostMonitors 0) where
+  more : mostMonitors - i ≡ suc (mostMonitors - (i + 1))
   more = omega arith
 
-  pub lowest-taken : busyAt s i ≡ true → lowest s (16 - (i + 1)) (i + 1) ≡ lowest s 16 0
+  pub lowest-taken : busyAt s i ≡ true → lowest s (mostMonitors - (i + 1)) (i + 1) ≡ lowest s mostMonitors 0
   unfolding lowest
   lowest-taken e =
       let z : suc i ≡ i + 1 = omega arith in
-      sym (ap (λ (n : ℕ). lowest s n i) more ∙ pick-true _ i e ∙ ap (λ (k : ℕ). lowest s (16 - (i + 1)) k) z) ∙ q
+      sym (ap (λ (n : ℕ). lowest s n i) more ∙ pick-true _ i e ∙ ap (λ (k : ℕ). lowest s (mostMonitors - (i + 1)) k) z) ∙ q
 
-  pub lowest-free : busyAt s i ≡ false → i ≡ lowest s 16 0
+  pub lowest-free : busyAt s i ≡ false → i ≡ lowest s mostMonitors 0
   unfolding lowest
   lowest-free e = sym (ap (λ (n : ℕ). lowest s n i) more ∙ pick-false _ i e) ∙ q
 
-pub lowest-none : (s : List ℕ) (i : ℕ) → i ≡ 16 → lowest s (16 - i) i ≡ lowest s 16 0 → 16 ≡ lowest s 16 0
+pub lowest-none : (s : List ℕ) (i : ℕ) → i ≡ mostMonitors → lowest s (mostMonitors - i) i ≡ lowest s mostMonitors 0 → mostMonitors ≡ lowest s mostMonitors 0
 unfolding lowest
-lowest-none s i e q = sym (ap (λ (k : ℕ). lowest s (16 - k) k) e) ∙ q
+lowest-none s i e q = sym (ap (λ (k : ℕ). lowest s (mostMonitors - k) k) e) ∙ q
 
 -- the interval of what stands under a handle; 0 where nothing does
 unfoldable intervalOf : Option Monitor → ℕ
 intervalOf none = 0
 intervalOf (some x) = x .interval
 
-place-interval : (h : ℕ) (o : Option Monitor) → getD (monitorPlace h o) 3 0 ≡ intervalOf o
-unfolding monitorPlace monitorSize padTo monitorRow intervalOf
+place-interval : (h : ℕ) (o : Option Monitor) → getD (monitorPlace h o) intervalAt 0 ≡ intervalOf o
+unfolding monitorPlace padTo monitorRow intervalOf
 place-interval h none = refl
 place-interval h (some x) = refl
 
 -- slots as numbers; 16 where there is none
 unfoldable pub slotOr : Option ℕ → ℕ
-slotOr none = 16
+slotOr none = mostMonitors
 slotOr (some h) = h
 
 module _ (m : Model) (f : SoundModel m) where
-  interval-read : (h : ℕ) → h < 16 → getD (padded m) (43 + 71 * h) 0 ≡ intervalOf (find (m .mons) h)
+  interval-read : (h : ℕ) → h < mostMonitors → getD (padded m) (intervalsAt + monitorSize * h) 0 ≡ intervalOf (find (m .mons) h)
   interval-read h b =
-      let z : 43 + 71 * h ≡ 40 + (71 * h + 3) = omega arith in
-      ap (λ (i : ℕ). getD (padded m) i 0) z ∙ sym (getD-drop 40 (padded m) (71 * h + 3) 0)
-      ∙ sym (getD-row 71 h 3 (drop 40 (padded m)) 0 (omega arith))
-      ∙ ap (λ (r : List ℕ). getD r 3 0) (row-monitors m (sound-measured m f) h b) ∙ place-interval h (find (m .mons) h)
+      let z : intervalsAt + monitorSize * h ≡ monitorsAt + (monitorSize * h + 3) = omega arith in
+      ap (λ (i : ℕ). getD (padded m) i 0) z ∙ sym (getD-drop headSize (padded m) (monitorSize * h + 3) 0)
+      ∙ sym (getD-row monitorSize h 3 (drop monitorsAt (padded m)) 0 (omega arith))
+      ∙ ap (λ (r : List ℕ). getD r intervalAt 0) (row-monitors m (sound-measured m f) h b) ∙ place-interval h (find (m .mons) h)
 
   -- a row is in use exactly where the handle is live
-  pub busy-live : (h : ℕ) → h < 16 → busyAt (padded m) h ≡ present (find (m .mons) h)
+  pub busy-live : (h : ℕ) → h < mostMonitors → busyAt (padded m) h ≡ present (find (m .mons) h)
   unfolding busyAt present intervalOf
   busy-live h b = ap (λ (n : ℕ). not (eqb n 0)) (interval-read h b) ∙ go (find (m .mons) h) refl
     where
@@ -92,14 +93,14 @@ module _ (m : Model) (f : SoundModel m) where
   pub live-present : (h : ℕ) → liveAt (padded m) h ≡ present (find (m .mons) h)
   unfolding liveAt present
   live-present h =
-      cases-le 16 h (λ (u : 16 ≤ h). pick-false _ false (le-ltb h 16 u) ∙ go u (find (m .mons) h) refl)
-      (λ (u : h < 16). pick-true _ false (lt-ltb h 16 u) ∙ busy-live h u)
+      cases-le mostMonitors h (λ (u : mostMonitors ≤ h). pick-false _ false (le-ltb h mostMonitors u) ∙ go u (find (m .mons) h) refl)
+      (λ (u : h < mostMonitors). pick-true _ false (lt-ltb h mostMonitors u) ∙ busy-live h u)
     where
-      go : 16 ≤ h → (o : Option Monitor) → find (m .mons) h ≡ o → false ≡ present o
+      go : mostMonitors ≤ h → (o : Option Monitor) → find (m .mons) h ≡ o → false ≡ present o
       go u none e = refl
       go u (some x) e = absurd (omega (arith, live-handle m f h x e))
 
-  lowest-slot-of : (n k : ℕ) → k + n ≡ 16 → lowest (padded m) n k ≡ slotOr (slot (m .mons) n k)
+  lowest-slot-of : (n k : ℕ) → k + n ≡ mostMonitors → lowest (padded m) n k ≡ slotOr (slot (m .mons) n k)
   unfolding lowest slotOr present
   lowest-slot-of zero k e = omega arith
   lowest-slot-of (suc n) k e =
@@ -111,35 +112,35 @@ module _ (m : Model) (f : SoundModel m) where
       go none ih = pick-false _ k refl
       go (some x) ih = pick-true _ k refl ∙ ih
 
-  module _ {g : ℕ} (e : g ≡ lowest (padded m) 16 0) where
-    at-slot : g ≡ slotOr (slot (m .mons) 16 0)
-    at-slot = e ∙ lowest-slot-of 16 0 refl
+  module _ {g : ℕ} (e : g ≡ lowest (padded m) mostMonitors 0) where
+    at-slot : g ≡ slotOr (slot (m .mons) mostMonitors 0)
+    at-slot = e ∙ lowest-slot-of mostMonitors 0 refl
 
     -- there is room exactly where the lowest is below 16
-    pub slot-room : ltb g 16 ≡ present (slot (m .mons) 16 0)
+    pub slot-room : ltb g mostMonitors ≡ present (slot (m .mons) mostMonitors 0)
     unfolding slotOr present
-    slot-room = ap (λ (k : ℕ). ltb k 16) at-slot ∙ go (slot (m .mons) 16 0) refl
+    slot-room = ap (λ (k : ℕ). ltb k mostMonitors) at-slot ∙ go (slot (m .mons) mostMonitors 0) refl
       where
-        go : (o : Option ℕ) → slot (m .mons) 16 0 ≡ o → ltb (slotOr o) 16 ≡ present o
+        go : (o : Option ℕ) → slot (m .mons) mostMonitors 0 ≡ o → ltb (slotOr o) mostMonitors ≡ present o
         go none q = refl
-        go (some k) q = lt-ltb k 16 (omega (arith, slot-some (m .mons) 16 0 k q .below))
+        go (some k) q = lt-ltb k mostMonitors (omega (arith, slot-some (m .mons) mostMonitors 0 k q .below))
 
     -- and then it is the slot
-    pub slot-found : g < 16 → slot (m .mons) 16 0 ≡ some g
+    pub slot-found : g < mostMonitors → slot (m .mons) mostMonitors 0 ≡ some g
     unfolding slotOr
-    slot-found b = go (slot (m .mons) 16 0) refl
+    slot-found b = go (slot (m .mons) mostMonitors 0) refl
       where
-        go : (o : Option ℕ) → slot (m .mons) 16 0 ≡ o → o ≡ some g
-        go none q = let z : g ≡ 16 = at-slot ∙ ap slotOr q in absurd (omega arith)
+        go : (o : Option ℕ) → slot (m .mons) mostMonitors 0 ≡ o → o ≡ some g
+        go none q = let z : g ≡ mostMonitors = at-slot ∙ ap slotOr q in absurd (omega arith)
         go (some k) q = let z : g ≡ k = at-slot ∙ ap slotOr q in ap some (sym z)
 
-    pub slot-handle : g < 16 → newHandle m ≡ g
-    unfolding newHandle handleOr mostMonitors
+    pub slot-handle : g < mostMonitors → newHandle m ≡ g
+    unfolding newHandle handleOr
     slot-handle b = ap handleOr (slot-found b)
 
-    pub slot-free : g < 16 → find (m .mons) g ≡ none
-    slot-free b = slot-some (m .mons) 16 0 g (slot-found b) .free
+    pub slot-free : g < mostMonitors → find (m .mons) g ≡ none
+    slot-free b = slot-some (m .mons) mostMonitors 0 g (slot-found b) .free
 
-    pub slot-added : (x : Monitor) → g < 16 → added m x ≡ withLists m (insert g x (m .mons)) (m .pairs)
-    unfolding added mostMonitors
+    pub slot-added : (x : Monitor) → g < mostMonitors → added m x ≡ withLists m (insert g x (m .mons)) (m .pairs)
+    unfolding added
     slot-added x b = ap (λ (o : Option ℕ). withLists m (insertAt o x (m .mons)) (m .pairs)) (slot-found b)

@@ -14,12 +14,13 @@ use Rattle.laws.specs.Put.{put, putIf, put-then, put-nil, drop-after-put}
 use Rattle.laws.specs.Loops.{keep, only, keep-take, length-keep, map-append, when, when-true, when-false}
 use Rattle.laws.specs.Rows.{row, flat, flat-append}
 use Rattle.rule.specs.Base.{All}
-use Rattle.model.specs.Types.{Pair, mostPairs}
+use Rattle.model.specs.Types.{Pair}
 use Rattle.model.specs.Image.{pairRow}
 use Rattle.model.specs.Commands.{ofOther}
-use Rattle.model.specs.Block.{padTo, pairSize, pairBlock}
+use Rattle.model.specs.Block.{padTo, pairBlock}
 use Rattle.blocks.specs.Bounds.{Fits}
 use Rattle.blocks.specs.Pairs.{length-pairPlace, row-pairBlock}
+use Rattle.model.specs.Layout.{blockSize, handleAt, mostPairs, pairSize, pairsAt}
 
 -- whether an octet is another handle
 unfoldable pub other : ℕ → ℕ → Bool
@@ -27,21 +28,21 @@ other h x = not (eqb h x)
 
 -- what is written of pair row i: the row, or nothing where it is of the handle; and how many rows that is
 unfoldable pub keptOctets : ℕ → List ℕ → ℕ → List ℕ
-keptOctets h s i = when (other h (getD s (1176 + 56 * i) 0)) (take 56 (drop (1176 + 56 * i) s))
+keptOctets h s i = when (other h (getD s (pairsAt + pairSize * i) 0)) (take pairSize (drop (pairsAt + pairSize * i) s))
 
 unfoldable pub keptCount : ℕ → List ℕ → ℕ → ℕ
-keptCount h s i = pick (other h (getD s (1176 + 56 * i) 0)) 1 0
+keptCount h s i = pick (other h (getD s (pairsAt + pairSize * i) 0)) 1 0
 
 -- rows of pairs, one after another
 unfoldable pub rowsOf : List Pair → List ℕ
-rowsOf qs = flat (map (λ (q : Pair). padTo 56 (pairRow q)) qs)
+rowsOf qs = flat (map (λ (q : Pair). padTo pairSize (pairRow q)) qs)
 
 -- the pair rows of a block are these pairs'
 pub record Holds (s : List ℕ) (qs : List Pair) : Type 0 where
   pub fit : All Fits qs
-  pub most : length qs ≤ 64
+  pub most : length qs ≤ mostPairs
   pub rest : List ℕ
-  pub table : drop 1176 s ≡ pairBlock qs ++ rest
+  pub table : drop pairsAt s ≡ pairBlock qs ++ rest
 
 -- what stands behind a put is as it was
 pub drop-past-put : (xs : List ℕ) (at : ℕ) (ys : List ℕ) (p : ℕ) → at + length ys ≤ p → at ≤ length xs
@@ -56,7 +57,7 @@ drop-past-put xs at ys p h k =
 
 pub kept-most : (h : ℕ) (s : List ℕ) (i : ℕ) → keptCount h s i ≤ 1
 unfolding keptCount pick
-kept-most h s i = go (other h (getD s (1176 + 56 * i) 0))
+kept-most h s i = go (other h (getD s (pairsAt + pairSize * i) 0))
   where
     go : (t : Bool) → pick t 1 0 ≤ 1
     go true = omega arith
@@ -64,45 +65,45 @@ kept-most h s i = go (other h (getD s (1176 + 56 * i) 0))
 
 -- one row of the loop: of the handle, or moved
 module _ (h : ℕ) (s : List ℕ) (i k : ℕ) where
-  pub kept-drop : h ≡ getD s (1176 + 56 * i) 0
-      → (k ≡ k + keptCount h s i) × (s ≡ put s (1176 + 56 * k) (keptOctets h s i))
+  pub kept-drop : h ≡ getD s (pairsAt + pairSize * i) 0
+      → (k ≡ k + keptCount h s i) × (s ≡ put s (pairsAt + pairSize * k) (keptOctets h s i))
   unfolding keptCount keptOctets other
   kept-drop e =
-      let t : not (eqb h (getD s (1176 + 56 * i) 0)) ≡ false = ap not (eq-eqb h (getD s (1176 + 56 * i) 0) e) in
-      let n : _≡_ {A = ℕ} (pick (not (eqb h (getD s (1176 + 56 * i) 0))) 1 0) 0 = pick-false 1 0 t in (
+      let t : not (eqb h (getD s (pairsAt + pairSize * i) 0)) ≡ false = ap not (eq-eqb h (getD s (pairsAt + pairSize * i) 0) e) in
+      let n : _≡_ {A = ℕ} (pick (not (eqb h (getD s (pairsAt + pairSize * i) 0))) 1 0) 0 = pick-false 1 0 t in (
         omega arith,
-        sym (ap (put s (1176 + 56 * k)) (when-false (take 56 (drop (1176 + 56 * i) s)) t) ∙ put-nil s (1176 + 56 * k)),
+        sym (ap (put s (pairsAt + pairSize * k)) (when-false (take pairSize (drop (pairsAt + pairSize * i) s)) t) ∙ put-nil s (pairsAt + pairSize * k)),
       )
 
-  pub kept-move : {r : Bool} {s′ : List ℕ} → (h ≡ getD s (1176 + 56 * i) 0 → ⊥) → k ≤ i → 1176 + 56 * i + 56 ≤ length s
-      → (r ≡ (leb (1176 + 56 * k) (1176 + 56 * i) && leb (1176 + 56 * i + 56) (length s)))
-      × (s′ ≡ putIf r s (1176 + 56 * k) (take 56 (drop (1176 + 56 * i) s)))
-      → (k + 1 ≡ k + keptCount h s i) × (s′ ≡ put s (1176 + 56 * k) (keptOctets h s i))
+  pub kept-move : {r : Bool} {s′ : List ℕ} → (h ≡ getD s (pairsAt + pairSize * i) 0 → ⊥) → k ≤ i → pairsAt + pairSize * i + pairSize ≤ length s
+      → (r ≡ (leb (pairsAt + pairSize * k) (pairsAt + pairSize * i) && leb (pairsAt + pairSize * i + pairSize) (length s)))
+      × (s′ ≡ putIf r s (pairsAt + pairSize * k) (take pairSize (drop (pairsAt + pairSize * i) s)))
+      → (k + 1 ≡ k + keptCount h s i) × (s′ ≡ put s (pairsAt + pairSize * k) (keptOctets h s i))
   unfolding keptCount keptOctets other putIf
   kept-move {r} {s′} e b c q =
-      let y : List ℕ = take 56 (drop (1176 + 56 * i) s) in
-      let t : not (eqb h (getD s (1176 + 56 * i) 0)) ≡ true = ap not (ne-eqb h (getD s (1176 + 56 * i) 0) e) in
-      let n : _≡_ {A = ℕ} (pick (not (eqb h (getD s (1176 + 56 * i) 0))) 1 0) 1 = pick-true 1 0 t in
+      let y : List ℕ = take pairSize (drop (pairsAt + pairSize * i) s) in
+      let t : not (eqb h (getD s (pairsAt + pairSize * i) 0)) ≡ true = ap not (ne-eqb h (getD s (pairsAt + pairSize * i) 0) e) in
+      let n : _≡_ {A = ℕ} (pick (not (eqb h (getD s (pairsAt + pairSize * i) 0))) 1 0) 1 = pick-true 1 0 t in
       let d : r ≡ true =
-      q .0 ∙ and-both (le-leb (1176 + 56 * k) (1176 + 56 * i) (omega arith)) (le-leb (1176 + 56 * i + 56)
+      q .0 ∙ and-both (le-leb (pairsAt + pairSize * k) (pairsAt + pairSize * i) (omega arith)) (le-leb (pairsAt + pairSize * i + pairSize)
       (length s) c) in (
         omega arith,
-        q .1 ∙ ap (λ (x : Bool). putIf x s (1176 + 56 * k) y) d ∙ sym (ap (put s (1176 + 56 * k)) (when-true y t)),
+        q .1 ∙ ap (λ (x : Bool). putIf x s (pairsAt + pairSize * k) y) d ∙ sym (ap (put s (pairsAt + pairSize * k)) (when-true y t)),
       )
 
 -- rows of pairs: joined, their length, those that are kept
 rows-append : (ps qs : List Pair) → rowsOf (ps ++ qs) ≡ rowsOf ps ++ rowsOf qs
 unfolding rowsOf
 rows-append ps qs =
-    ap flat (map-append (λ (q : Pair). padTo 56 (pairRow q)) ps qs)
-    ∙ flat-append (map (λ (q : Pair). padTo 56 (pairRow q)) ps) _
+    ap flat (map-append (λ (q : Pair). padTo pairSize (pairRow q)) ps qs)
+    ∙ flat-append (map (λ (q : Pair). padTo pairSize (pairRow q)) ps) _
 
-pub length-rowsOf : (qs : List Pair) → All Fits qs → length (rowsOf qs) ≡ 56 * length qs
+pub length-rowsOf : (qs : List Pair) → All Fits qs → length (rowsOf qs) ≡ pairSize * length qs
 unfolding rowsOf flat
 length-rowsOf [] a = refl
 length-rowsOf (q ∷ qs) a =
-    let e : length (padTo 56 (pairRow q) ++ rowsOf qs) ≡ length (padTo 56 (pairRow q)) + length (rowsOf qs) =
-    length-append (padTo 56 (pairRow q)) (rowsOf qs) in
+    let e : length (padTo pairSize (pairRow q) ++ rowsOf qs) ≡ length (padTo pairSize (pairRow q)) + length (rowsOf qs) =
+    length-append (padTo pairSize (pairRow q)) (rowsOf qs) in
     omega (arith, length-rowsOf qs (a .1), length-pairPlace q (a .0))
 
 all-take : (n : ℕ) (qs : List Pair) → All Fits qs → All Fits (take n qs)
@@ -124,27 +125,27 @@ abbrev noPair : Pair
 noPair = record { handle = 0; kind = 0; address = []; silent = 0; ticks = 0; packets = 0; sum = 0; event = 0; adv = [] }
 
 -- one row, and what is written of it
-module _ (h : ℕ) (q : Pair) (s : List ℕ) (i : ℕ) (e : take 56 (drop (1176 + 56 * i) s) ≡ padTo 56 (pairRow q)) where
-  handle-at : getD s (1176 + 56 * i) 0 ≡ q .handle
+module _ (h : ℕ) (q : Pair) (s : List ℕ) (i : ℕ) (e : take pairSize (drop (pairsAt + pairSize * i) s) ≡ padTo pairSize (pairRow q)) where
+  handle-at : getD s (pairsAt + pairSize * i) 0 ≡ q .handle
   unfolding padTo pairRow
   handle-at =
-      let p : ℕ = 1176 + 56 * i in
+      let p : ℕ = pairsAt + pairSize * i in
       let z : p + 0 ≡ p = omega arith in
-      ap (λ (j : ℕ). getD s j 0) (sym z) ∙ sym (getD-drop p s 0 0) ∙ sym (getD-take 56 (drop p s) 0 0 (omega arith))
-      ∙ ap (λ (r : List ℕ). getD r 0 0) e
+      ap (λ (j : ℕ). getD s j 0) (sym z) ∙ sym (getD-drop p s 0 0) ∙ sym (getD-take pairSize (drop p s) 0 0 (omega arith))
+      ∙ ap (λ (r : List ℕ). getD r handleAt 0) e
 
-  other-at : other h (getD s (1176 + 56 * i) 0) ≡ ofOther h q
+  other-at : other h (getD s (pairsAt + pairSize * i) 0) ≡ ofOther h q
   unfolding other ofOther
   other-at = ap (λ (x : ℕ). not (eqb h x)) handle-at
 
   kept-octets : keptOctets h s i ≡ rowsOf (only (ofOther h q) q)
   unfolding keptOctets rowsOf flat when only
   kept-octets =
-      ap (λ (t : Bool). when t (take 56 (drop (1176 + 56 * i) s))) other-at
+      ap (λ (t : Bool). when t (take pairSize (drop (pairsAt + pairSize * i) s))) other-at
       ∙ ap (λ (r : List ℕ). when (ofOther h q) r) e ∙ go (ofOther h q)
     where
-      go : (t : Bool) → when t (padTo 56 (pairRow q)) ≡ flat (map (λ (p : Pair). padTo 56 (pairRow p)) (only t q))
-      go true = sym (append-nil (padTo 56 (pairRow q)))
+      go : (t : Bool) → when t (padTo pairSize (pairRow q)) ≡ flat (map (λ (p : Pair). padTo pairSize (pairRow p)) (only t q))
+      go true = sym (append-nil (padTo pairSize (pairRow q)))
       go false = refl
 
   kept-count : keptCount h s i ≡ length (only (ofOther h q) q)
@@ -156,7 +157,7 @@ module _ (h : ℕ) (q : Pair) (s : List ℕ) (i : ℕ) (e : take 56 (drop (1176 
       go false = refl
 
 -- a turn of the loop: rows below i done, k of them kept
-module _ (h : ℕ) (s₀ : List ℕ) (qs : List Pair) (t : Holds s₀ qs) (l : length s₀ ≡ 4761)
+module _ (h : ℕ) (s₀ : List ℕ) (qs : List Pair) (t : Holds s₀ qs) (l : length s₀ ≡ blockSize)
     (i : ℕ) (b : i < length qs) where
   abbrev done : ℕ → List Pair
   done n = keep (ofOther h) (take n qs)
@@ -166,57 +167,57 @@ module _ (h : ℕ) (s₀ : List ℕ) (qs : List Pair) (t : Holds s₀ qs) (l : l
       let n : length (take i qs) ≡ i = length-take-le i qs (omega arith) in
       omega (arith, length-keep (ofOther h) (take i qs))
 
-  done-length : length (rowsOf (done i)) ≡ 56 * length (done i)
+  done-length : length (rowsOf (done i)) ≡ pairSize * length (done i)
   done-length = length-rowsOf (done i) (all-keep (ofOther h) (take i qs) (all-take i qs (t .fit)))
 
-  row-now : {s : List ℕ} → s ≡ put s₀ 1176 (rowsOf (done i))
-      → take 56 (drop (1176 + 56 * i) s) ≡ padTo 56 (pairRow (getD qs i noPair))
+  row-now : {s : List ℕ} → s ≡ put s₀ pairsAt (rowsOf (done i))
+      → take pairSize (drop (pairsAt + pairSize * i) s) ≡ padTo pairSize (pairRow (getD qs i noPair))
   unfolding row
   row-now e =
       let m : length (done i) ≤ i = done-most in
-      let n : length (rowsOf (done i)) ≡ 56 * length (done i) = done-length in
-      ap (λ (x : List ℕ). take 56 (drop (1176 + 56 * i) x)) e
-      ∙ ap (take 56) (drop-past-put s₀ 1176 (rowsOf (done i)) (1176 + 56 * i) (omega arith) (omega arith))
-      ∙ ap (take 56) (sym (drop-drop (56 * i) 1176 s₀)) ∙ ap (λ (x : List ℕ). take 56 (drop (56 * i) x)) (t .table)
+      let n : length (rowsOf (done i)) ≡ pairSize * length (done i) = done-length in
+      ap (λ (x : List ℕ). take pairSize (drop (pairsAt + pairSize * i) x)) e
+      ∙ ap (take pairSize) (drop-past-put s₀ pairsAt (rowsOf (done i)) (pairsAt + pairSize * i) (omega arith) (omega arith))
+      ∙ ap (take pairSize) (sym (drop-drop (pairSize * i) pairsAt s₀)) ∙ ap (λ (x : List ℕ). take pairSize (drop (pairSize * i) x)) (t .table)
       ∙ row-pairBlock qs (t .fit) (t .most) (t .rest) i noPair b
 
-  pub kept-turn : {k k′ : ℕ} {s s′ : List ℕ} → k ≡ length (done i) → s ≡ put s₀ 1176 (rowsOf (done i))
-      → k′ ≡ k + keptCount h s i → s′ ≡ put s (1176 + 56 * k) (keptOctets h s i)
+  pub kept-turn : {k k′ : ℕ} {s s′ : List ℕ} → k ≡ length (done i) → s ≡ put s₀ pairsAt (rowsOf (done i))
+      → k′ ≡ k + keptCount h s i → s′ ≡ put s (pairsAt + pairSize * k) (keptOctets h s i)
       → (k′ ≡ length (keep (ofOther h) (take (i + 1) qs))) × (s′
-      ≡ put s₀ 1176 (rowsOf (keep (ofOther h) (take (i + 1) qs))))
+      ≡ put s₀ pairsAt (rowsOf (keep (ofOther h) (take (i + 1) qs))))
   kept-turn {k} {k′} {s} {s′} n e p w =
       let q : Pair = getD qs i noPair in
-      let r : take 56 (drop (1176 + 56 * i) s) ≡ padTo 56 (pairRow q) = row-now e in
+      let r : take pairSize (drop (pairsAt + pairSize * i) s) ≡ padTo pairSize (pairRow q) = row-now e in
       let u : keep (ofOther h) (take (i + 1) qs) ≡ done i ++ only (ofOther h q) q =
       keep-take (ofOther h) qs i noPair b in
       let c : keptCount h s i ≡ length (only (ofOther h q) q) = kept-count h q s i r in
       let o : keptOctets h s i ≡ rowsOf (only (ofOther h q) q) = kept-octets h q s i r in
-      let d : length (rowsOf (done i)) ≡ 56 * length (done i) = done-length in (
+      let d : length (rowsOf (done i)) ≡ pairSize * length (done i) = done-length in (
         p ∙ ap (λ (x : ℕ). k + x) c ∙ ap (λ (x : ℕ). x + length (only (ofOther h q) q)) n
             ∙ sym (ap length u ∙ length-append (done i) (only (ofOther h q) q)),
-        put-then s₀ 1176 (rowsOf (done i)) (1176 + 56 * k) (rowsOf (only (ofOther h q) q)) (omega arith) e (omega arith)
-            (w ∙ ap (put s (1176 + 56 * k)) o) (sym (ap rowsOf u ∙ rows-append (done i) (only (ofOther h q) q))),
+        put-then s₀ pairsAt (rowsOf (done i)) (pairsAt + pairSize * k) (rowsOf (only (ofOther h q) q)) (omega arith) e (omega arith)
+            (w ∙ ap (put s (pairsAt + pairSize * k)) o) (sym (ap rowsOf u ∙ rows-append (done i) (only (ofOther h q) q))),
       )
 
 -- the loop begins with nothing done, and ends with all pairs
 pub kept-none : (h : ℕ) (s : List ℕ) (qs : List Pair)
-    → (0 ≡ length (keep (ofOther h) (take 0 qs))) × (s ≡ put s 1176 (rowsOf (keep (ofOther h) (take 0 qs))))
+    → (0 ≡ length (keep (ofOther h) (take 0 qs))) × (s ≡ put s pairsAt (rowsOf (keep (ofOther h) (take 0 qs))))
 unfolding keep rowsOf flat
-kept-none h s qs = (refl, sym (put-nil s 1176))
+kept-none h s qs = (refl, sym (put-nil s pairsAt))
 
 pub kept-all : (h : ℕ) (s₀ : List ℕ) (qs : List Pair) (i : ℕ) {k : ℕ} {s : List ℕ} → i ≡ length qs
-    → (k ≡ length (keep (ofOther h) (take i qs))) × (s ≡ put s₀ 1176 (rowsOf (keep (ofOther h) (take i qs))))
-    → (k ≡ length (keep (ofOther h) qs)) × (s ≡ put s₀ 1176 (rowsOf (keep (ofOther h) qs)))
+    → (k ≡ length (keep (ofOther h) (take i qs))) × (s ≡ put s₀ pairsAt (rowsOf (keep (ofOther h) (take i qs))))
+    → (k ≡ length (keep (ofOther h) qs)) × (s ≡ put s₀ pairsAt (rowsOf (keep (ofOther h) qs)))
 kept-all h s₀ qs i e p =
     let z : take i qs ≡ qs = ap (λ (n : ℕ). take n qs) e ∙ take-length qs in
     (rw z at (p .0), rw z at (p .1))
 
 -- then zeros up to the end of the rows: the pair part of the pairs kept
-pub kept-block : (s₀ : List ℕ) (ps : List Pair) {k : ℕ} {s s′ : List ℕ} → All Fits ps → 1176 ≤ length s₀ → k ≡ length ps
-    → s ≡ put s₀ 1176 (rowsOf ps) → s′ ≡ put s (1176 + 56 * k) (replicate (56 * (64 - k)) 0)
-    → s′ ≡ put s₀ 1176 (pairBlock ps)
-unfolding pairBlock rowsOf pairSize mostPairs
+pub kept-block : (s₀ : List ℕ) (ps : List Pair) {k : ℕ} {s s′ : List ℕ} → All Fits ps → pairsAt ≤ length s₀ → k ≡ length ps
+    → s ≡ put s₀ pairsAt (rowsOf ps) → s′ ≡ put s (pairsAt + pairSize * k) (replicate (pairSize * (mostPairs - k)) 0)
+    → s′ ≡ put s₀ pairsAt (pairBlock ps)
+unfolding pairBlock rowsOf
 kept-block s₀ ps {k} {s} {s′} a h n e w =
-    let d : length (rowsOf ps) ≡ 56 * length ps = length-rowsOf ps a in
-    put-then s₀ 1176 (rowsOf ps) (1176 + 56 * k) (replicate (56 * (64 - k)) 0) h e (omega arith) w
-    (ap (λ (j : ℕ). rowsOf ps ++ replicate (56 * (64 - j)) 0) n)
+    let d : length (rowsOf ps) ≡ pairSize * length ps = length-rowsOf ps a in
+    put-then s₀ pairsAt (rowsOf ps) (pairsAt + pairSize * k) (replicate (pairSize * (mostPairs - k)) 0) h e (omega arith) w
+    (ap (λ (j : ℕ). rowsOf ps ++ replicate (pairSize * (mostPairs - j)) 0) n)

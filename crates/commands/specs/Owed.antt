@@ -14,6 +14,8 @@ use Rattle.model.specs.Accepted.{Accepted, accepted, pick-none}
 use Rattle.model.specs.Commands.{table, paramsIn}
 use Rattle.statuses.specs.Statuses.{addOf, cancelOf}
 use Rattle.commands.specs.Handles.{liveAt}
+use Rattle.model.specs.Layout.{paramsMost}
+use Rattle.model.specs.Layout.{mostMonitors}
 
 -- a status that is none: the test held, and what it then gives is none
 pick-zero : (t : Bool) (a b : ℕ) → 0 < b → pick t a b ≡ 0 → (t ≡ true) × (a ≡ 0)
@@ -22,8 +24,8 @@ pick-zero true a b h e = (refl, e)
 pick-zero false a b h e = absurd (omega arith)
 
 -- 03: room, and parameters that fit the row
-module _ (h : ℕ) (l : List ℕ) {r : ℕ} (f : r ≡ addOf (ltb h 16) l) (z : r ≡ 0) where
-  said : (ltb (length l) (paramsIn table 3) ≡ false) × (faultOf (monitorOf l) ≡ 0) × (ltb h 16 ≡ true)
+module _ (h : ℕ) (l : List ℕ) {r : ℕ} (f : r ≡ addOf (ltb h mostMonitors) l) (z : r ≡ 0) where
+  said : (ltb (length l) (paramsIn table 3) ≡ false) × (faultOf (monitorOf l) ≡ 0) × (ltb h mostMonitors ≡ true)
   unfolding addOf
   said =
       let n : ℕ = faultOf (monitorOf l) in
@@ -31,26 +33,26 @@ module _ (h : ℕ) (l : List ℕ) {r : ℕ} (f : r ≡ addOf (ltb h 16) l) (z : 
       go n refl (a .0) (a .1)
     where
       go : (n : ℕ) → faultOf (monitorOf l) ≡ n → ltb (length l) (paramsIn table 3) ≡ false
-          → pick (not (eqb (faultOf (monitorOf l)) 0)) (faultOf (monitorOf l)) (pick (ltb h 16) 0 full) ≡ 0
-          → (ltb (length l) (paramsIn table 3) ≡ false) × (faultOf (monitorOf l) ≡ 0) × (ltb h 16 ≡ true)
+          → pick (not (eqb (faultOf (monitorOf l)) 0)) (faultOf (monitorOf l)) (pick (ltb h mostMonitors) 0 full) ≡ 0
+          → (ltb (length l) (paramsIn table 3) ≡ false) × (faultOf (monitorOf l) ≡ 0) × (ltb h mostMonitors ≡ true)
       go n e a b = elim (both (eqb (faultOf (monitorOf l)) 0)) [
         | inl t ↦ (
           a,
           eqb-true (faultOf (monitorOf l)) 0 t,
-          pick-zero (ltb h 16) 0 full (omega arith) (sym (Rattle.laws.specs.Tests.pick-false _ _ (ap not t)) ∙ b) .0,
+          pick-zero (ltb h mostMonitors) 0 full (omega arith) (sym (Rattle.laws.specs.Tests.pick-false _ _ (ap not t)) ∙ b) .0,
         )
         | inr t ↦ absurd (false≢true (sym t ∙ eq-eqb (faultOf (monitorOf l)) 0
             (sym (Rattle.laws.specs.Tests.pick-true _ _ (ap not t)) ∙ b)))
       ]
 
-  pub add-handle : h < 16
-  add-handle = ltb-true h 16 (said .2)
+  pub add-handle : h < mostMonitors
+  add-handle = ltb-true h mostMonitors (said .2)
 
   pub add-enough : 6 ≤ length l
   unfolding table paramsIn pick
   add-enough = ltb-false (length l) 6 (said .0)
 
-  pub add-most : length l ≤ 70
+  pub add-most : length l ≤ paramsMost
   unfolding accepts monitorOf
   add-most =
       let a : Accepted (monitorOf l) = accepted (monitorOf l) (eq-eqb (faultOf (monitorOf l)) 0 (said .1)) in
@@ -59,13 +61,13 @@ module _ (h : ℕ) (l : List ℕ) {r : ℕ} (f : r ≡ addOf (ltb h 16) l) (z : 
 
 -- 04: a handle that is live
 module _ (s l : List ℕ) (h : ℕ) {t : Bool} {r : ℕ} (v : t ≡ liveAt s h) (f : r ≡ cancelOf t l) (z : r ≡ 0) where
-  pub cancel-handle : h < 16
+  pub cancel-handle : h < mostMonitors
   unfolding cancelOf liveAt
   cancel-handle =
       let a = pick-zero (eqb (length l) (paramsIn table 4)) _ invalid (omega arith) (sym f ∙ z) in
       let b = pick-zero t 0 invalid (omega arith) (a .1) in
-      go (ltb h 16) refl (sym v ∙ b .0)
+      go (ltb h mostMonitors) refl (sym v ∙ b .0)
     where
-      go : (x : Bool) → ltb h 16 ≡ x → pick x (Rattle.commands.specs.Handles.busyAt s h) false ≡ true → h < 16
-      go true e q = ltb-true h 16 e
+      go : (x : Bool) → ltb h mostMonitors ≡ x → pick x (Rattle.commands.specs.Handles.busyAt s h) false ≡ true → h < mostMonitors
+      go true e q = ltb-true h mostMonitors e
       go false e q = absurd (false≢true (sym (Rattle.laws.specs.Tests.pick-false _ false refl) ∙ q))

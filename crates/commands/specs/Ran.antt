@@ -29,6 +29,8 @@ use Rattle.statuses.specs.Answers.{octet-at}
 use Rattle.commands.specs.Handles.{liveAt, lowest, live-present, slot-room, slot-handle, slot-free}
 use Rattle.commands.specs.Handles.{slot-added}
 use Rattle.commands.specs.Replies.{Replied, featuresOf, prefixIn, prefix-read}
+use Rattle.model.specs.Layout.{paramsMost}
+use Rattle.model.specs.Layout.{blockSize, filterAt, monitorSize, monitorsAt, mostMonitors, opcodeAt}
 
 -- The command l took the block of the state m to `after`, but for the position, and the output from `out` to `wrote`.
 pub record Ran (m : Model) (l after out wrote : List ℕ) (n : ℕ) : Type 0 where
@@ -121,18 +123,18 @@ module _ (m : Model) (l out : List ℕ) {after wrote : List ℕ} {n : ℕ} where
       }
 
 -- the opcode read from the block
-pub opcode-at : (m : Model) (s : List ℕ) {o : ℕ} → soundModel m ≡ true → s ≡ padded m → o ≡ numberAt 2 s 5 → o
+pub opcode-at : (m : Model) (s : List ℕ) {o : ℕ} → soundModel m ≡ true → s ≡ padded m → o ≡ numberAt 2 s opcodeAt → o
     ≡ m .opcode
 opcode-at m s e q o =
-    let l : length s ≡ 4761 = ap length q ∙ padded-length m e in
-    number-of 2 s 5 o (omega arith) ∙ ap (λ (x : List ℕ). Rattle.octets.specs.Little.little 2 x 5) q ∙ opcode-read m e
+    let l : length s ≡ blockSize = ap length q ∙ padded-length m e in
+    number-of 2 s 5 o (omega arith) ∙ ap (λ (x : List ℕ). Rattle.octets.specs.Little.little 2 x opcodeAt) q ∙ opcode-read m e
 
 -- each command on the block s of the state m: what its status is
 module _ (m : Model) (s l : List ℕ) (e : soundModel m ≡ true) (q : s ≡ padded m) where
-  low : {h : ℕ} → h ≡ lowest s 16 0 → h ≡ lowest (padded m) 16 0
-  low g = g ∙ ap (λ (x : List ℕ). lowest x 16 0) q
+  low : {h : ℕ} → h ≡ lowest s mostMonitors 0 → h ≡ lowest (padded m) mostMonitors 0
+  low g = g ∙ ap (λ (x : List ℕ). lowest x mostMonitors 0) q
 
-  add-said : {h r : ℕ} → subOf l ≡ 3 → h ≡ lowest s 16 0 → r ≡ addOf (ltb h 16) l → status m l ≡ r
+  add-said : {h r : ℕ} → subOf l ≡ 3 → h ≡ lowest s mostMonitors 0 → r ≡ addOf (ltb h mostMonitors) l → status m l ≡ r
   add-said u g f =
       status-add m l u ∙ add-of m l ∙ ap (λ (t : Bool). addOf t l) (sym (slot-room m (sound-facts m e) (low g))) ∙ sym f
 
@@ -144,16 +146,16 @@ module _ (m : Model) (s l : List ℕ) (e : soundModel m ≡ true) (q : s ≡ pad
       ∙ ap (λ (x : ℕ). present (find (m .mons) x)) (octet-at l 1 g) in
       status-cancel m l u ∙ cancel-of m l ∙ ap (λ (x : Bool). cancelOf x l) (sym (v ∙ i)) ∙ sym f
 
-  enable-said : {r : ℕ} → subOf l ≡ 5 → r ≡ enableOf (getD s 4 0) l → status m l ≡ r
+  enable-said : {r : ℕ} → subOf l ≡ 5 → r ≡ enableOf (getD s filterAt 0) l → status m l ≡ r
   enable-said u f =
       status-enable m l u ∙ enable-of m l
-      ∙ ap (λ (x : ℕ). enableOf x l) (sym (ap (λ (x : List ℕ). getD x 4 0) q ∙ read-filter m)) ∙ sym f
+      ∙ ap (λ (x : ℕ). enableOf x l) (sym (ap (λ (x : List ℕ). getD x filterAt 0) q ∙ read-filter m)) ∙ sym f
 
-  opened : (out ret : List ℕ) {wrote : List ℕ} {n o : ℕ} → o ≡ numberAt 2 s 5 → Replied out wrote n (complete o ret)
+  opened : (out ret : List ℕ) {wrote : List ℕ} {n o : ℕ} → o ≡ numberAt 2 s opcodeAt → Replied out wrote n (complete o ret)
       → Replied out wrote n (complete (m .opcode) ret)
   opened out ret p w = rw (opcode-at m s e q p) at w
 
-  module _ (out : List ℕ) {after wrote : List ℕ} {n o r : ℕ} (p : o ≡ numberAt 2 s 5) where
+  module _ (out : List ℕ) {after wrote : List ℕ} {n o r : ℕ} (p : o ≡ numberAt 2 s opcodeAt) where
     -- 00
     pub read-done : subOf l ≡ 0 → r ≡ readStatus l → r ≡ 0 → after ≡ s
         → Replied out wrote n (complete o (featuresOf (prefixIn s))) → Ran m l after out wrote n
@@ -171,8 +173,8 @@ module _ (m : Model) (s l : List ℕ) (e : soundModel m ≡ true) (q : s ≡ pad
         (opened out _ p w)
 
     -- 03
-    pub add-done : {h : ℕ} → subOf l ≡ 3 → h ≡ lowest s 16 0 → r ≡ addOf (ltb h 16) l → r ≡ 0 → h < 16 → length l ≤ 70
-        → 6 ≤ length l → after ≡ put s (40 + 71 * h) (padTo 71 (monitorRow (h, monitorOf l)))
+    pub add-done : {h : ℕ} → subOf l ≡ 3 → h ≡ lowest s mostMonitors 0 → r ≡ addOf (ltb h mostMonitors) l → r ≡ 0 → h < mostMonitors → length l ≤ paramsMost
+        → 6 ≤ length l → after ≡ put s (monitorsAt + monitorSize * h) (padTo monitorSize (monitorRow (h, monitorOf l)))
         → Replied out wrote n (complete o (0 ∷ 3 ∷ h ∷ [])) → Ran m l after out wrote n
     unfolding monitorOf
     add-done {h} u g f z b c k w y =
@@ -180,10 +182,10 @@ module _ (m : Model) (s l : List ℕ) (e : soundModel m ≡ true) (q : s ≡ pad
         let a : SoundModel m = sound-facts m e in
         ran-done m l out (add-said u g f ∙ z) (changed-add m l u ∙ slot-added m a (low g) (monitorOf l) b)
         (success-add m l u ∙ ap (λ (x : ℕ). 0 ∷ 3 ∷ x ∷ []) (slot-handle m a (low g) b))
-        (w ∙ ap (λ (x : List ℕ). put x (40 + 71 * h) (padTo 71 (monitorRow (h, monitorOf l)))) q
+        (w ∙ ap (λ (x : List ℕ). put x (monitorsAt + monitorSize * h) (padTo monitorSize (monitorRow (h, monitorOf l)))) q
         ∙ put-monitor m (measured m e) h (monitorOf l) b (omega arith) (slot-free m a (low g) b)) (opened out _ p y)
 
-    pub add-failed : {h : ℕ} → subOf l ≡ 3 → h ≡ lowest s 16 0 → r ≡ addOf (ltb h 16) l → (r ≡ 0 → ⊥) → after ≡ s
+    pub add-failed : {h : ℕ} → subOf l ≡ 3 → h ≡ lowest s mostMonitors 0 → r ≡ addOf (ltb h mostMonitors) l → (r ≡ 0 → ⊥) → after ≡ s
         → Replied out wrote n (complete o (r ∷ 3 ∷ 0 ∷ [])) → Ran m l after out wrote n
     add-failed u g f z b w =
         let t : status m l ≡ r = add-said u g f in
@@ -207,16 +209,16 @@ module _ (m : Model) (s l : List ℕ) (e : soundModel m ≡ true) (q : s ≡ pad
         (opened out _ p w)
 
     -- 05
-    pub enable-done : {on : ℕ} → subOf l ≡ 5 → r ≡ enableOf (getD s 4 0) l → r ≡ 0 → on ≡ numberAt 1 l 1 → after
-        ≡ set s 4 on
+    pub enable-done : {on : ℕ} → subOf l ≡ 5 → r ≡ enableOf (getD s filterAt 0) l → r ≡ 0 → on ≡ numberAt 1 l 1 → after
+        ≡ set s filterAt on
         → Replied out wrote n (complete o (0 ∷ 5 ∷ [])) → Ran m l after out wrote n
     enable-done {on} u f z g b w =
         ran-done m l out (enable-said u f ∙ z) (changed-enable m l u) (success-enable m l u)
-        (b ∙ ap (λ (x : List ℕ). set x 4 on) q ∙ set-filter m on
+        (b ∙ ap (λ (x : List ℕ). set x filterAt on) q ∙ set-filter m on
         ∙ ap (λ (x : ℕ). padded (withFilter m x)) (octet-at l 1 g))
         (opened out _ p w)
 
-    pub enable-failed : subOf l ≡ 5 → r ≡ enableOf (getD s 4 0) l → (r ≡ 0 → ⊥) → after ≡ s
+    pub enable-failed : subOf l ≡ 5 → r ≡ enableOf (getD s filterAt 0) l → (r ≡ 0 → ⊥) → after ≡ s
         → Replied out wrote n (complete o (r ∷ 5 ∷ [])) → Ran m l after out wrote n
     enable-failed u f z b w =
         let t : status m l ≡ r = enable-said u f in

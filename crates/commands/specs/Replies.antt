@@ -12,6 +12,7 @@ use borrow.Author.Tests.{le-leb}
 use Rattle.laws.specs.Tests.{pick, pick-true}
 use Rattle.laws.specs.Put.{put, putIf, put-then, put-push, length-put}
 use Rattle.octets.specs.Little.{octetsOf, length-octets}
+use Rattle.octets.specs.Numbers.{atMost, at-is}
 use Rattle.model.specs.Types.{Model}
 use Rattle.model.specs.Commands.{table, answerIn, features}
 use Rattle.model.specs.Events.{complete}
@@ -20,6 +21,8 @@ use Rattle.model.specs.Block.{padded}
 use Rattle.blocks.specs.Facts.{SoundModel, sound-facts}
 use Rattle.blocks.specs.Block.{read-count, read-prefix}
 use Rattle.commands.specs.Stored.{put-made}
+use Rattle.sessions.specs.Machine.{answerRoom}
+use Rattle.model.specs.Layout.{blockSize, mostPrefix, prefixAt, prefixLengthAt}
 
 -- an answer written at the front of the output, and its length
 pub record Replied (out wrote : List ℕ) (n : ℕ) (a : List ℕ) : Type 0 where
@@ -73,7 +76,7 @@ head-put out opcode n {w} h e =
     three (x ∷ y ∷ []) b = absurd (omega arith)
     three (x ∷ y ∷ z ∷ l) b = refl
 
-module _ (out : List ℕ) (opcode : ℕ) {o1 : List ℕ} (h : 2880 ≤ length out) where
+module _ (out : List ℕ) (opcode : ℕ) {o1 : List ℕ} (h : answerRoom ≤ length out) where
   -- two return parameters, three
   pub reply-two : (a b : ℕ) → o1 ≡ put out 0 (headOf opcode 2)
       → Replied out (set (set o1 5 a) 6 b) 7 (complete opcode (a ∷ b ∷ []))
@@ -111,10 +114,10 @@ module _ (out : List ℕ) (opcode : ℕ) {o1 : List ℕ} (h : 2880 ≤ length ou
 
 -- the number of octets of the prefix, 32 where the octet says more; and the prefix
 unfoldable pub prefixCount : List ℕ → ℕ
-prefixCount s = pick (leb (getD s 7 0) 32) (getD s 7 0) 32
+prefixCount s = atMost (getD s prefixLengthAt 0) mostPrefix
 
 unfoldable pub prefixIn : List ℕ → List ℕ
-prefixIn s = take (prefixCount s) (drop 8 s)
+prefixIn s = take (prefixCount s) (drop prefixAt s)
 
 -- the return parameters of 00
 unfoldable pub featuresOf : List ℕ → List ℕ
@@ -122,18 +125,18 @@ featuresOf prefix = 0x00 ∷ 0x00 ∷ (features ++ (length prefix ∷ prefix))
 
 -- the features written behind the head, then the prefix with its length
 pub reply-features : (out : List ℕ) (opcode : ℕ) (s : List ℕ) {o1 o2 o4 : List ℕ} {r2 r4 : Bool} {n : ℕ}
-    → 2880 ≤ length out → length s ≡ 4761 → n ≡ prefixCount s → n ≤ 32 → o1 ≡ put out 0 (headOf opcode (11 + n))
+    → answerRoom ≤ length out → length s ≡ blockSize → n ≡ prefixCount s → n ≤ mostPrefix → o1 ≡ put out 0 (headOf opcode (11 + n))
     → (r2 ≡ leb (5 + 10) (length o1)) × (o2 ≡ putIf r2 o1 5 (0x00 ∷ 0x00 ∷ features))
-    → (r4 ≡ leb (16 + length (take (8 + n - 8) (drop 8 s))) (length (set o2 15 n)))
-    × (o4 ≡ putIf r4 (set o2 15 n) 16 (take (8 + n - 8) (drop 8 s)))
+    → (r4 ≡ leb (16 + length (take (8 + n - 8) (drop prefixAt s))) (length (set o2 15 n)))
+    × (o4 ≡ putIf r4 (set o2 15 n) 16 (take (8 + n - 8) (drop prefixAt s)))
     → Replied out o4 (16 + n) (complete opcode (featuresOf (prefixIn s)))
 unfolding featuresOf prefixIn features
 reply-features out opcode s {o1} {o2} {o4} {r2} {r4} {n} h l c b e1 e2 e4 =
     let k : 8 + n - 8 ≡ n = omega arith in
-    let d : length (drop 8 s) ≡ length s - 8 = length-drop 8 s in
-    let p : List ℕ = take n (drop 8 s) in
-    let j : take (8 + n - 8) (drop 8 s) ≡ p = ap (λ (i : ℕ). take i (drop 8 s)) k in
-    let y : length p ≡ n = length-take-le n (drop 8 s) (omega arith) in
+    let d : length (drop prefixAt s) ≡ length s - 8 = length-drop 8 s in
+    let p : List ℕ = take n (drop prefixAt s) in
+    let j : take (8 + n - 8) (drop prefixAt s) ≡ p = ap (λ (i : ℕ). take i (drop prefixAt s)) k in
+    let y : length p ≡ n = length-take-le n (drop prefixAt s) (omega arith) in
     let a0 : List ℕ = headOf opcode (11 + n) in
     let f : List ℕ = 0x00 ∷ 0x00 ∷ features in
     let a2 : List ℕ = a0 ++ f in
@@ -147,14 +150,14 @@ reply-features out opcode s {o1} {o2} {o4} {r2} {r4} {n} h l c b e1 e2 e4 =
     let l2 : length o2 ≡ length out = ap length q2 ∙ length-put out 0 a2 (omega arith) in
     let q3 : set o2 15 n ≡ put out 0 a3 = put-push out 0 a2 n {n = 15} (omega arith) (omega arith) q2 in
     let l3 : length (set o2 15 n) ≡ length out = length-set o2 15 n ∙ l2 in
-    let w : length (take (8 + n - 8) (drop 8 s)) ≡ n = ap length j ∙ y in
+    let w : length (take (8 + n - 8) (drop prefixAt s)) ≡ n = ap length j ∙ y in
     let q4 : o4 ≡ put out 0 (a3 ++ p) =
     put-then out 0 a3 16 p (omega arith) q3 (omega arith)
-    (put-made (set o2 15 n) 16 (take (8 + n - 8) (drop 8 s)) (length (take (8 + n - 8) (drop 8 s))) e4 (omega arith)
+    (put-made (set o2 15 n) 16 (take (8 + n - 8) (drop prefixAt s)) (length (take (8 + n - 8) (drop prefixAt s))) e4 (omega arith)
     ∙ ap (put (set o2 15 n) 16) j) refl in
     let z : a3 ++ p ≡ a0 ++ (f ++ (n ∷ p)) = append-assoc a2 (n ∷ []) p ∙ append-assoc a0 f (n ∷ p) in
     let g : f ++ (n ∷ p) ≡ 0x00 ∷ 0x00 ∷ (features ++ (length p ∷ p)) = ap (λ (i : ℕ). f ++ (i ∷ p)) (sym y) in
-    let v : p ≡ take (prefixCount s) (drop 8 s) = ap (λ (i : ℕ). take i (drop 8 s)) c in
+    let v : p ≡ take (prefixCount s) (drop prefixAt s) = ap (λ (i : ℕ). take i (drop prefixAt s)) c in
     let ret : List ℕ = 0x00 ∷ 0x00 ∷ (features ++ (length p ∷ p)) in
     let t : length ret ≡ 11 + n = omega arith in
     let done : Replied out o4 (16 + n) (complete opcode ret) =
@@ -169,7 +172,7 @@ pub prefix-read : (m : Model) → soundModel m ≡ true → prefixIn (padded m) 
 unfolding prefixIn prefixCount
 prefix-read m e =
     let f : SoundModel m = sound-facts m e in
-    let n : getD (padded m) 7 0 ≡ length (m .prefix) = read-count m in
-    ap (λ (k : ℕ). take k (drop 8 (padded m)))
-    (pick-true (getD (padded m) 7 0) 32 (le-leb (getD (padded m) 7 0) 32 (omega (arith, f .prefix-most))) ∙ n)
+    let n : getD (padded m) prefixLengthAt 0 ≡ length (m .prefix) = read-count m in
+    ap (λ (k : ℕ). take k (drop prefixAt (padded m)))
+    (sym (at-is (getD (padded m) prefixLengthAt 0) mostPrefix (omega (arith, f .prefix-most))) ∙ n)
     ∙ read-prefix m

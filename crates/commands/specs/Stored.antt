@@ -12,6 +12,8 @@ use Rattle.model.specs.Monitors.{monitorOf}
 use Rattle.model.specs.Image.{monitorRow}
 use Rattle.model.specs.Block.{padTo}
 use Rattle.blocks.specs.Rows.{length-monitorRow}
+use Rattle.model.specs.Layout.{paramsMost}
+use Rattle.model.specs.Layout.{monitorRest, monitorSize}
 
 -- the settings of a parameter list, as they stand in a row
 settings-row : (l : List ℕ) → 6 ≤ length l
@@ -25,14 +27,14 @@ settings-row (a ∷ b ∷ c ∷ d ∷ e ∷ []) h = absurd (omega arith)
 settings-row (a ∷ b ∷ c ∷ d ∷ e ∷ f ∷ l) h = refl
 
 -- the whole row: handle, settings, the condition's length, the condition, zeros
-row-octets : (h : ℕ) (l : List ℕ) → 6 ≤ length l → length l ≤ 70
-    → (h ∷ take 5 (drop 1 l)) ++ ((length l - 6) ∷ []) ++ drop 6 l ++ replicate (70 - length l) 0
-    ≡ padTo 71 (monitorRow (h, monitorOf l))
+row-octets : (h : ℕ) (l : List ℕ) → 6 ≤ length l → length l ≤ paramsMost
+    → (h ∷ take 5 (drop 1 l)) ++ ((length l - 6) ∷ []) ++ drop 6 l ++ replicate (monitorRest - length l) 0
+    ≡ padTo monitorSize (monitorRow (h, monitorOf l))
 unfolding padTo monitorRow monitorOf
 row-octets h l b c =
     let n : length (drop 6 l) ≡ length l - 6 = length-drop 6 l in
     let r : length (monitorRow (h, monitorOf l)) ≡ 7 + length (drop 6 l) = length-monitorRow (h, monitorOf l) in
-    let z : 71 - length (monitorRow (h, monitorOf l)) ≡ 70 - length l = omega arith in
+    let z : monitorSize - length (monitorRow (h, monitorOf l)) ≡ monitorRest - length l = omega arith in
     rw (settings-row l b, z, n)
 
 -- a write that told whether it was done, where there is room
@@ -42,15 +44,15 @@ put-made xs at ys k e h = put-of xs at ys k (length xs) (e .0) h (e .1)
 
 -- the five writes, one after another
 pub row-stored : (s : List ℕ) (h at : ℕ) (l : List ℕ) {s2 s4 s5 : List ℕ} {r2 r4 r5 : Bool} → 6 ≤ length l
-    → length l ≤ 70
-    → at + 71 ≤ length s
+    → length l ≤ paramsMost
+    → at + monitorSize ≤ length s
     → (r2 ≡ leb (at + 1 + length (take 5 (drop 1 l))) (length (set s at h)))
     × (s2 ≡ putIf r2 (set s at h) (at + 1) (take 5 (drop 1 l)))
     → (r4 ≡ leb (at + 7 + length (take (length l - 6) (drop 6 l))) (length (set s2 (at + 6) (length l - 6))))
     × (s4 ≡ putIf r4 (set s2 (at + 6) (length l - 6)) (at + 7) (take (length l - 6) (drop 6 l)))
-    → (r5 ≡ leb (at + 1 + length l + (70 - length l)) (length s4))
-    × (s5 ≡ putIf r5 s4 (at + 1 + length l) (replicate (70 - length l) 0))
-    → s5 ≡ put s at (padTo 71 (monitorRow (h, monitorOf l)))
+    → (r5 ≡ leb (at + 1 + length l + (monitorRest - length l)) (length s4))
+    × (s5 ≡ putIf r5 s4 (at + 1 + length l) (replicate (monitorRest - length l) 0))
+    → s5 ≡ put s at (padTo monitorSize (monitorRow (h, monitorOf l)))
 row-stored s h at l {s2} {s4} {s5} b c r e2 e4 e5 =
     let s1 : List ℕ = set s at h in
     let s3 : List ℕ = set s2 (at + 6) (length l - 6) in
@@ -78,7 +80,7 @@ row-stored s h at l {s2} {s4} {s5} b c r e2 e4 e5 =
     let q4 : s4 ≡ put s at a4 =
     put-then s at a3 (at + 7) (drop 6 l) (omega arith) q3 (omega arith) (p4 ∙ ap (put s3 (at + 7)) d) refl in
     let l4 : length s4 ≡ length s = ap length q4 ∙ length-put s at a4 (omega arith) in
-    let p5 : s5 ≡ put s4 (at + 1 + length l) (replicate (70 - length l) 0) =
-    put-made s4 (at + 1 + length l) (replicate (70 - length l) 0) (70 - length l) e5 (omega arith) in
-    put-then s at a4 (at + 1 + length l) (replicate (70 - length l) 0) (omega arith) q4 (omega arith) p5
+    let p5 : s5 ≡ put s4 (at + 1 + length l) (replicate (monitorRest - length l) 0) =
+    put-made s4 (at + 1 + length l) (replicate (monitorRest - length l) 0) (monitorRest - length l) e5 (omega arith) in
+    put-then s at a4 (at + 1 + length l) (replicate (monitorRest - length l) 0) (omega arith) q4 (omega arith) p5
     (row-octets h l b c)

@@ -3,6 +3,7 @@
 // octets written into the block at an offset of two octets, 02 a command's parameters, 03 the image is to be shown.
 // Other lines are passed over. The sessions and their answers are made by vectors.py, which asks the independent
 // implementation.
+use state::State;
 ghost use Prim.Native.Nat.{_+_, _≤_, _<_};
 ghost use lib.ListN.{length};
 use lines::Wrote;
@@ -80,8 +81,8 @@ fn monitors(s: &[u8]) -> u8
     let mut n = 0;
     let mut h = 0usize;
     while h < 16 {
-        if octets::get8(s, 43 + 71 * h) != 0 {
-            part(0xA1, s, 40 + 71 * h, 7);
+        if octets::get8(s, State::INTERVALS_AT + State::MONITOR_ROW * h) != 0 {
+            part(0xA1, s, State::MONITORS_AT + State::MONITOR_ROW * h, 7);
             n += 1;
         }
         h += 1;
@@ -93,14 +94,14 @@ fn pairs(s: &[u8], count: usize) {
     let mut i = 0;
     while i < 64 {
         if i < count {
-            part(0xA2, s, 1176 + 56 * i, 25);
+            part(0xA2, s, State::PAIRS_AT + State::PAIR_ROW * i, 25);
         }
         i += 1;
     }
 }
 
 fn image(s: &[u8]) {
-    let count = octets::get8(s, 4760);
+    let count = octets::get8(s, State::COUNT_AT);
     part(0xA0, s, 0, 8);
     let n = monitors(s);
     pairs(s, count as usize);
@@ -114,7 +115,7 @@ fn perform(o: &[u8], s: &mut [u8]) {
         return;
     }
     if k == 0 {
-        parts::fill(s, 0, 4761, 0);
+        parts::fill(s, 0, State::SIZE, 0);
         return;
     }
     if k == 1 {
@@ -166,7 +167,7 @@ fn run(text: &[u8], s: &mut [u8]) {
 
 fn main() {
     let mut buffer = io::large_buffer();
-    let mut s = [0u8; 4761];
+    let mut s = [0u8; State::SIZE];
     let n = io::read_full(0, &mut buffer);
     run(&buffer[..n], &mut s);
 }

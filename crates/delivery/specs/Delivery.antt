@@ -48,8 +48,7 @@ pub record Delivered (fresh : List ℕ) (calls : List Call) (k : ℕ) (img at : 
       → Ended (replayInto engine room at (journal engine fresh calls j)) at [] (some 2)
 
 -- every line is lent 2,880 octets
-enough : Enough (λ i. 2880)
-unfolding answerRoom
+enough : Enough (λ i. answerRoom)
 enough i = omega arith
 
 decoded : (img at : List ℕ) → decode img ≡ some at → (isImage img ≡ true) × (blockIn (isImage img) img ≡ at)
@@ -61,9 +60,9 @@ decoded img at e = go (isImage img) e
     go false q = absurd (none≢some q)
 
 ended : (room : ℕ) (s t state : List ℕ) (said : List (List ℕ)) (stop : Option ℕ) → (replayInto engine room s t .stop ≡ some 3 → ⊥)
-    → replay engine (λ i. 2880) s t ≡ record { state = state; answers = said; stop = stop } → Ended (replayInto engine room s t) state (flat said) stop
+    → replay engine (λ i. answerRoom) s t ≡ record { state = state; answers = said; stop = stop } → Ended (replayInto engine room s t) state (flat said) stop
 ended room s t state said stop n e =
-    let w : Same [] (replayInto engine room s t) (replay engine (λ i. 2880) s t) = replay-whole engine room s t (λ i. 2880) n enough in
+    let w : Same [] (replayInto engine room s t) (replay engine (λ i. answerRoom) s t) = replay-whole engine room s t (λ i. answerRoom) n enough in
     record {
       state-is = w .state ∙ ap (λ (r : Replayed (List ℕ)). r .state) e;
       wrote-is = w .wrote ∙ ap (λ (r : Replayed (List ℕ)). flat (r .answers)) e;
@@ -81,6 +80,6 @@ delivered opcode prefix ok calls k img at s =
       accepted = d .0;
       loaded = d .1;
       goes-on = λ j a b room n. ended room at (journal engine (begin opcode prefix) calls j) (walk engine (begin opcode prefix) calls)
-          (drop k (answers engine (begin opcode prefix) calls)) none n (f .goes-on j a b (λ i. 2880) enough);
-      gapped = λ j a b room n. ended room at (journal engine (begin opcode prefix) calls j) at [] (some 2) n (f .gapped j a b (λ i. 2880) enough);
+          (drop k (answers engine (begin opcode prefix) calls)) none n (f .goes-on j a b (λ i. answerRoom) enough);
+      gapped = λ j a b room n. ended room at (journal engine (begin opcode prefix) calls j) at [] (some 2) n (f .gapped j a b (λ i. answerRoom) enough);
     }

@@ -273,7 +273,7 @@ from-fresh opcode prefix ok before later out left at end n b g l =
           let y = behind fresh before later out left at end n b g l in
           (z .0, z .1 ∙ ends fresh before later out left at end n b g l, z .2 ∙ ap (λ (x : List ℕ). put o 0 x) y, z .3 ∙ ap (λ (x : List ℕ). length x) y);
       in-turns = λ j h i xs c v t.
-          let y = ap (λ (x : List ℕ). whole engine at x) (journal-kept fresh before later out left at end n b g l j) ∙ f .goes-on j h i (λ i. 2880) enough in
+          let y = ap (λ (x : List ℕ). whole engine at x) (journal-kept fresh before later out left at end n b g l j) ∙ f .goes-on j h i (λ i. answerRoom) enough in
           let z = all-turns at _ _ _ y xs c v t in
           (z .0, λ e. (z .1 e .0 ∙ ends fresh before later out left at end n b g l, z .1 e .1 ∙ behind fresh before later out left at end n b g l));
       gapped = λ j h i o c o′ m m′ r p q.

@@ -15,6 +15,7 @@ use Rattle.replays.specs.Into.{Reached, replayInto}
 use Rattle.bournejade.specs.Gives.{stopIn, Replayed}
 use Rattle.delivery.specs.Turns.{Then, whole, one-turn, turn-goes}
 use Rattle.delivery.specs.Firmware.{Turn, Turns, Go, writtenIn}
+use Rattle.sessions.specs.Machine.{answerRoom}
 
 -- octets written at an output's front and read back
 pub front : (out l left : List ℕ) (n : ℕ) → n ≡ length l → left ≡ put out 0 l → take n left ≡ l
@@ -85,4 +86,4 @@ seen-turns s t (x ∷ xs) u v k h =
 -- where no whole line is left, nothing is left to do
 pub nothing-left : (u v : List ℕ) → cut v ≡ [] → whole engine u v ≡ record { state = u; answers = []; stop = none }
 unfolding replay replayLines
-nothing-left u v e = ap (λ (ls : List (List ℕ)). replayLines engine (λ i. 2880) u ls) e
+nothing-left u v e = ap (λ (ls : List (List ℕ)). replayLines engine (λ i. answerRoom) u ls) e

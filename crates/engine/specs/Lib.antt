@@ -7,6 +7,7 @@ pub mod Texts
 pub mod Replays
 pub mod Keeps
 pub mod Loop
+pub mod Bounds
 pub mod Placing
 pub mod Runs
 pub mod Judges

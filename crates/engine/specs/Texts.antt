@@ -16,7 +16,7 @@ use Rattle.laws.specs.Tests.{pick, pick-true, pick-false, and-left, and-right, 
 use Rattle.laws.specs.Loops.{every}
 use Rattle.octets.specs.Little.{isOctet}
 use Rattle.lines.specs.Hex.{isText, octetsIn}
-use Rattle.lines.specs.Frame.{isFrame, frame-most}
+use Rattle.lines.specs.Frame.{frame-most, isFrame, mostFrame}
 use Rattle.lines.specs.Answers.{takeText, afterWrite, take-read}
 use Rattle.lines.specs.declared.Refusal.{Refusal}
 use Rattle.lines.specs.declared.Wrote.{Wrote}
@@ -38,15 +38,15 @@ read-none : (raw : List ℕ) → isFrame raw ≡ false → readRaw raw ≡ none
 unfolding readRaw
 read-none raw e = pick-false (some (frameOf raw)) none (and-not-right (every isOctet raw) (isFrame raw) e)
 
-long-frame : (raw : List ℕ) → 263 < length raw → isFrame raw ≡ false
+long-frame : (raw : List ℕ) → mostFrame < length raw → isFrame raw ≡ false
 long-frame raw h = go (isFrame raw) refl
   where
     go : (t : Bool) → isFrame raw ≡ t → t ≡ false
     go false e = refl
-    go true e = let b : length raw ≤ 263 = frame-most raw e in absurd (omega arith)
+    go true e = let b : length raw ≤ mostFrame = frame-most raw e in absurd (omega arith)
 
 -- a text that does not hold octets enough for a frame, or is none, is refused by 4
-pub line-unread : (s t : List ℕ) (n : ℕ) (x : Refusal) → takeText t n ≡ Refused x → 263 ≤ n → judge engine s (read text t) ≡ refused 4
+pub line-unread : (s t : List ℕ) (n : ℕ) (x : Refusal) → takeText t n ≡ Refused x → mostFrame ≤ n → judge engine s (read text t) ≡ refused 4
 unfolding takeText read judge
 line-unread s t n x e h = go (isText t) refl (leb (length (octetsIn t)) n) refl e
   where

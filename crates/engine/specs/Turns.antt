@@ -8,15 +8,14 @@ use native.Mathlib.Omega.{arith}
 use borrow.Author.Tests.{ne-eqb}
 use lib.Dec.{eqb}
 use lib.ListN.{length, drop}
-use Rattle.sessions.specs.Machine.{Outcome, refused, done, text, answerRoom}
-use Rattle.sessions.specs.Session.{answer, judge}
+use Rattle.sessions.specs.Machine.{Outcome, refused, done, text}
+use Rattle.sessions.specs.Session.{answer}
 use Rattle.sessions.specs.Saved.{cut}
-use Rattle.sessions.specs.Refusals.{answer-unsound, answer-short, answer-judge}
-use Rattle.model.specs.Frames.{read}
-use Rattle.model.specs.Block.{sound}
+use Rattle.sessions.specs.Refusals.{answer-unsound}
+use Rattle.model.specs.Block.{held, sound}
 use Rattle.model.specs.Engine.{engine}
-use Rattle.replays.specs.Into.{Reached, begun, reach, lineFrom, linesFrom, replayInto}
-use Rattle.replays.specs.Pieces.{stopped}
+use Rattle.replays.specs.Into.{Reached, begun, reach, lineFrom, linesWhile, replayWhile}
+use Rattle.replays.specs.Pieces.{stays}
 
 -- what was reached: the state, the octets written, the characters read; not stopped, or stopped by a refusal
 unfoldable pub going : List ℕ → List ℕ → ℕ → Reached (List ℕ)
@@ -25,48 +24,43 @@ going s w at = record { state = s; wrote = w; taken = at; stop = none }
 unfoldable pub halted : List ℕ → List ℕ → ℕ → ℕ → Reached (List ℕ)
 halted s w at n = record { state = s; wrote = w; taken = at; stop = some n }
 
-pub begins : (room : ℕ) (s t : List ℕ) → linesFrom engine room (going s [] 0) (cut (drop 0 t)) ≡ replayInto engine room s t
-unfolding going replayInto begun
-begins room s t = refl
+module _ (goes : ℕ → Bool) (room : ℕ) where
+  pub begins : (s t : List ℕ) → linesWhile engine goes room (going s [] 0) (cut (drop 0 t)) ≡ replayWhile engine goes room s t
+  unfolding going replayWhile begun
+  begins s t = refl
 
-module _ (room : ℕ) (s w : List ℕ) (at : ℕ) (t : List ℕ) (end : Reached (List ℕ))
-    (q : linesFrom engine room (going s w at) (cut (drop at t)) ≡ end) where
-  -- no line is left
-  pub turn-end : cut (drop at t) ≡ [] → going s w at ≡ end
-  unfolding linesFrom
-  turn-end e = sym (ap (linesFrom engine room (going s w at)) e) ∙ q
+  module _ (s w : List ℕ) (at : ℕ) (t : List ℕ) (end : Reached (List ℕ))
+      (q : linesWhile engine goes room (going s w at) (cut (drop at t)) ≡ end) where
+    -- no line is left
+    pub turn-end : cut (drop at t) ≡ [] → going s w at ≡ end
+    unfolding linesWhile
+    turn-end e = sym (ap (linesWhile engine goes room (going s w at)) e) ∙ q
 
-  module _ (l : List ℕ) (ls : List (List ℕ)) (c : cut (drop at t) ≡ l ∷ ls) where
-    pub after : (o : Outcome (List ℕ)) → answer engine (room - length w) s text l ≡ o → linesFrom engine room (reach (going s w at) (length l) o) ls ≡ end
-    unfolding linesFrom lineFrom going
-    after o e =
-        sym (ap (linesFrom engine room (going s w at)) c ∙ ap (λ (u : Outcome (List ℕ)). linesFrom engine room (reach (going s w at) (length l) u) ls) e) ∙ q
+    -- the position fails the test
+    pub turn-held : goes (held s .position) ≡ false → going s w at ≡ end
+    unfolding linesWhile going
+    turn-held e = sym (held-back (cut (drop at t))) ∙ q
+      where
+        held-back : (ls : List (List ℕ)) → linesWhile engine goes room (going s w at) ls ≡ going s w at
+        held-back [] = refl
+        held-back (l ∷ ls) =
+            ap (λ (b : Bool). elim b [ true ↦ linesWhile engine goes room (lineFrom engine room none (going s w at) l) ls | false ↦ going s w at ]) e
 
-    pub stops : (n : ℕ) → (n ≡ 1 → ⊥) → answer engine (room - length w) s text l ≡ refused n → halted s w at n ≡ end
-    unfolding reach going halted
-    stops n k e =
-        sym (ap (λ (b : Bool). linesFrom engine room (cond {A = Reached (List ℕ)} b (record { state = s; wrote = w; taken = at + length l; stop = none })
-        (record { state = s; wrote = w; taken = at; stop = some n })) ls) (ne-eqb n 1 k)
-        ∙ stopped engine room (halted s w at n) n ls refl) ∙ after (refused n) e
+    module _ (l : List ℕ) (ls : List (List ℕ)) (c : cut (drop at t) ≡ l ∷ ls) (y : goes (held s .position) ≡ true) where
+      pub after : (o : Outcome (List ℕ)) → answer engine (room - length w) s text l ≡ o
+          → linesWhile engine goes room (reach (going s w at) (length l) o) ls ≡ end
+      unfolding linesWhile lineFrom going
+      after o e =
+          sym (ap (linesWhile engine goes room (going s w at)) c
+          ∙ ap (λ (b : Bool). elim b [ true ↦ linesWhile engine goes room (lineFrom engine room none (going s w at) l) ls | false ↦ going s w at ]) y
+          ∙ ap (λ (u : Outcome (List ℕ)). linesWhile engine goes room (reach (going s w at) (length l) u) ls) e) ∙ q
 
-    pub turn-unsound : sound s ≡ false → halted s w at 7 ≡ end
-    turn-unsound e = stops 7 (λ z. omega arith) (answer-unsound engine (room - length w) s text l e)
+      pub stops : (n : ℕ) → (n ≡ 1 → ⊥) → answer engine (room - length w) s text l ≡ refused n → halted s w at n ≡ end
+      unfolding reach going halted
+      stops n k e =
+          sym (ap (λ (b : Bool). linesWhile engine goes room (cond {A = Reached (List ℕ)} b (record { state = s; wrote = w; taken = at + length l; stop = none })
+          (record { state = s; wrote = w; taken = at; stop = some n })) ls) (ne-eqb n 1 k)
+          ∙ stays engine room goes (halted s w at n) n ls refl) ∙ after (refused n) e
 
-    module _ (good : sound s ≡ true) where
-      pub turn-short : room - length w < answerRoom → halted s w at 3 ≡ end
-      turn-short h = stops 3 (λ z. omega arith) (answer-short engine (room - length w) s text l good h)
-
-      module _ (big : answerRoom ≤ room - length w) where
-        judged : (o : Outcome (List ℕ)) → judge engine s (read text l) ≡ o → answer engine (room - length w) s text l ≡ o
-        judged o e = answer-judge engine (room - length w) s text l good big ∙ e
-
-        pub turn-done : (s′ a : List ℕ) → judge engine s (read text l) ≡ done s′ a → linesFrom engine room (going s′ (w ++ a) (at + length l)) ls ≡ end
-        unfolding reach going
-        turn-done s′ a e = after (done s′ a) (judged (done s′ a) e)
-
-        pub turn-seen : judge engine s (read text l) ≡ refused 1 → linesFrom engine room (going s w (at + length l)) ls ≡ end
-        unfolding reach going
-        turn-seen e = after (refused 1) (judged (refused 1) e)
-
-        pub turn-stop : (n : ℕ) → (n ≡ 1 → ⊥) → judge engine s (read text l) ≡ refused n → halted s w at n ≡ end
-        turn-stop n k e = stops n k (judged (refused n) e)
+      pub turn-unsound : sound s ≡ false → halted s w at 7 ≡ end
+      turn-unsound e = stops 7 (λ z. omega arith) (answer-unsound engine (room - length w) s text l e)

@@ -13,6 +13,7 @@ use Rattle.model.specs.Types.{Pair}
 use Rattle.model.specs.Image.{pairRow}
 use Rattle.model.specs.Events.{event, report}
 use Rattle.model.specs.Block.{padTo}
+use Rattle.model.specs.Layout.{mostData, mostPrefix, pairSize}
 
 -- "Event: 0xFF, length, prefix, 0x02, address type, address, handle, 1 or 0". A row opens with handle, address type
 -- and address.
@@ -30,12 +31,12 @@ reportOctets event device adv rssi =
 -- all of it
 unfoldable pub eventFits : ℕ → ℕ → List ℕ → List ℕ → ℕ → Bool
 eventFits n at prefix row state =
-    leb (length prefix) 32 && (leb 8 (length row) && leb (at + length (eventOctets prefix row state)) n)
+    leb (length prefix) mostPrefix && (leb 8 (length row) && leb (at + length (eventOctets prefix row state)) n)
 
 -- whether a report is written into n octets at an index: a device of 7 octets, data of at most 31, room for all of it
 unfoldable pub reportFits : ℕ → ℕ → ℕ → List ℕ → List ℕ → ℕ → Bool
 reportFits n at event device adv rssi =
-    eqb (length device) 7 && (leb (length adv) 31 && leb (at + length (reportOctets event device adv rssi)) n)
+    eqb (length device) 7 && (leb (length adv) mostData && leb (at + length (reportOctets event device adv rssi)) n)
 
 pub length-event : (prefix row : List ℕ) (state : ℕ) → 8 ≤ length row
     → length (eventOctets prefix row state) ≡ 12 + length prefix
@@ -55,7 +56,7 @@ event-row prefix q state xs h =
     rw (take-at (q .address) xs 6 h)
 
 pub event-pair : (prefix : List ℕ) (q : Pair) (state : ℕ) → length (q .address) ≡ 6
-    → eventOctets prefix (padTo 56 (pairRow q)) state ≡ event prefix q state
+    → eventOctets prefix (padTo pairSize (pairRow q)) state ≡ event prefix q state
 unfolding padTo pairRow
 event-pair prefix q state h =
     ap (λ (l : List ℕ). eventOctets prefix (q .handle ∷ q .kind ∷ l) state) (append-assoc (q .address) _ _)

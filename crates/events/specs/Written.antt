@@ -8,6 +8,7 @@ use borrow.Author.Tests.{le-leb, lt-leb, eq-eqb, ne-eqb}
 use Rattle.laws.specs.Put.{put, putIf, set-put, put-push, put-then}
 use Rattle.laws.specs.Tests.{pick}
 use Rattle.events.specs.Octets.{eventOctets, reportOctets, eventFits, reportFits, length-event, length-report}
+use Rattle.model.specs.Layout.{mostData, mostPrefix}
 
 -- two octets, the prefix, one octet, address type and address, two octets
 pub event-written : (out : List ℕ) (at : ℕ) (prefix row : List ℕ) (state : ℕ) {l m : List ℕ}
@@ -73,7 +74,7 @@ report-written out at event device adv rssi {l} {m} h k p q =
 
 -- what the public functions leave: where an event or a report fits, all of it and its length; else nothing and 0
 module _ (out : List ℕ) (at : ℕ) (prefix row : List ℕ) (state : ℕ) where
-  pub event-done : {m : List ℕ} → length prefix ≤ 32 → 8 ≤ length row → at + (12 + length prefix) ≤ length out
+  pub event-done : {m : List ℕ} → length prefix ≤ mostPrefix → 8 ≤ length row → at + (12 + length prefix) ≤ length out
       → m ≡ put out at (eventOctets prefix row state)
       → (12 + length prefix ≡ pick (eventFits (length out) at prefix row state)
       (length (eventOctets prefix row state)) 0)
@@ -81,32 +82,32 @@ module _ (out : List ℕ) (at : ℕ) (prefix row : List ℕ) (state : ℕ) where
   unfolding eventFits pick putIf
   event-done a b c e =
       let n : length (eventOctets prefix row state) ≡ 12 + length prefix = length-event prefix row state b in
-      rw (le-leb (length prefix) 32 a, le-leb 8 (length row) b, n, le-leb (at + (12 + length prefix)) (length out) c)
+      rw (le-leb (length prefix) mostPrefix a, le-leb 8 (length row) b, n, le-leb (at + (12 + length prefix)) (length out) c)
       (refl, e)
 
-  pub event-long : 32 < length prefix
+  pub event-long : mostPrefix < length prefix
       → (0 ≡ pick (eventFits (length out) at prefix row state) (length (eventOctets prefix row state)) 0)
       × (out ≡ putIf (eventFits (length out) at prefix row state) out at (eventOctets prefix row state))
   unfolding eventFits pick putIf
-  event-long a = rw (lt-leb (length prefix) 32 a) (refl, refl)
+  event-long a = rw (lt-leb (length prefix) mostPrefix a) (refl, refl)
 
-  pub event-part : length prefix ≤ 32 → length row < 8
+  pub event-part : length prefix ≤ mostPrefix → length row < 8
       → (0 ≡ pick (eventFits (length out) at prefix row state) (length (eventOctets prefix row state)) 0)
       × (out ≡ putIf (eventFits (length out) at prefix row state) out at (eventOctets prefix row state))
   unfolding eventFits pick putIf
-  event-part a b = rw (le-leb (length prefix) 32 a, lt-leb 8 (length row) b) (refl, refl)
+  event-part a b = rw (le-leb (length prefix) mostPrefix a, lt-leb 8 (length row) b) (refl, refl)
 
-  pub event-out : length prefix ≤ 32 → 8 ≤ length row → length out < at + (12 + length prefix)
+  pub event-out : length prefix ≤ mostPrefix → 8 ≤ length row → length out < at + (12 + length prefix)
       → (0 ≡ pick (eventFits (length out) at prefix row state) (length (eventOctets prefix row state)) 0)
       × (out ≡ putIf (eventFits (length out) at prefix row state) out at (eventOctets prefix row state))
   unfolding eventFits pick putIf
   event-out a b c =
       let n : length (eventOctets prefix row state) ≡ 12 + length prefix = length-event prefix row state b in
-      rw (le-leb (length prefix) 32 a, le-leb 8 (length row) b, n, lt-leb (at + (12 + length prefix)) (length out) c)
+      rw (le-leb (length prefix) mostPrefix a, le-leb 8 (length row) b, n, lt-leb (at + (12 + length prefix)) (length out) c)
       (refl, refl)
 
 module _ (out : List ℕ) (at event : ℕ) (device adv : List ℕ) (rssi : ℕ) where
-  pub report-done : {m : List ℕ} → length device ≡ 7 → length adv ≤ 31 → at + (14 + length adv) ≤ length out
+  pub report-done : {m : List ℕ} → length device ≡ 7 → length adv ≤ mostData → at + (14 + length adv) ≤ length out
       → m ≡ put out at (reportOctets event device adv rssi)
       → (14 + length adv ≡ pick (reportFits (length out) at event device adv rssi)
       (length (reportOctets event device adv rssi)) 0)
@@ -114,7 +115,7 @@ module _ (out : List ℕ) (at event : ℕ) (device adv : List ℕ) (rssi : ℕ) 
   unfolding reportFits pick putIf
   report-done a b c e =
       let n : length (reportOctets event device adv rssi) ≡ 14 + length adv = length-report event device adv rssi a in
-      rw (eq-eqb (length device) 7 a, le-leb (length adv) 31 b, n, le-leb (at + (14 + length adv)) (length out) c)
+      rw (eq-eqb (length device) 7 a, le-leb (length adv) mostData b, n, le-leb (at + (14 + length adv)) (length out) c)
       (refl, e)
 
   pub report-part : (length device ≡ 7 → ⊥)
@@ -123,17 +124,17 @@ module _ (out : List ℕ) (at event : ℕ) (device adv : List ℕ) (rssi : ℕ) 
   unfolding reportFits pick putIf
   report-part a = rw (ne-eqb (length device) 7 a) (refl, refl)
 
-  pub report-long : length device ≡ 7 → 31 < length adv
+  pub report-long : length device ≡ 7 → mostData < length adv
       → (0 ≡ pick (reportFits (length out) at event device adv rssi) (length (reportOctets event device adv rssi)) 0)
       × (out ≡ putIf (reportFits (length out) at event device adv rssi) out at (reportOctets event device adv rssi))
   unfolding reportFits pick putIf
-  report-long a b = rw (eq-eqb (length device) 7 a, lt-leb (length adv) 31 b) (refl, refl)
+  report-long a b = rw (eq-eqb (length device) 7 a, lt-leb (length adv) mostData b) (refl, refl)
 
-  pub report-out : length device ≡ 7 → length adv ≤ 31 → length out < at + (14 + length adv)
+  pub report-out : length device ≡ 7 → length adv ≤ mostData → length out < at + (14 + length adv)
       → (0 ≡ pick (reportFits (length out) at event device adv rssi) (length (reportOctets event device adv rssi)) 0)
       × (out ≡ putIf (reportFits (length out) at event device adv rssi) out at (reportOctets event device adv rssi))
   unfolding reportFits pick putIf
   report-out a b c =
       let n : length (reportOctets event device adv rssi) ≡ 14 + length adv = length-report event device adv rssi a in
-      rw (eq-eqb (length device) 7 a, le-leb (length adv) 31 b, n, lt-leb (at + (14 + length adv)) (length out) c)
+      rw (eq-eqb (length device) 7 a, le-leb (length adv) mostData b, n, lt-leb (at + (14 + length adv)) (length out) c)
       (refl, refl)

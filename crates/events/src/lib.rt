@@ -1,14 +1,16 @@
 // Events and reports, appended to a lent output at an index (document 01, Watching, by history). Where one does not fit, or an
 // argument is not of its length, nothing is written and the answer is 0.
+use state::State;
 ghost use Prim.Native.Nat.{_+_, _≤_};
 ghost use mathlib.Core.Path.{_≡_};
 ghost use lib.ListN.{length};
 ghost use Rattle.laws.specs.Put.{put, putIf};
 ghost use Rattle.laws.specs.Tests.{pick};
 ghost use Rattle.events.specs.Octets.{eventOctets, reportOctets, eventFits, reportFits};
+ghost use Rattle.model.specs.Layout.{mostData, mostPrefix};
 
 fn put_event_in(out: &mut [u8], at: usize, prefix: &[u8], row: &[u8], state: u8)
-    requires { ⌜ (length (now prefix) ≤ 32) × (8 ≤ length (now row)) × (at + (12 + length (now prefix)) ≤ length (now out)) ⌝ }
+    requires { ⌜ (length (now prefix) ≤ mostPrefix) × (8 ≤ length (now row)) × (at + (12 + length (now prefix)) ≤ length (now out)) ⌝ }
     ensures { λ _. ⌜ now (out .exit) ≡ put (now (out .entry)) at (eventOctets (now (prefix .entry)) (now (row .entry)) state) ⌝ }
 {
     let n = prefix.len();
@@ -16,7 +18,7 @@ fn put_event_in(out: &mut [u8], at: usize, prefix: &[u8], row: &[u8], state: u8)
     out[at + 1] = (10 + n) as u8;
     parts::copy(out, at + 2, prefix);
     out[at + 2 + n] = 2;
-    parts::copy(out, at + 3 + n, &row[1..8]);
+    parts::copy(out, at + 3 + n, &row[State::KIND_AT..State::KEY]);
     out[at + 10 + n] = row[0];
     out[at + 11 + n] = state;
 }
@@ -26,10 +28,10 @@ pub fn put_event(out: &mut [u8], at: usize, prefix: &[u8], row: &[u8], state: u8
     ensures { λ r. ⌜ (r ≡ pick (eventFits (length (now (out .entry))) at (now (prefix .entry)) (now (row .entry)) state) (length (eventOctets (now (prefix .entry)) (now (row .entry)) state)) 0) × (now (out .exit) ≡ putIf (eventFits (length (now (out .entry))) at (now (prefix .entry)) (now (row .entry)) state) (now (out .entry)) at (eventOctets (now (prefix .entry)) (now (row .entry)) state)) ⌝ }
 {
     let n = prefix.len();
-    if n > 32 {
+    if n > State::PREFIX {
         return 0;
     }
-    if row.len() < 8 {
+    if row.len() < State::KEY {
         return 0;
     }
     let all = out.len();
@@ -44,7 +46,7 @@ pub fn put_event(out: &mut [u8], at: usize, prefix: &[u8], row: &[u8], state: u8
 }
 
 fn put_report_in(out: &mut [u8], at: usize, event: u8, device: &[u8], adv: &[u8], rssi: u8)
-    requires { ⌜ (length (now device) ≡ 7) × (length (now adv) ≤ 31) × (at + (14 + length (now adv)) ≤ length (now out)) ⌝ }
+    requires { ⌜ (length (now device) ≡ 7) × (length (now adv) ≤ mostData) × (at + (14 + length (now adv)) ≤ length (now out)) ⌝ }
     ensures { λ _. ⌜ now (out .exit) ≡ put (now (out .entry)) at (reportOctets event (now (device .entry)) (now (adv .entry)) rssi) ⌝ }
 {
     let n = adv.len();
@@ -71,10 +73,10 @@ pub fn put_report(
     ensures { λ r. ⌜ (r ≡ pick (reportFits (length (now (out .entry))) at event (now (device .entry)) (now (adv .entry)) rssi) (length (reportOctets event (now (device .entry)) (now (adv .entry)) rssi)) 0) × (now (out .exit) ≡ putIf (reportFits (length (now (out .entry))) at event (now (device .entry)) (now (adv .entry)) rssi) (now (out .entry)) at (reportOctets event (now (device .entry)) (now (adv .entry)) rssi)) ⌝ }
 {
     let n = adv.len();
-    if device.len() != 7 {
+    if device.len() != State::DEVICE {
         return 0;
     }
-    if n > 31 {
+    if n > State::DATA {
         return 0;
     }
     let all = out.len();

@@ -17,7 +17,7 @@ use Rattle.rule.specs.Engine.{find, slot, insertAt, remove, State, step, move}
 use Rattle.rule.specs.Engine
 use Rattle.rule.specs.Project.{over, each-view}
 use Rattle.rule.specs.Shows.{Shows}
-use Rattle.model.specs.Types.{Model, Monitor, Packet, Pair, withLists, withFilter, moved, mostMonitors, mostPairs}
+use Rattle.model.specs.Types.{Model, Monitor, Packet, Pair, withLists, withFilter, moved}
 use Rattle.model.specs.Frames.{Body, Typed, command, packet as packetFrame, tick as tickFrame, bad, typed}
 use Rattle.model.specs.Monitors.{accepts, faultOf, monitorOf, invalid, full}
 use Rattle.model.specs.Commands.{status, addStatus, cancelStatus, commanded, changed, added, cancelled, ofOther, subOf, paramsIn, table, present}
@@ -27,6 +27,7 @@ use Rattle.sessions.specs.Machine.{lastNumber}
 use Rattle.model.specs.Sound.{soundModel, soundPair, soundSettings, soundMonitors, apart}
 use Rattle.model.specs.Radio.{radio, core, coreTyped, coreCommand}
 use Rattle.failover.specs.View.{viewPair, view, each-some, map-each, packet-view, all-turns-view, tick-view, remove-none, cancel-view, keep-live}
+use Rattle.model.specs.Layout.{mostMonitors, mostPairs}
 
 -- the core state of given monitors and pairs
 abbrev shown : List (ℕ × Monitor) → List Pair → State radio
@@ -39,9 +40,9 @@ step-other m = ap (λ ps. record { mons = m .mons; pairs = ps }) (each-some (map
 
 pub step-add : (m : Model) (x : Monitor)
     → step radio (view m) (add x) ≡ shown (cond (accepts x) (insertAt (slot (m .mons) mostMonitors 0) x (m .mons)) (m .mons)) (m .pairs)
-unfolding view HANDLES mostMonitors
+unfolding view HANDLES
 step-add m x =
-    ap (λ ps. record { mons = cond (accepts x) (insertAt (slot (m .mons) 16 0) x (m .mons)) (m .mons); pairs = ps })
+    ap (λ ps. record { mons = cond (accepts x) (insertAt (slot (m .mons) mostMonitors 0) x (m .mons)) (m .mons); pairs = ps })
     (each-some (map viewPair (m .pairs)))
 
 -- a monitor command
@@ -106,11 +107,11 @@ agree-command m l s = go (eqb (subOf l) 3) (eqb (subOf l) 4) refl refl
 
 -- a packet, a tick
 pub agree-packet : (m : Model) (p : Packet) → view (withLists m (m .mons) (Watch.packetPairs m p)) ≡ step radio (view m) (packet p)
-unfolding view withLists Watch.packetPairs mostMonitors HANDLES Watch.packetMove viewPair
+unfolding view withLists Watch.packetPairs HANDLES Watch.packetMove viewPair
 agree-packet m p =
     ap (λ ps. record { mons = m .mons; pairs = ps })
-    (all-turns-view (m .mons) p 16 (map (Watch.packetMove (m .mons) p) (m .pairs))
-    ∙ ap (Engine.turns radio (m .mons) p 16)
+    (all-turns-view (m .mons) p mostMonitors (map (Watch.packetMove (m .mons) p) (m .pairs))
+    ∙ ap (Engine.turns radio (m .mons) p mostMonitors)
     (map-each viewPair (Watch.packetMove (m .mons) p) (λ q. Engine.atPacket radio (find (m .mons) (q .0)) p q) (m .pairs)
     (λ q. packet-view (find (m .mons) (q .handle)) p q)))
 

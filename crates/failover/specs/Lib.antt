@@ -1,6 +1,8 @@
--- Demand 3, whole, of the model: `Demand3` states it, `Proof` proves it.
+-- Demand 3, whole, over records: `Demand3` states it, `Proof` proves it. `Blocks` carries what is shown over records to blocks of octets, `Edges` the rows P1 to P10.
 pub mod View
 pub mod Agree
 pub mod Read
 pub mod Demand3
 pub mod Proof
+pub mod Blocks
+pub mod Edges

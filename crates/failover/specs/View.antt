@@ -19,7 +19,7 @@ use Rattle.rule.specs.Engine.{find, slot, insertAt, remove, State, Pair as Core
 use Rattle.rule.specs.Engine
 use Rattle.rule.specs.Project.{over, each-view, turnsFull, turns-view, startedFull}
 use Rattle.rule.specs.Shows.{Shows}
-use Rattle.model.specs.Types.{Model, Monitor, Packet, Pair, watched, device, deviceOf, withLists, withFilter, moved, mostMonitors, mostPairs, ticksOf}
+use Rattle.model.specs.Types.{Model, Monitor, Packet, Pair, watched, device, deviceOf, withLists, withFilter, moved, ticksOf}
 use Rattle.model.specs.Frames.{Body, Typed, command, packet as packetFrame, tick as tickFrame, bad, typed}
 use Rattle.model.specs.Monitors.{matches, good, strong, runOf, windowed, accepts, faultOf, monitorOf, invalid, full}
 use Rattle.model.specs.Commands.{status, addStatus, cancelStatus, commanded, changed, added, cancelled, ofOther, subOf, paramsIn, table, present}
@@ -27,6 +27,7 @@ use Rattle.model.specs.Watch
 use Rattle.model.specs.Step.{stepTyped, refusalTyped}
 use Rattle.model.specs.Sound.{soundModel, soundPair, soundOf}
 use Rattle.model.specs.Radio.{radio, core, coreTyped, coreCommand}
+use Rattle.model.specs.Layout.{mostMonitors, mostPairs}
 
 -- a pair as the core holds it
 unfoldable pub viewPair : Pair → CorePair radio
@@ -59,7 +60,7 @@ length-view (q ∷ qs) = ap suc (length-view qs)
 
 -- a start is a start of the core
 pub begins-view : (m : Monitor) (p : Packet) (h : ℕ) (qs : List Pair) → begins radio m p h (map viewPair qs) ≡ Watch.begins m p h qs
-unfolding Watch.begins CAP mostPairs
+unfolding Watch.begins CAP
 begins-view m p h qs = rw (held-holds qs h (deviceOf p), length-view qs)
 
 pub turn-view : (o : Option Monitor) (p : Packet) (h : ℕ) (qs : List Pair)

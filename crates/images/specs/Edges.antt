@@ -7,7 +7,7 @@ use mathlib.Core.List.{List, [], _∷_}
 use Prim.Native.String.{String}
 use Rattle.laws.specs.Loops.{every, each}
 use Rattle.model.specs.Image.{isImage}
-use Rattle.images.specs.Quoted.{codes}
+use Rattle.model.specs.Quoted.{codes}
 
 -- A row is a text, in pieces. Whether it is an image, and is none:
 unfoldable pub accepted : List String → Bool
@@ -125,8 +125,7 @@ others =
 -- Each of the first is an image, and none of the others is.
 pub edges-hold : (every accepted images ≡ true) × (every refused others ≡ true)
 unfolding accepted refused images others codes
-    Rattle.model.specs.Types.mostMonitors Rattle.model.specs.Types.mostPairs Rattle.model.specs.Types.mostCondition
-    Rattle.model.specs.Types.mostData Rattle.model.specs.Types.mostPrefix Rattle.model.specs.Types.ticksOf
+    Rattle.model.specs.Types.ticksOf
     Rattle.model.specs.Types.device Rattle.model.specs.Types.watched
     Rattle.model.specs.Level.level Rattle.model.specs.Level.inRange Rattle.model.specs.Level.levels
     Rattle.model.specs.Monitors.highAbove Rattle.model.specs.Monitors.faultOf Rattle.model.specs.Monitors.accepts

@@ -14,36 +14,37 @@ use Rattle.laws.specs.Loops.{every}
 use Rattle.octets.specs.Little.{isOctet}
 use Rattle.rule.specs.Engine.{find}
 use Rattle.sessions.specs.Machine.{lastNumber}
-use Rattle.model.specs.Types.{Model, Monitor, Pair, mostMonitors, mostPairs, mostPrefix, mostData, ticksOf}
+use Rattle.model.specs.Types.{Model, Monitor, Pair, ticksOf}
 use Rattle.model.specs.Level.{levels}
 use Rattle.model.specs.Monitors.{accepts, runOf, windowed}
 use Rattle.model.specs.Accepted.{Accepted, accepted}
 use Rattle.model.specs.Sound.{octetsUpTo, soundSettings, soundMonitor, soundMonitors, soundWindow, soundEmpty}
 use Rattle.model.specs.Sound.{soundFields, soundOf, soundPair, apart, soundModel}
 use Rattle.images.specs.Texts.{octets}
+use Rattle.model.specs.Layout.{mostCondition, mostData, mostMonitors, mostPairs, mostPrefix}
 
 -- A0's fields
 pub record HeadFits (m : Model) : Type 0 where
   pub position : m .position ≤ 4294967295
   pub filter : m .filter ≤ 1
   pub opcode : m .opcode ≤ 65535
-  pub short : length (m .prefix) ≤ 32
+  pub short : length (m .prefix) ≤ mostPrefix
   pub prefix : octets (m .prefix) ≡ true
 
 -- A1's fields
 pub record MonitorFits (x : ℕ × Monitor) : Type 0 where
-  pub handle : x .0 < 16
+  pub handle : x .0 < mostMonitors
   pub high : x .1 .high < 256
   pub low : x .1 .low < 256
   pub interval : x .1 .interval ≤ 60
   pub sampling : x .1 .sampling < 256
   pub kind : x .1 .kind ≤ 4
-  pub short : length (x .1 .condition) ≤ 64
+  pub short : length (x .1 .condition) ≤ mostCondition
   pub condition : octets (x .1 .condition) ≡ true
 
 -- A2's fields
 pub record PairFits (q : Pair) : Type 0 where
-  pub handle : q .handle < 16
+  pub handle : q .handle < mostMonitors
   pub kind : q .kind ≤ 1
   pub six : length (q .address) ≡ 6
   pub address : octets (q .address) ≡ true
@@ -52,7 +53,7 @@ pub record PairFits (q : Pair) : Type 0 where
   pub packets : q .packets ≤ 4294967295
   pub sum : q .sum < 18446744073709551616
   pub event : q .event ≤ 3
-  pub short : length (q .adv) ≤ 31
+  pub short : length (q .adv) ≤ mostData
   pub adv : octets (q .adv) ≡ true
 
 -- each element of a list keeps to P
@@ -64,11 +65,11 @@ All P (a ∷ l) = P a × All P l
 pub record Fits (m : Model) : Type 0 where
   pub head : HeadFits m
   pub mons : All MonitorFits (m .mons)
-  pub most-mons : length (m .mons) ≤ 16
+  pub most-mons : length (m .mons) ≤ mostMonitors
   pub pairs : All PairFits (m .pairs)
-  pub most-pairs : length (m .pairs) ≤ 64
+  pub most-pairs : length (m .pairs) ≤ mostPairs
 
-monitor-fits : (x : ℕ × Monitor) → x .0 < 16 → soundMonitor (x .1) ≡ true → MonitorFits x
+monitor-fits : (x : ℕ × Monitor) → x .0 < mostMonitors → soundMonitor (x .1) ≡ true → MonitorFits x
 unfolding soundMonitor
 monitor-fits x h e =
     let m : Monitor = x .1 in
@@ -95,20 +96,20 @@ monitor-fits x h e =
 -- the tests of a monitor and of those behind it
 pub record Behind (k : ℕ) (x : ℕ × Monitor) (l : List (ℕ × Monitor)) : Type 0 where
   pub least : k ≤ x .0
-  pub most : x .0 < 16
+  pub most : x .0 < mostMonitors
   pub okay : soundMonitor (x .1) ≡ true
   pub rest : soundMonitors (suc (x .0)) l ≡ true
 
 pub behind : (k : ℕ) (x : ℕ × Monitor) (l : List (ℕ × Monitor)) → soundMonitors k (x ∷ l) ≡ true → Behind k x l
-unfolding soundMonitors mostMonitors
+unfolding soundMonitors
 behind k x l e =
-    let e3 = and-left (leb k (x .0) && ltb (x .0) 16 && soundMonitor (x .1)) (soundMonitors (suc (x .0)) l) e in
-    let e2 = and-left (leb k (x .0) && ltb (x .0) 16) (soundMonitor (x .1)) e3 in
+    let e3 = and-left (leb k (x .0) && ltb (x .0) mostMonitors && soundMonitor (x .1)) (soundMonitors (suc (x .0)) l) e in
+    let e2 = and-left (leb k (x .0) && ltb (x .0) mostMonitors) (soundMonitor (x .1)) e3 in
     record {
-      least = leb-true k (x .0) (and-left (leb k (x .0)) (ltb (x .0) 16) e2);
-      most = ltb-true (x .0) 16 (and-right (leb k (x .0)) (ltb (x .0) 16) e2);
-      okay = and-right (leb k (x .0) && ltb (x .0) 16) (soundMonitor (x .1)) e3;
-      rest = and-right (leb k (x .0) && ltb (x .0) 16 && soundMonitor (x .1)) (soundMonitors (suc (x .0)) l) e;
+      least = leb-true k (x .0) (and-left (leb k (x .0)) (ltb (x .0) mostMonitors) e2);
+      most = ltb-true (x .0) mostMonitors (and-right (leb k (x .0)) (ltb (x .0) mostMonitors) e2);
+      okay = and-right (leb k (x .0) && ltb (x .0) mostMonitors) (soundMonitor (x .1)) e3;
+      rest = and-right (leb k (x .0) && ltb (x .0) mostMonitors && soundMonitor (x .1)) (soundMonitors (suc (x .0)) l) e;
     }
 
 monitors-fit : (k : ℕ) (l : List (ℕ × Monitor)) → soundMonitors k l ≡ true → All MonitorFits l
@@ -118,7 +119,7 @@ monitors-fit k (x ∷ l) e =
     (monitor-fits x (b .most) (b .okay), monitors-fit (suc (x .0)) l (b .rest))
 
 -- rising handles below 16 from k on are at most 16 - k
-monitors-most : (k : ℕ) (l : List (ℕ × Monitor)) → k ≤ 16 → soundMonitors k l ≡ true → k + length l ≤ 16
+monitors-most : (k : ℕ) (l : List (ℕ × Monitor)) → k ≤ mostMonitors → soundMonitors k l ≡ true → k + length l ≤ mostMonitors
 monitors-most k [] h e = omega arith
 monitors-most k (x ∷ l) h e =
     let b : Behind k x l = behind k x l e in
@@ -126,7 +127,7 @@ monitors-most k (x ∷ l) h e =
 
 -- a monitor that is found is sound, and its handle is below 16
 pub found-sound : (k : ℕ) (l : List (ℕ × Monitor)) (h : ℕ) (m : Monitor) → soundMonitors k l ≡ true → find l h ≡ some m
-    → (h < 16) × (soundMonitor m ≡ true)
+    → (h < mostMonitors) × (soundMonitor m ≡ true)
 found-sound k [] h m e f = let z : _≡_ {A = ℕ} 0 1 = cc in absurd (omega arith)
 found-sound k (x ∷ l) h m e f = go (eqb (x .0) h) refl f (λ g. found-sound (suc (x .0)) l h m (b .rest) g)
   where
@@ -134,7 +135,7 @@ found-sound k (x ∷ l) h m e f = go (eqb (x .0) h) refl f (λ g. found-sound (s
     b = behind k x l e
 
     go : (t : Bool) → eqb (x .0) h ≡ t → cond t (some (x .1)) (find l h) ≡ some m
-        → (find l h ≡ some m → (h < 16) × (soundMonitor m ≡ true)) → (h < 16) × (soundMonitor m ≡ true)
+        → (find l h ≡ some m → (h < mostMonitors) × (soundMonitor m ≡ true)) → (h < mostMonitors) × (soundMonitor m ≡ true)
     go true p f ih =
         let v : x .0 ≡ h = eqb-true (x .0) h p in
         let w : x .1 ≡ m = cc in
@@ -200,9 +201,9 @@ within m n h i = omega arith
 
 -- a pair of a monitor that is found
 pair-fits : (position : ℕ) (o : Option Monitor) (q : Pair) → position ≤ 4294967295
-    → ((m : Monitor) → o ≡ some m → (q .handle < 16) × (soundMonitor m ≡ true)) → soundOf position o q ≡ true
+    → ((m : Monitor) → o ≡ some m → (q .handle < mostMonitors) × (soundMonitor m ≡ true)) → soundOf position o q ≡ true
     → PairFits q
-unfolding soundOf soundFields octetsUpTo mostData
+unfolding soundOf soundFields octetsUpTo
 pair-fits position none q b f e = absurd (false≢true e)
 pair-fits position (some m) q b f e =
     let g = f m refl in
@@ -214,7 +215,7 @@ pair-fits position (some m) q b f e =
     let n = eqb (length (q .address)) 6 in
     let a = octets (q .address) in
     let v = leb (q .event) 3 in
-    let l = leb (length (q .adv)) 31 in
+    let l = leb (length (q .adv)) mostData in
     let d = octets (q .adv) in
     let f3 = and-left (soundFields q) s e1 in
     let f2 = and-left (k && n && a && v) (l && d) f3 in
@@ -235,7 +236,7 @@ pair-fits position (some m) q b f e =
       packets = z .packets;
       sum = z .sum;
       event = leb-true (q .event) 3 (and-right (k && n && a) v f2);
-      short = leb-true (length (q .adv)) 31 (and-left l d y);
+      short = leb-true (length (q .adv)) mostData (and-left l d y);
       adv = and-right l d y;
     }
 
@@ -251,30 +252,30 @@ pairs-fit m (q ∷ l) b s e = (
 
 head-fits : (m : Model) → leb (m .position) lastNumber ≡ true → leb (m .filter) 1 ≡ true
     → soundSettings (m .opcode) (m .prefix) ≡ true → HeadFits m
-unfolding lastNumber soundSettings octetsUpTo mostPrefix
+unfolding lastNumber soundSettings octetsUpTo
 head-fits m p f s =
     let a = leb 0xFC00 (m .opcode) in
     let b = leb (m .opcode) 0xFFFF in
-    let l = leb (length (m .prefix)) 32 in
+    let l = leb (length (m .prefix)) mostPrefix in
     let d = octets (m .prefix) in
     let x = and-right (a && b) (l && d) s in
     record {
       position = leb-true (m .position) 4294967295 p;
       filter = leb-true (m .filter) 1 f;
       opcode = leb-true (m .opcode) 0xFFFF (and-right a b (and-left (a && b) (l && d) s));
-      short = leb-true (length (m .prefix)) 32 (and-left l d x);
+      short = leb-true (length (m .prefix)) mostPrefix (and-left l d x);
       prefix = and-right l d x;
     }
 
 -- a sound state keeps to the bounds
 pub sound-fits : (m : Model) → soundModel m ≡ true → Fits m
-unfolding soundModel mostPairs
+unfolding soundModel
 sound-fits m e =
     let p = leb (m .position) lastNumber in
     let f = leb (m .filter) 1 in
     let s = soundSettings (m .opcode) (m .prefix) in
     let k = soundMonitors 0 (m .mons) in
-    let n = leb (length (m .pairs)) 64 in
+    let n = leb (length (m .pairs)) mostPairs in
     let a = apart (m .pairs) in
     let q = every (soundPair m) (m .pairs) in
     let e6 = and-left (p && f && s && k && n && a) q e in
@@ -289,5 +290,5 @@ sound-fits m e =
       mons = monitors-fit 0 (m .mons) mons;
       most-mons = omega (arith, monitors-most 0 (m .mons) (omega arith) mons);
       pairs = pairs-fit m (m .pairs) (h .position) mons (and-right (p && f && s && k && n && a) q e);
-      most-pairs = leb-true (length (m .pairs)) 64 (and-right (p && f && s && k) n e5);
+      most-pairs = leb-true (length (m .pairs)) mostPairs (and-right (p && f && s && k) n e5);
     }

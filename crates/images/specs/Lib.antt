@@ -7,5 +7,4 @@ pub mod Sizes
 pub mod Engines
 pub mod Longest
 pub mod Characters
-pub mod Quoted
 pub mod Edges

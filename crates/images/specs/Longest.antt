@@ -11,6 +11,8 @@ use Rattle.model.specs.Sound.{soundModel}
 use Rattle.model.specs.Image.{imageText}
 use Rattle.images.specs.Sizes.{total, lineLength, headLength, monitorLength, pairLength, endLength, imageLength}
 use Rattle.images.specs.Sizes.{image-length}
+use Rattle.sessions.specs.Machine.{saveRoom}
+use Rattle.model.specs.Layout.{mostData, mostMonitors, mostPairs, mostPrefix}
 
 -- a monitor with one pattern of 60 octets
 unfoldable pub longMonitor : Monitor
@@ -41,7 +43,7 @@ longPair d =
       packets = 1;
       sum = 18446744073709551556;
       event = 3;
-      adv = replicate 31 0x11;
+      adv = replicate mostData 0x11;
     }
 
 -- n pairs, devices from d on
@@ -55,15 +57,14 @@ longest =
       position = 66;
       filter = 1;
       opcode = 0xFC1E;
-      prefix = replicate 32 0x4D;
-      mons = longMonitors 16 0;
-      pairs = longPairs 64 0;
+      prefix = replicate mostPrefix 0x4D;
+      mons = longMonitors mostMonitors 0;
+      pairs = longPairs mostPairs 0;
     }
 
 pub longest-sound : soundModel longest ≡ true
 unfolding longMonitor longMonitors longPair longPairs longest
-    Rattle.model.specs.Types.mostMonitors Rattle.model.specs.Types.mostPairs Rattle.model.specs.Types.mostCondition
-    Rattle.model.specs.Types.mostData Rattle.model.specs.Types.mostPrefix Rattle.model.specs.Types.ticksOf
+    Rattle.model.specs.Types.ticksOf
     Rattle.model.specs.Types.device Rattle.model.specs.Types.watched
     Rattle.model.specs.Level.level Rattle.model.specs.Level.inRange Rattle.model.specs.Level.levels
     Rattle.model.specs.Monitors.highAbove Rattle.model.specs.Monitors.faultOf Rattle.model.specs.Monitors.accepts
@@ -85,7 +86,7 @@ unfolding longMonitor longMonitors longPair longPairs longest
 longest-sound = refl
 
 -- The bound is reached.
-pub longest-length : length (imageText longest) ≡ 9770
+pub longest-length : length (imageText longest) ≡ saveRoom
 unfolding longMonitor longMonitors longPair longPairs longest
     total lineLength headLength monitorLength pairLength endLength imageLength
 longest-length = image-length longest longest-sound ∙ refl

@@ -16,6 +16,7 @@ use Rattle.model.specs.Sound.{soundModel}
 use Rattle.model.specs.Image.{headRow, monitorRow, pairRow, endRow, records, imageText}
 use Rattle.blocks.specs.Rows.{length-headRow, length-monitorRow, length-pairRow}
 use Rattle.images.specs.Fits.{MonitorFits, PairFits, All, Fits, sound-fits}
+use Rattle.model.specs.Layout.{monitorLine, pairLine}
 
 -- the sum of a number for each element
 unfoldable pub total : {A : Type 0} → (A → ℕ) → List A → ℕ
@@ -95,18 +96,17 @@ image-length m e =
     (simp length-append (omega (arith, length-head m, length-end m)))
 
 -- "image 9,770": the image of a sound state is at most that long.
-pub image-most : (m : Model) → soundModel m ≡ true → length (imageText m) ≤ 9770
+pub image-most : (m : Model) → soundModel m ≡ true → length (imageText m) ≤ saveRoom
 unfolding imageLength headLength monitorLength pairLength endLength lineLength
 image-most m e =
     let f : Fits m = sound-fits m e in
     let s : length (imageText m) ≡ imageLength m = image-length m e in
-    let a : total monitorLength (m .mons) ≤ 145 * length (m .mons) =
-    total-most monitorLength 145 MonitorFits (m .mons) (λ x g. omega (arith, g .short)) (f .mons) in
-    let b : total pairLength (m .pairs) ≤ 115 * length (m .pairs) =
-    total-most pairLength 115 PairFits (m .pairs) (λ q g. omega (arith, g .short)) (f .pairs) in
+    let a : total monitorLength (m .mons) ≤ monitorLine * length (m .mons) =
+    total-most monitorLength monitorLine MonitorFits (m .mons) (λ x g. omega (arith, g .short)) (f .mons) in
+    let b : total pairLength (m .pairs) ≤ pairLine * length (m .pairs) =
+    total-most pairLength pairLine PairFits (m .pairs) (λ q g. omega (arith, g .short)) (f .pairs) in
     omega (arith, f .head .short, f .most-mons, f .most-pairs)
 
 -- so it fits what a save is lent
 pub image-room : (m : Model) → soundModel m ≡ true → length (imageText m) ≤ saveRoom
-unfolding saveRoom
 image-room m e = image-most m e

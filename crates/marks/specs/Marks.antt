@@ -24,6 +24,7 @@ use Rattle.blocks.specs.Facts.{SoundMonitor, SoundModel}
 use Rattle.blocks.specs.Tables.{places-same}
 use Rattle.blocks.specs.Monitors.{inUse-none, inUse-some, monitorIn-some}
 use Rattle.blocks.specs.Block.{sound-measured, row-monitors}
+use Rattle.model.specs.Layout.{monitorSize, monitorsAt, mostMonitors}
 
 -- a test as a number
 unfoldable pub flag : Bool → ℕ
@@ -61,11 +62,11 @@ unfoldable pub markRow : List ℕ → Packet → ℕ
 markRow r p = pick (inUse r) (markOf (monitorIn r .1) p) 0
 
 unfoldable pub marksAt : List ℕ → Packet → List ℕ
-marksAt s p = upTo (λ h. markRow (row 71 h (drop 40 s)) p ∷ []) 16
+marksAt s p = upTo (λ h. markRow (row monitorSize h (drop monitorsAt s)) p ∷ []) mostMonitors
 
 -- the octets of the handles 0 to 15
 unfoldable pub marks : List (ℕ × Monitor) → Packet → List ℕ
-marks mons p = upTo (λ h. mark (find mons h) p ∷ []) 16
+marks mons p = upTo (λ h. mark (find mons h) p ∷ []) mostMonitors
 
 pub flag-most : (t : Bool) → flag t ≤ 1
 unfolding flag
@@ -152,10 +153,10 @@ mark-place h (some m) p s =
 -- the octets of a sound block are those of its monitors
 pub marks-padded : (m : Model) (p : Packet) → SoundModel m → marksAt (padded m) p ≡ marks (m .mons) p
 unfolding marksAt marks
-marks-padded m p f = places-same _ _ 16 at
+marks-padded m p f = places-same _ _ mostMonitors at
   where
-    at : (h : ℕ) → h < 16
-        → markRow (row 71 h (drop 40 (padded m))) p ∷ [] ≡ mark (find (m .mons) h) p ∷ []
+    at : (h : ℕ) → h < mostMonitors
+        → markRow (row monitorSize h (drop monitorsAt (padded m))) p ∷ [] ≡ mark (find (m .mons) h) p ∷ []
     at h b =
         ap (λ (n : ℕ). n ∷ []) (ap (λ (r : List ℕ). markRow r p) (row-monitors m (sound-measured m f) h b)
         ∙ mark-place h (find (m .mons) h) p
@@ -179,21 +180,21 @@ getD-singles f (suc k) i h =
     rw e (getD-at (upTo (λ h. f h ∷ []) k) (f k) [] 0 k n))
     (λ (u : i < k). List·getD-append (upTo (λ h. f h ∷ []) k) (f k ∷ []) 0 i (omega arith) ∙ getD-singles f k i u)
 
-pub getD-marks : (mons : List (ℕ × Monitor)) (p : Packet) (h : ℕ) → h < 16
+pub getD-marks : (mons : List (ℕ × Monitor)) (p : Packet) (h : ℕ) → h < mostMonitors
     → getD (marks mons p) h 0 ≡ mark (find mons h) p
 unfolding marks
-getD-marks mons p h b = getD-singles (λ h. mark (find mons h) p) 16 h b
+getD-marks mons p h b = getD-singles (λ h. mark (find mons h) p) mostMonitors h b
 
-pub length-marksAt : (s : List ℕ) (p : Packet) → length (marksAt s p) ≡ 16
+pub length-marksAt : (s : List ℕ) (p : Packet) → length (marksAt s p) ≡ mostMonitors
 unfolding marksAt
-length-marksAt s p = length-singles (λ h. markRow (row 71 h (drop 40 s)) p) 16
+length-marksAt s p = length-singles (λ h. markRow (row monitorSize h (drop monitorsAt s)) p) mostMonitors
 
 -- a turn of the loop that writes them, and its end
-pub marks-turn : (f : ℕ → ℕ) (l : List ℕ) (h : ℕ) {m : List ℕ} → length l ≡ 16 → h < 16
+pub marks-turn : (f : ℕ → ℕ) (l : List ℕ) (h : ℕ) {m : List ℕ} → length l ≡ mostMonitors → h < mostMonitors
     → m ≡ put l 0 (upTo (λ h. f h ∷ []) h) → set m h (f h) ≡ put l 0 (upTo (λ h. f h ∷ []) (h + 1))
 marks-turn f l h n b e =
     let k : length (upTo (λ h. f h ∷ []) h) ≡ h = length-singles f h in
     rw (upTo-more (λ h. f h ∷ []) h) (put-push l 0 (upTo (λ h. f h ∷ []) h) (f h) (omega arith) (omega arith) e)
 
-pub marks-end : (s : List ℕ) (p : Packet) (l : List ℕ) → length l ≡ 16 → put l 0 (marksAt s p) ≡ marksAt s p
+pub marks-end : (s : List ℕ) (p : Packet) (l : List ℕ) → length l ≡ mostMonitors → put l 0 (marksAt s p) ≡ marksAt s p
 marks-end s p l n = put-whole l (marksAt s p) (n ∙ sym (length-marksAt s p))

@@ -19,6 +19,7 @@ use Rattle.model.specs.Image.{monitorIn}
 use Rattle.model.specs.Block.{inUse}
 use Rattle.marks.specs.Marks.{flag, bits, markOf, markRow}
 use Rattle.marks.specs.Fields.{Clamped}
+use Rattle.model.specs.Layout.{conditionAt, conditionLengthAt, conditionRoom, headSize, monitorSize, monitorsAt, typeAt}
 
 -- the octet of a packet that matches, from the octets of the monitor's row and the packet's RSSI
 unfoldable pub rowBits : ℕ → ℕ → ℕ → ℕ → ℕ
@@ -34,10 +35,10 @@ unfolding rowBits bits
 bits-made high low sampling rssi e f g p q r s = rw (p, q, r, s, e, f, g)
 
 -- a field of the row of a handle
-pub row-field : (s : List ℕ) (h j : ℕ) → j < 71 → getD (row 71 h (drop 40 s)) j 0 ≡ getD s (40 + 71 * h + j) 0
+pub row-field : (s : List ℕ) (h j : ℕ) → j < monitorSize → getD (row monitorSize h (drop monitorsAt s)) j 0 ≡ getD s (monitorsAt + monitorSize * h + j) 0
 row-field s h j b =
-    let e : 40 + (71 * h + j) ≡ 40 + 71 * h + j = omega arith in
-    getD-row 71 h j (drop 40 s) 0 b ∙ getD-drop 40 s (71 * h + j) 0 ∙ ap (λ (i : ℕ). getD s i 0) e
+    let e : monitorsAt + (monitorSize * h + j) ≡ monitorsAt + monitorSize * h + j = omega arith in
+    getD-row monitorSize h j (drop monitorsAt s) 0 b ∙ getD-drop headSize s (monitorSize * h + j) 0 ∙ ap (λ (i : ℕ). getD s i 0) e
 
 drop-take : (k n : ℕ) (l : List ℕ) → drop k (take (k + n) l) ≡ take n (drop k l)
 drop-take k n l = ap (λ (x : List ℕ). drop k x) (lib.Seq.take-add k n l) ∙ cases-le k (length l) inside outside
@@ -51,64 +52,64 @@ drop-take k n l = ap (λ (x : List ℕ). drop k x) (lib.Seq.take-add k n l) ∙ 
         rw (e, lib.Seq.take-nil n, append-nil (take k l), take-all k l (omega arith)) e
 
 -- the condition of the row of a handle
-row-condition : (s : List ℕ) (h n : ℕ) → Clamped (getD s (40 + 71 * h + 6) 0) 64 n
-    → take n (drop (40 + 71 * h + 7) s) ≡ take (getD (row 71 h (drop 40 s)) 6 0) (drop 7 (row 71 h (drop 40 s)))
+row-condition : (s : List ℕ) (h n : ℕ) → Clamped (getD s (monitorsAt + monitorSize * h + 6) 0) conditionRoom n
+    → take n (drop (monitorsAt + monitorSize * h + 7) s) ≡ take (getD (row monitorSize h (drop monitorsAt s)) conditionLengthAt 0) (drop 7 (row monitorSize h (drop monitorsAt s)))
 unfolding row
 row-condition s h n c =
-    let x : ℕ = getD s (40 + 71 * h + 6) 0 in
-    let d : List ℕ = drop (40 + 71 * h + 7) s in
-    let a : 40 + 71 * h + 7 ≡ 40 + (71 * h + 7) = omega arith in
-    let e : drop 7 (take 71 (drop (71 * h) (drop 40 s))) ≡ take 64 d =
-    drop-take 7 64 (drop (71 * h) (drop 40 s))
-    ∙ ap (λ (l : List ℕ). take 64 l) (drop-drop 7 (71 * h) (drop 40 s) ∙ drop-drop (71 * h + 7) 40 s
+    let x : ℕ = getD s (monitorsAt + monitorSize * h + 6) 0 in
+    let d : List ℕ = drop (monitorsAt + monitorSize * h + 7) s in
+    let a : monitorsAt + monitorSize * h + 7 ≡ monitorsAt + (monitorSize * h + 7) = omega arith in
+    let e : drop 7 (take monitorSize (drop (monitorSize * h) (drop monitorsAt s))) ≡ take conditionRoom d =
+    drop-take 7 conditionRoom (drop (monitorSize * h) (drop monitorsAt s))
+    ∙ ap (λ (l : List ℕ). take conditionRoom l) (drop-drop 7 (monitorSize * h) (drop monitorsAt s) ∙ drop-drop (monitorSize * h + 7) headSize s
     ∙ ap (λ (i : ℕ). drop i s) (sym a)) in
-    let f : getD (take 71 (drop (71 * h) (drop 40 s))) 6 0 ≡ x = row-field s h 6 (omega arith) in
-    sym (ap (λ (k : ℕ). take k (drop 7 (take 71 (drop (71 * h) (drop 40 s))))) f ∙ ap (λ (l : List ℕ). take x l) e
-    ∙ cases-le x 64 (λ u. take-take x 64 d u ∙ ap (λ (k : ℕ). take k d) (sym (c .within u)))
-    (λ u. take-all x (take 64 d) (short u) ∙ ap (λ (k : ℕ). take k d) (sym (c .above u))))
+    let f : getD (take monitorSize (drop (monitorSize * h) (drop monitorsAt s))) 6 0 ≡ x = row-field s h 6 (omega arith) in
+    sym (ap (λ (k : ℕ). take k (drop 7 (take monitorSize (drop (monitorSize * h) (drop monitorsAt s))))) f ∙ ap (λ (l : List ℕ). take x l) e
+    ∙ cases-le x conditionRoom (λ u. take-take x conditionRoom d u ∙ ap (λ (k : ℕ). take k d) (sym (c .within u)))
+    (λ u. take-all x (take conditionRoom d) (short u) ∙ ap (λ (k : ℕ). take k d) (sym (c .above u))))
   where
-    short : 64 < getD s (40 + 71 * h + 6) 0 → length (take 64 (drop (40 + 71 * h + 7) s)) ≤ getD s (40 + 71 * h + 6) 0
+    short : conditionRoom < getD s (monitorsAt + monitorSize * h + 6) 0 → length (take conditionRoom (drop (monitorsAt + monitorSize * h + 7) s)) ≤ getD s (monitorsAt + monitorSize * h + 6) 0
     short u = simp lib.ListN.length-take (omega arith)
 
 module _ (s : List ℕ) (h : ℕ) (l : List ℕ) where
-  pub mark-unused : getD s (40 + 71 * h + 3) 0 ≡ 0 → 0 ≡ markRow (row 71 h (drop 40 s)) (packetOf l)
+  pub mark-unused : getD s (monitorsAt + monitorSize * h + 3) 0 ≡ 0 → 0 ≡ markRow (row monitorSize h (drop monitorsAt s)) (packetOf l)
   unfolding markRow inUse
   mark-unused e =
       sym (pick-false _ 0 (ap not (eq-eqb _ 0 (row-field s h 3 (omega arith) ∙ e))))
 
   -- what the match was asked
-  match-asked : (n : ℕ) {cond adr adv : List ℕ} {found : Bool} → Clamped (getD s (40 + 71 * h + 6) 0) 64 n
-      → cond ≡ take n (drop (40 + 71 * h + 7) s) → adr ≡ take 6 (drop 2 l) → adv ≡ take (getD l 8 0) (drop 9 l)
-      → found ≡ meets (getD s (40 + 71 * h + 5) 0) cond (getD l 1 0) adr adv
-      → found ≡ matches (monitorIn (row 71 h (drop 40 s)) .1) (packetOf l)
+  match-asked : (n : ℕ) {cond adr adv : List ℕ} {found : Bool} → Clamped (getD s (monitorsAt + monitorSize * h + 6) 0) conditionRoom n
+      → cond ≡ take n (drop (monitorsAt + monitorSize * h + 7) s) → adr ≡ take 6 (drop 2 l) → adv ≡ take (getD l 8 0) (drop 9 l)
+      → found ≡ meets (getD s (monitorsAt + monitorSize * h + 5) 0) cond (getD l 1 0) adr adv
+      → found ≡ matches (monitorIn (row monitorSize h (drop monitorsAt s)) .1) (packetOf l)
   unfolding matches monitorIn packetOf
   match-asked n {cond} {adr} {adv} {found} c ec ea ed f =
-      let r : List ℕ = row 71 h (drop 40 s) in
+      let r : List ℕ = row monitorSize h (drop monitorsAt s) in
       f ∙ ap (λ (k : ℕ). meets k cond (getD l 1 0) adr adv) (sym (row-field s h 5 (omega arith)))
-      ∙ ap (λ (x : List ℕ). meets (getD r 5 0) x (getD l 1 0) adr adv) (ec ∙ row-condition s h n c)
-      ∙ ap (λ (x : List ℕ). meets (getD r 5 0) (take (getD r 6 0) (drop 7 r)) (getD l 1 0) x adv) ea
-      ∙ ap (λ (x : List ℕ). meets (getD r 5 0) (take (getD r 6 0) (drop 7 r)) (getD l 1 0) (take 6 (drop 2 l)) x) ed
+      ∙ ap (λ (x : List ℕ). meets (getD r typeAt 0) x (getD l 1 0) adr adv) (ec ∙ row-condition s h n c)
+      ∙ ap (λ (x : List ℕ). meets (getD r typeAt 0) (take (getD r conditionLengthAt 0) (drop conditionAt r)) (getD l 1 0) x adv) ea
+      ∙ ap (λ (x : List ℕ). meets (getD r typeAt 0) (take (getD r conditionLengthAt 0) (drop conditionAt r)) (getD l 1 0) (take 6 (drop 2 l)) x) ed
 
-  used : (getD s (40 + 71 * h + 3) 0 ≡ 0 → ⊥) → inUse (row 71 h (drop 40 s)) ≡ true
+  used : (getD s (monitorsAt + monitorSize * h + 3) 0 ≡ 0 → ⊥) → inUse (row monitorSize h (drop monitorsAt s)) ≡ true
   unfolding inUse
   used u = ap not (ne-eqb _ 0 (λ e. u (sym (row-field s h 3 (omega arith)) ∙ e)))
 
-  pub mark-unmatched : (n : ℕ) {cond adr adv : List ℕ} {found : Bool} → (getD s (40 + 71 * h + 3) 0 ≡ 0 → ⊥)
-      → Clamped (getD s (40 + 71 * h + 6) 0) 64 n
-      → cond ≡ take n (drop (40 + 71 * h + 7) s) → adr ≡ take 6 (drop 2 l) → adv ≡ take (getD l 8 0) (drop 9 l)
-      → found ≡ meets (getD s (40 + 71 * h + 5) 0) cond (getD l 1 0) adr adv → found ≡ false
-      → 0 ≡ markRow (row 71 h (drop 40 s)) (packetOf l)
+  pub mark-unmatched : (n : ℕ) {cond adr adv : List ℕ} {found : Bool} → (getD s (monitorsAt + monitorSize * h + 3) 0 ≡ 0 → ⊥)
+      → Clamped (getD s (monitorsAt + monitorSize * h + 6) 0) conditionRoom n
+      → cond ≡ take n (drop (monitorsAt + monitorSize * h + 7) s) → adr ≡ take 6 (drop 2 l) → adv ≡ take (getD l 8 0) (drop 9 l)
+      → found ≡ meets (getD s (monitorsAt + monitorSize * h + 5) 0) cond (getD l 1 0) adr adv → found ≡ false
+      → 0 ≡ markRow (row monitorSize h (drop monitorsAt s)) (packetOf l)
   unfolding markRow markOf
   mark-unmatched n u c ec ea ed f e =
       sym (pick-true _ 0 (used u) ∙ pick-false _ 0 (sym (match-asked n c ec ea ed f) ∙ e))
 
-  pub mark-matched : (n : ℕ) {cond adr adv : List ℕ} {found : Bool} {r : ℕ} → (getD s (40 + 71 * h + 3) 0 ≡ 0 → ⊥)
-      → Clamped (getD s (40 + 71 * h + 6) 0) 64 n
-      → cond ≡ take n (drop (40 + 71 * h + 7) s) → adr ≡ take 6 (drop 2 l) → adv ≡ take (getD l 8 0) (drop 9 l)
-      → found ≡ meets (getD s (40 + 71 * h + 5) 0) cond (getD l 1 0) adr adv → found ≡ true
-      → r ≡ rowBits (getD s (40 + 71 * h + 1) 0) (getD s (40 + 71 * h + 2) 0) (getD s (40 + 71 * h + 4) 0) (getD l
+  pub mark-matched : (n : ℕ) {cond adr adv : List ℕ} {found : Bool} {r : ℕ} → (getD s (monitorsAt + monitorSize * h + 3) 0 ≡ 0 → ⊥)
+      → Clamped (getD s (monitorsAt + monitorSize * h + 6) 0) conditionRoom n
+      → cond ≡ take n (drop (monitorsAt + monitorSize * h + 7) s) → adr ≡ take 6 (drop 2 l) → adv ≡ take (getD l 8 0) (drop 9 l)
+      → found ≡ meets (getD s (monitorsAt + monitorSize * h + 5) 0) cond (getD l 1 0) adr adv → found ≡ true
+      → r ≡ rowBits (getD s (monitorsAt + monitorSize * h + 1) 0) (getD s (monitorsAt + monitorSize * h + 2) 0) (getD s (monitorsAt + monitorSize * h + 4) 0) (getD l
       (9 + getD l 8 0) 0)
-      → r ≡ markRow (row 71 h (drop 40 s)) (packetOf l)
+      → r ≡ markRow (row monitorSize h (drop monitorsAt s)) (packetOf l)
   unfolding markRow markOf rowBits good windowed strong monitorIn packetOf
   mark-matched n u c ec ea ed f e b =
       b ∙ rw (← row-field s h 1 (omega arith), ← row-field s h 2 (omega arith), ← row-field s h 4 (omega arith)) refl

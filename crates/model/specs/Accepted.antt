@@ -9,9 +9,10 @@ use lib.ListN.{length}
 use borrow.Author.Tests.{leb-true, ltb-false, eqb-true, not-false, eq-eqb}
 use Rattle.laws.specs.Tests.{pick, and-left, and-right}
 use Rattle.advert.specs.Condition.{wellFormed}
-use Rattle.model.specs.Types.{Monitor, ticksOf, mostCondition}
+use Rattle.model.specs.Types.{Monitor, ticksOf}
 use Rattle.model.specs.Level.{inRange}
 use Rattle.model.specs.Monitors.{highAbove, faultOf, accepts, runOf, invalid, unsupported, full}
+use Rattle.model.specs.Layout.{mostCondition}
 
 -- a status that is none: the test did not hold, and what follows gives none
 pub pick-none : (t : Bool) (a b : ℕ) → 0 < a → pick t a b ≡ 0 → (t ≡ false) × (b ≡ 0)
@@ -32,7 +33,7 @@ pub record Accepted (m : Monitor) : Type 0 where
   pub short : length (m .condition) ≤ 64
 
 pub accepted : (m : Monitor) → accepts m ≡ true → Accepted m
-unfolding accepts faultOf mostCondition
+unfolding accepts faultOf
 accepted m e =
     let a = pick-none (not (inRange (m .high) && inRange (m .low))) invalid _ (omega arith) (eqb-true (faultOf m) 0 e) in
     let b = pick-none (not (highAbove m)) invalid _ (omega arith) (a .1) in

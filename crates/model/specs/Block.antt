@@ -10,32 +10,13 @@ use lib.ListN.{length, take, drop, getD, replicate}
 use Rattle.laws.specs.Tests.{pick, sames}
 use Rattle.laws.specs.Loops.{keep, upTo}
 use Rattle.laws.specs.Rows.{rows, flat}
-use Rattle.octets.specs.Little.{little}
+use Rattle.laws.specs.Put.{putIf}
+use Rattle.octets.specs.Little.{little, octetsOf}
 use Rattle.rule.specs.Engine.{find}
-use Rattle.model.specs.Types.{Model, Monitor, Pair, mostMonitors, mostPairs}
+use Rattle.model.specs.Types.{Model, Monitor, Pair}
 use Rattle.model.specs.Image.{headRow, monitorRow, pairRow, monitorIn, pairIn}
 use Rattle.model.specs.Sound.{soundModel}
-
-unfoldable pub headSize : ℕ
-headSize = 40
-
-unfoldable pub monitorSize : ℕ
-monitorSize = 71
-
-unfoldable pub pairSize : ℕ
-pairSize = 56
-
-unfoldable pub monitorsAt : ℕ
-monitorsAt = 40
-
-unfoldable pub pairsAt : ℕ
-pairsAt = 1176
-
-unfoldable pub countAt : ℕ
-countAt = 4760
-
-unfoldable pub blockSize : ℕ
-blockSize = 4761
+use Rattle.model.specs.Layout.{monitorSize, pairSize, headSize, countAt, monitorsAt, pairsAt, filterAt, intervalAt, mostMonitors, mostPairs, opcodeAt, positionAt, prefixAt, prefixLengthAt}
 
 -- a row with zeros behind it, up to n octets
 unfoldable pub padTo : ℕ → List ℕ → List ℕ
@@ -59,7 +40,7 @@ padded m = padTo headSize (headRow m) ++ (monitorBlock (m .mons) ++ (pairBlock (
 
 -- a monitor row is in use where its interval is not 0
 unfoldable pub inUse : List ℕ → Bool
-inUse r = not (eqb (getD r 3 0) 0)
+inUse r = not (eqb (getD r intervalAt 0) 0)
 
 -- the tables of a block
 unfoldable pub monitorTable : List ℕ → List (List ℕ)
@@ -72,10 +53,10 @@ pairTable s = rows pairSize mostPairs (drop pairsAt s)
 unfoldable pub held : List ℕ → Model
 held s =
     record {
-      position = little 4 s 0;
-      filter = getD s 4 0;
-      opcode = little 2 s 5;
-      prefix = take (getD s 7 0) (drop 8 s);
+      position = little 4 s positionAt;
+      filter = getD s filterAt 0;
+      opcode = little 2 s opcodeAt;
+      prefix = take (getD s prefixLengthAt 0) (drop prefixAt s);
       mons = map monitorIn (keep inUse (monitorTable s));
       pairs = map pairIn (take (getD s countAt 0) (pairTable s));
     }
@@ -83,3 +64,7 @@ held s =
 -- a block is sound where the state that it holds is, and it is that state's block
 unfoldable pub sound : List ℕ → Bool
 sound s = soundModel (held s) && sames (padded (held s)) s
+
+-- one frame further: the position of a block is 1 more, and 0 behind the last number; a block too short to have one stays as it is
+unfoldable pub advanced : List ℕ → List ℕ
+advanced s = putIf (leb 4 (length s)) s positionAt (octetsOf 4 (little 4 s positionAt + 1))

@@ -8,8 +8,9 @@ use lib.ListN.{length, getD}
 use Rattle.laws.specs.Tests.{pick}
 use Rattle.laws.specs.Loops.{keep}
 use Rattle.rule.specs.Engine.{find, slot, insert, insertAt, remove}
-use Rattle.model.specs.Types.{Model, Monitor, Pair, withLists, withFilter, mostMonitors}
+use Rattle.model.specs.Types.{Model, Monitor, Pair, withLists, withFilter}
 use Rattle.model.specs.Monitors.{faultOf, monitorOf, invalid, full, disallowed, unknown}
+use Rattle.model.specs.Layout.{mostMonitors}
 
 -- A row of the table: a sub-opcode, its parameter length counting the sub-opcode (03: the least), and the number of return
 -- parameters on success (00: less the prefix).

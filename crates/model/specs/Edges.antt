@@ -1,5 +1,5 @@
--- Document 01, "Both sides of each edge": P1 to P10 as rows of one list under a single claim, which the checker computes. A row
--- is a state, frames given one after another as octets, and what each is answered: octets written, or a refusal number.
+-- Document 01, "Both sides of each edge": P1 to P10 as rows under a single claim, which the checker computes. P1 stands in its own text in
+-- InFull. A row is settings, frames given one after another as octets, and what each is answered: octets written, or a refusal number.
 -- The expected octets are document 01's own, or follow from its rules by hand.
 use Prim.Native.Nat.{ℕ, zero, suc, _+_}
 use mathlib.Core.Path.{_≡_, refl}
@@ -12,18 +12,18 @@ use Rattle.laws.specs.Tests.{pick, sames}
 use Rattle.laws.specs.Loops.{every, some as someOf, keep, only, each, when}
 use Rattle.octets.specs.Little.{little, octetsOf}
 use Rattle.lines.specs.Hex.{digit, hexOf, textOf}
-use Rattle.sessions.specs.Machine.{Outcome, refused, done, octets}
+use Rattle.sessions.specs.Machine.{Machine, Outcome, refused, done, octets, answerRoom}
 use Rattle.sessions.specs.Session.{answer, stateAfter}
-use Rattle.model.specs.Types.{Model, fresh}
-use Rattle.model.specs.Image.{imageText}
+use Rattle.model.specs.Types.{fresh}
 use Rattle.model.specs.Engine.{models}
+use Rattle.model.specs.InFull.{Told, toldRight, inFull}
 
 -- what a frame was answered: octets, or a refusal
 pub data Reply : Type 0 where
   wrote : List ℕ → Reply
   refusal : ℕ → Reply
 
-unfoldable pub replyOf : Outcome Model → Reply
+unfoldable pub replyOf : {S : Type 0} → Outcome S → Reply
 replyOf (refused n) = refusal n
 replyOf (done m l) = wrote l
 
@@ -41,23 +41,32 @@ pub record Row : Type 0 where
   pub replies : List Reply
   pub image : List (List ℕ)
 
--- the frames given one after another, with 2,880 octets lent each, and their replies compared
-unfoldable pub answered : Model → List (List ℕ) → List Reply → Bool
-answered m [] [] = true
-answered m [] (r ∷ rs) = false
-answered m (f ∷ fs) [] = false
-answered m (f ∷ fs) (r ∷ rs) = same (replyOf (answer models 2880 m octets f)) r && answered (stateAfter m (answer models 2880 m octets f)) fs rs
+unfoldable pub imaged : List (List ℕ) → List ℕ → Bool
+imaged [] t = true
+imaged (l ∷ ls) t = sames t (each textOf (l ∷ ls))
 
-unfoldable pub reached : Model → List (List ℕ) → Model
-reached m [] = m
-reached m (f ∷ fs) = reached (stateAfter m (answer models 2880 m octets f)) fs
+-- over an engine and the state that it begins with
+module _ (M : Machine) (begin : ℕ → List ℕ → M .S) where
+  -- the frames given one after another, with 2,880 octets lent each, and their replies compared
+  unfoldable pub answered : M .S → List (List ℕ) → List Reply → Bool
+  answered s [] [] = true
+  answered s [] (r ∷ rs) = false
+  answered s (f ∷ fs) [] = false
+  answered s (f ∷ fs) (r ∷ rs) =
+      same (replyOf (answer M answerRoom s octets f)) r && answered (stateAfter s (answer M answerRoom s octets f)) fs rs
 
-unfoldable pub imaged : List (List ℕ) → Model → Bool
-imaged [] m = true
-imaged (l ∷ ls) m = sames (imageText m) (each textOf (l ∷ ls))
+  unfoldable pub reached : M .S → List (List ℕ) → M .S
+  reached s [] = s
+  reached s (f ∷ fs) = reached (stateAfter s (answer M answerRoom s octets f)) fs
 
-unfoldable pub right : Row → Bool
-right r = answered (fresh (r .opcode) (r .prefix)) (r .frames) (r .replies) && imaged (r .image) (reached (fresh (r .opcode) (r .prefix)) (r .frames))
+  unfoldable pub right : Row → Bool
+  right r =
+      answered (begin (r .opcode) (r .prefix)) (r .frames) (r .replies)
+      && imaged (r .image) (M .encode (reached (begin (r .opcode) (r .prefix)) (r .frames)))
+
+  -- all rows: the session in its own text, and the others
+  unfoldable pub allRight : List Told → List Row → Bool
+  allRight ts rs = every (toldRight M begin) ts && every right rs
 
 -- frames: a command, a packet of the device 06 05 04 03 02 01 with no data, a packet with data, a tick; and ticks in a row
 unfoldable pub cmd : ℕ → List ℕ → List ℕ
@@ -100,27 +109,6 @@ report60 = 0x3E ∷ 0x0C ∷ 0x02 ∷ 0x01 ∷ 0x00 ∷ 0x00 ∷ 0x06 ∷ 0x05 �
 -- the session: settings 0xFC1E and 4D 53
 unfoldable pub session : List (List ℕ) → List Reply → List (List ℕ) → Row
 session frames replies image = record { opcode = 0xFC1E; prefix = 0x4D ∷ 0x53 ∷ []; frames = frames; replies = replies; image = image }
-
--- P1: the fresh image
-unfoldable pub p1fresh : Row
-p1fresh = session
-    ([])
-    ([])
-    ((0xA0 ∷ 0x00 ∷ 0x00 ∷ 0x00 ∷ 0x00 ∷ 0x00 ∷ 0x1E ∷ 0xFC ∷ 0x02 ∷ 0x4D ∷ 0x53 ∷ []) ∷ (0xAF ∷ 0x00 ∷ 0x00 ∷ []) ∷ [])
-
--- P1: the session, its answers and its image
-unfoldable pub p1 : Row
-p1 = session
-    (cmd 1 addWatch ∷ pkt 2 0xC4 ∷ [])
-    (wrote added0 ∷ wrote (start0 ++ report60) ∷ [])
-    ((0xA0 ∷ 0x02 ∷ 0x00 ∷ 0x00 ∷ 0x00 ∷ 0x00 ∷ 0x1E ∷ 0xFC ∷ 0x02 ∷ 0x4D ∷ 0x53 ∷ []) ∷ (0xA1 ∷ 0x00 ∷ 0xC4 ∷ 0xB0 ∷ 0x03 ∷ 0x00 ∷ 0x04 ∷ 0x07 ∷ 0x00 ∷ 0x06 ∷ 0x05 ∷ 0x04 ∷ 0x03 ∷ 0x02 ∷ 0x01 ∷ []) ∷ (0xA2 ∷ 0x00 ∷ 0x00 ∷ 0x06 ∷ 0x05 ∷ 0x04 ∷ 0x03 ∷ 0x02 ∷ 0x01 ∷ 0x00 ∷ 0x00 ∷ 0x00 ∷ 0x00 ∷ 0x00 ∷ 0x00 ∷ 0x00 ∷ 0x00 ∷ 0x00 ∷ 0x00 ∷ 0x00 ∷ 0x00 ∷ 0x00 ∷ 0x00 ∷ 0x00 ∷ 0x00 ∷ 0x00 ∷ []) ∷ (0xAF ∷ 0x01 ∷ 0x01 ∷ []) ∷ [])
-
--- P2: 29 ticks write nothing, the 30th the stop event
-unfoldable pub p2 : Row
-p2 = session
-    (cmd 1 addWatch ∷ pkt 2 0xC4 ∷ tcks 30 3)
-    (wrote added0 ∷ wrote (start0 ++ report60) ∷ (quiet 29 ++ (wrote stop0 ∷ [])))
-    ([])
 
 -- P2: a packet at −79 after 29 ticks starts the run anew: the 29 ticks after it write nothing, the 30th stops
 unfoldable pub p2good : Row
@@ -245,14 +233,14 @@ p10 = session
     (wrote [] ∷ refusal 1 ∷ refusal 2 ∷ wrote [] ∷ [])
     ([])
 
--- all rows
+-- P2 to P10; P1 is `inFull`, with P2's 30th tick
 unfoldable pub edges : List Row
-edges = p1fresh ∷ p1 ∷ p2 ∷ p2good ∷ p2low ∷ p3 ∷ p4sixty ∷ p4image ∷ p4minus ∷ p4plus ∷ p5 ∷ p6 ∷ p7 ∷ p8 ∷ readPrefix ∷ p9 ∷ p10 ∷ []
+edges = p2good ∷ p2low ∷ p3 ∷ p4sixty ∷ p4image ∷ p4minus ∷ p4plus ∷ p5 ∷ p6 ∷ p7 ∷ p8 ∷ readPrefix ∷ p9 ∷ p10 ∷ []
 
 -- P1 to P10 hold of the definitions.
-pub edges-hold : every right edges ≡ true
-unfolding replyOf same answered reached imaged right cmd pkt adv tck tcks quiet addWatch added0 start0 stop0 report60 session p1fresh p1 p2 p2good p2low on onAnswer p3 addSampled p4sixty p4image p4minus p4plus invalid03 p5 added1 added2 p6 p7 p8 readPrefix p9 p10 edges
-    Rattle.model.specs.Types.mostMonitors Rattle.model.specs.Types.mostPairs Rattle.model.specs.Types.mostCondition Rattle.model.specs.Types.mostData Rattle.model.specs.Types.mostPrefix Rattle.model.specs.Types.ticksOf Rattle.model.specs.Types.device Rattle.model.specs.Types.deviceOf Rattle.model.specs.Types.watched Rattle.model.specs.Types.withLists Rattle.model.specs.Types.withFilter Rattle.model.specs.Types.moved Rattle.model.specs.Types.fresh Rattle.model.specs.Types.blank
+pub edges-hold : allRight models fresh inFull edges ≡ true
+unfolding replyOf same answered reached imaged right allRight cmd pkt adv tck tcks quiet addWatch added0 start0 stop0 report60 session p2good p2low on onAnswer p3 addSampled p4sixty p4image p4minus p4plus invalid03 p5 added1 added2 p6 p7 p8 readPrefix p9 p10 edges
+    Rattle.model.specs.Types.ticksOf Rattle.model.specs.Types.device Rattle.model.specs.Types.deviceOf Rattle.model.specs.Types.watched Rattle.model.specs.Types.withLists Rattle.model.specs.Types.withFilter Rattle.model.specs.Types.moved Rattle.model.specs.Types.fresh Rattle.model.specs.Types.blank
     Rattle.model.specs.Level.level Rattle.model.specs.Level.inRange Rattle.model.specs.Level.extended Rattle.model.specs.Level.addRssi Rattle.model.specs.Level.levels Rattle.model.specs.Level.mean
     Rattle.model.specs.Frames.frameOf Rattle.model.specs.Frames.rawOf Rattle.model.specs.Frames.readRaw Rattle.model.specs.Frames.read Rattle.model.specs.Frames.write Rattle.model.specs.Frames.isCommand Rattle.model.specs.Frames.isPacket Rattle.model.specs.Frames.packetOf Rattle.model.specs.Frames.isTick Rattle.model.specs.Frames.typed
     Rattle.model.specs.Monitors.highAbove Rattle.model.specs.Monitors.faultOf Rattle.model.specs.Monitors.accepts Rattle.model.specs.Monitors.monitorOf Rattle.model.specs.Monitors.matches Rattle.model.specs.Monitors.good Rattle.model.specs.Monitors.strong Rattle.model.specs.Monitors.runOf Rattle.model.specs.Monitors.windowed
@@ -266,7 +254,7 @@ unfolding replyOf same answered reached imaged right cmd pkt adv tck tcks quiet 
     Rattle.laws.specs.Loops.part Rattle.laws.specs.Loops.every Rattle.laws.specs.Loops.some Rattle.laws.specs.Loops.only Rattle.laws.specs.Loops.keep Rattle.laws.specs.Loops.when Rattle.laws.specs.Loops.each Rattle.laws.specs.Loops.upTo
     Rattle.octets.specs.Little.little Rattle.octets.specs.Little.octetsOf Rattle.octets.specs.Little.value
     Rattle.lines.specs.Hex.digit Rattle.lines.specs.Hex.isHex Rattle.lines.specs.Hex.nib Rattle.lines.specs.Hex.hexOf Rattle.lines.specs.Hex.textOf Rattle.lines.specs.Hex.isText Rattle.lines.specs.Hex.octetsIn Rattle.lines.specs.Hex.notLf
-    Rattle.lines.specs.Frame.leastFrame Rattle.lines.specs.Frame.mostFrame Rattle.lines.specs.Frame.lineRoom Rattle.lines.specs.Frame.isForm Rattle.lines.specs.Frame.isFrame Rattle.lines.specs.Frame.isLine
+    Rattle.lines.specs.Frame.isForm Rattle.lines.specs.Frame.isFrame Rattle.lines.specs.Frame.isLine
     Rattle.advert.specs.Parts.partsFrom Rattle.advert.specs.Parts.parts
     Rattle.advert.specs.Sections.sections Rattle.advert.specs.Sections.isType Rattle.advert.specs.Sections.contentsOf Rattle.advert.specs.Sections.contents
     Rattle.advert.specs.Pattern.holdsAt Rattle.advert.specs.Pattern.patterns Rattle.advert.specs.Pattern.extent Rattle.advert.specs.Pattern.fills Rattle.advert.specs.Pattern.patternsForm Rattle.advert.specs.Pattern.patternMeets Rattle.advert.specs.Pattern.patternsMeet
@@ -274,5 +262,7 @@ unfolding replyOf same answered reached imaged right cmd pkt adv tck tcks quiet 
     Rattle.advert.specs.Address.addressForm Rattle.advert.specs.Address.addressMeets
     Rattle.advert.specs.Condition.wellFormed Rattle.advert.specs.Condition.meets
     Rattle.sessions.specs.Session.refuseIf Rattle.sessions.specs.Session.stateAfter Rattle.sessions.specs.Session.judge Rattle.sessions.specs.Session.answer
-    Rattle.sessions.specs.Machine.answerRoom Rattle.sessions.specs.Machine.lastNumber
+    Rattle.sessions.specs.Machine.lastNumber
+    Rattle.sessions.specs.Saved.cutFrom Rattle.sessions.specs.Saved.cut Rattle.sessions.specs.Saved.withAnswer Rattle.sessions.specs.Saved.resume Rattle.sessions.specs.Saved.replayLines Rattle.sessions.specs.Saved.replay
+    Rattle.model.specs.Quoted.codes Rattle.model.specs.InFull.ticksText Rattle.model.specs.InFull.eventsOf Rattle.model.specs.InFull.answerLines Rattle.model.specs.InFull.ranThrough Rattle.model.specs.InFull.pictured Rattle.model.specs.InFull.replayed Rattle.model.specs.InFull.toldRight inFull
 edges-hold = refl

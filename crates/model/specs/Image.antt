@@ -12,6 +12,7 @@ use Rattle.lines.specs.Hex.{textOf, octetsIn}
 use Rattle.sessions.specs.Saved.{cut}
 use Rattle.model.specs.Types.{Model, Monitor, Pair}
 use Rattle.model.specs.Sound.{soundModel}
+use Rattle.model.specs.Layout.{kindAt, addressSize, filterAt, opcodeAt, positionAt, prefixAt, prefixLengthAt, addressAt, conditionAt, conditionLengthAt, dataAt, eventAt, handleAt, highAt, intervalAt, lengthAt, lowAt, packetsAt, samplingAt, silentAt, sumAt, ticksAt, typeAt}
 
 -- "A0 line: position (4), filter, opcode (2), prefix length, prefix"
 unfoldable pub headRow : Model → List ℕ
@@ -46,22 +47,22 @@ imageText m = each textOf (records m)
 -- what rows hold: a monitor, a pair
 unfoldable pub monitorIn : List ℕ → ℕ × Monitor
 monitorIn r = (
-  getD r 0 0,
-  record { high = getD r 1 0; low = getD r 2 0; interval = getD r 3 0; sampling = getD r 4 0; kind = getD r 5 0; condition = take (getD r 6 0) (drop 7 r) },
+  getD r handleAt 0,
+  record { high = getD r highAt 0; low = getD r lowAt 0; interval = getD r intervalAt 0; sampling = getD r samplingAt 0; kind = getD r typeAt 0; condition = take (getD r conditionLengthAt 0) (drop conditionAt r) },
 )
 
 unfoldable pub pairIn : List ℕ → Pair
 pairIn r =
     record {
-      handle = getD r 0 0;
-      kind = getD r 1 0;
-      address = take 6 (drop 2 r);
-      silent = little 2 r 8;
-      ticks = getD r 10 0;
-      packets = little 4 r 11;
-      sum = little 8 r 15;
-      event = getD r 23 0;
-      adv = take (getD r 24 0) (drop 25 r);
+      handle = getD r handleAt 0;
+      kind = getD r kindAt 0;
+      address = take addressSize (drop addressAt r);
+      silent = little 2 r silentAt;
+      ticks = getD r ticksAt 0;
+      packets = little 4 r packetsAt;
+      sum = little 8 r sumAt;
+      event = getD r eventAt 0;
+      adv = take (getD r lengthAt 0) (drop dataAt r);
     }
 
 -- whether a line has a name; the lines of a name, without it
@@ -80,10 +81,10 @@ firstOf (r ∷ rs) = drop 1 r
 unfoldable pub modelIn : List (List ℕ) → Model
 modelIn rs =
     record {
-      position = little 4 (firstOf rs) 0;
-      filter = getD (firstOf rs) 4 0;
-      opcode = little 2 (firstOf rs) 5;
-      prefix = take (getD (firstOf rs) 7 0) (drop 8 (firstOf rs));
+      position = little 4 (firstOf rs) positionAt;
+      filter = getD (firstOf rs) filterAt 0;
+      opcode = little 2 (firstOf rs) opcodeAt;
+      prefix = take (getD (firstOf rs) prefixLengthAt 0) (drop prefixAt (firstOf rs));
       mons = map monitorIn (rowsNamed 0xA1 rs);
       pairs = map pairIn (rowsNamed 0xA2 rs);
     }

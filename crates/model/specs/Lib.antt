@@ -1,4 +1,5 @@
 -- The model: what each call answers, in definitions on lists and numbers that follow document 01 sentence by sentence.
+pub mod Layout
 pub mod Types
 pub mod Level
 pub mod Frames
@@ -13,4 +14,6 @@ pub mod Image
 pub mod Block
 pub mod Engine
 pub mod Radio
+pub mod Quoted
+pub mod InFull
 pub mod Edges

@@ -7,8 +7,9 @@ use lib.Dec.{leb, ltb, eqb}
 use lib.ListN.{length, drop, getD}
 use Rattle.laws.specs.Tests.{pick}
 use Rattle.advert.specs.Condition.{wellFormed, meets}
-use Rattle.model.specs.Types.{Monitor, Packet, mostCondition, ticksOf}
+use Rattle.model.specs.Types.{Monitor, Packet, ticksOf}
 use Rattle.model.specs.Level.{level, inRange}
+use Rattle.model.specs.Layout.{mostCondition}
 
 -- The status codes (Core): invalid parameters, unsupported value, memory capacity exceeded, command disallowed, unknown command.
 abbrev pub invalid : ℕ

@@ -11,10 +11,11 @@ use Rattle.laws.specs.Loops.{every, some as someOf}
 use Rattle.octets.specs.Little.{isOctet}
 use Rattle.rule.specs.Engine.{find}
 use Rattle.sessions.specs.Machine.{lastNumber}
-use Rattle.model.specs.Types.{Model, Monitor, Pair, watched, mostMonitors, mostPairs, mostPrefix, mostData}
+use Rattle.model.specs.Types.{Model, Monitor, Pair, watched}
 use Rattle.model.specs.Level.{levels}
 use Rattle.model.specs.Monitors.{accepts, runOf, windowed}
 use Rattle.model.specs.Watch.{isPair, holds}
+use Rattle.model.specs.Layout.{mostData, mostMonitors, mostPairs, mostPrefix}
 
 -- a list of at most n octets
 unfoldable pub octetsUpTo : ℕ → List ℕ → Bool

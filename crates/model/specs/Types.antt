@@ -3,22 +3,6 @@
 use Prim.Native.Nat.{ℕ, _+_, _*_}
 use mathlib.Core.List.{List, [], _∷_}
 
--- Sizes of the gateway: monitors 16 (handles 0 to 15); watched pairs 64; condition 64 octets; data 31; prefix 32.
-unfoldable pub mostMonitors : ℕ
-mostMonitors = 16
-
-unfoldable pub mostPairs : ℕ
-mostPairs = 64
-
-unfoldable pub mostCondition : ℕ
-mostCondition = 64
-
-unfoldable pub mostData : ℕ
-mostData = 31
-
-unfoldable pub mostPrefix : ℕ
-mostPrefix = 32
-
 -- "Seconds of the low interval and ticks of 100 ms are two units; 1 second is 10 ticks."
 unfoldable pub ticksOf : ℕ → ℕ
 ticksOf seconds = 10 * seconds

@@ -9,10 +9,11 @@ use Rattle.laws.specs.Tests.{pick, sames}
 use Rattle.laws.specs.Loops.{some as someOf, each, when}
 use Rattle.rule.specs.Engine.{find}
 use Rattle.rule.specs.Base.{each as moveEach}
-use Rattle.model.specs.Types.{Model, Monitor, Packet, Pair, deviceOf, watched, withLists, mostPairs, mostMonitors}
+use Rattle.model.specs.Types.{Model, Monitor, Packet, Pair, deviceOf, watched, withLists}
 use Rattle.model.specs.Level.{addRssi}
 use Rattle.model.specs.Monitors.{matches, good, strong, runOf, windowed}
 use Rattle.model.specs.Events.{startEvent, stopEvent, packetReport, windowReport}
+use Rattle.model.specs.Layout.{mostMonitors, mostPairs}
 
 -- A pair with other ticks since a good packet, with one packet more in its window, with another number of ticks in its window,
 -- with an empty window.

@@ -23,6 +23,8 @@ use Rattle.marks.specs.Fields.{Clamped, Framed}
 use Rattle.packets.specs.Writes.{part-row}
 use Rattle.packets.specs.Moves.{noPair, pairAt, AtPair, pair-fits}
 use Rattle.packets.specs.Starts.{Holding}
+use Rattle.model.specs.Layout.{eventMost, reportMost}
+use Rattle.model.specs.Layout.{blockSize, mostData, mostPairs, mostPrefix, pairSize, pairsAt, prefixAt, prefixLengthAt}
 
 -- ys written into out at an index, and how many
 pub record Wrote (out : List ℕ) (at : ℕ) (ys after : List ℕ) (n : ℕ) : Type 0 where
@@ -36,40 +38,40 @@ fits-wrote t out at ys e w = let v = rw e at w in record { octets = v .1; count 
 
 -- the event of pair i: from the prefix and the row's first 8 octets
 module _ (m : Model) (s : List ℕ) (i : ℕ) (w : AtPair m s i) where
-  prefix-count : getD s 7 0 ≡ length (m .prefix)
+  prefix-count : getD s prefixLengthAt 0 ≡ length (m .prefix)
   prefix-count = ap (λ (l : List ℕ). getD l 7 0) (w .block) ∙ read-count m
 
-  prefix-part : (n : ℕ) → Clamped (getD s 7 0) 32 n → take n (drop 8 s) ≡ m .prefix
+  prefix-part : (n : ℕ) → Clamped (getD s prefixLengthAt 0) mostPrefix n → take n (drop prefixAt s) ≡ m .prefix
   prefix-part n c =
       let e : n ≡ length (m .prefix) = c .within (omega (arith, prefix-count, w .measured .prefix-most))
       ∙ prefix-count in
-      ap (λ (k : ℕ). take k (drop 8 s)) e ∙ ap (λ (l : List ℕ). take (length (m .prefix)) (drop 8 l)) (w .block)
+      ap (λ (k : ℕ). take k (drop prefixAt s)) e ∙ ap (λ (l : List ℕ). take (length (m .prefix)) (drop 8 l)) (w .block)
       ∙ read-prefix m
 
-  event-part : eventOctets (m .prefix) (take 8 (drop (1176 + 56 * i) s)) 1 ≡ startEvent (m .prefix) (pairAt m i)
+  event-part : eventOctets (m .prefix) (take 8 (drop (pairsAt + pairSize * i) s)) 1 ≡ startEvent (m .prefix) (pairAt m i)
   unfolding startEvent pairAt
   event-part =
       let f : Fits (pairAt m i) = pair-fits w in
-      let r : List ℕ = take 56 (drop (1176 + 56 * i) s) in
-      ap (λ (l : List ℕ). eventOctets (m .prefix) l 1) (sym (take-take 8 56 (drop (1176 + 56 * i) s) (omega arith)))
+      let r : List ℕ = take pairSize (drop (pairsAt + pairSize * i) s) in
+      ap (λ (l : List ℕ). eventOctets (m .prefix) l 1) (sym (take-take 8 pairSize (drop (pairsAt + pairSize * i) s) (omega arith)))
       ∙ event-opens (m .prefix) r 1
       ∙ ap (λ (l : List ℕ). eventOctets (m .prefix) l 1)
-      (ap (λ (l : List ℕ). take 56 (drop (1176 + 56 * i) l)) (w .block) ∙ part-row (padded m) i
+      (ap (λ (l : List ℕ). take pairSize (drop (pairsAt + pairSize * i) l)) (w .block) ∙ part-row (padded m) i
       ∙ row-pairs m (w .measured) i noPair (w .within))
       ∙ event-pair (m .prefix) (getD (m .pairs) i noPair) 1 (f .address-length)
 
-  pub start-wrote : (out : List ℕ) (at n : ℕ) {o pre r8 : List ℕ} {r : ℕ} → Clamped (getD s 7 0) 32 n
-      → at + 44 ≤ length out
-      → length s ≡ 4761 → i < 64
-      → pre ≡ take n (drop 8 s) → r8 ≡ take 8 (drop (1176 + 56 * i) s)
+  pub start-wrote : (out : List ℕ) (at n : ℕ) {o pre r8 : List ℕ} {r : ℕ} → Clamped (getD s prefixLengthAt 0) mostPrefix n
+      → at + eventMost ≤ length out
+      → length s ≡ blockSize → i < mostPairs
+      → pre ≡ take n (drop prefixAt s) → r8 ≡ take 8 (drop (pairsAt + pairSize * i) s)
       → (r ≡ pick (eventFits (length out) at pre r8 1) (length (eventOctets pre r8 1)) 0)
       × (o ≡ putIf (eventFits (length out) at pre r8 1) out at (eventOctets pre r8 1))
       → Wrote out at (startEvent (m .prefix) (pairAt m i)) o r
   unfolding eventFits
   start-wrote out at n {o} {pre} {r8} {r} c h l b ep er x =
-      let d : length (drop (1176 + 56 * i) s) ≡ length s - (1176 + 56 * i) = length-drop (1176 + 56 * i) s in
+      let d : length (drop (pairsAt + pairSize * i) s) ≡ length s - (pairsAt + pairSize * i) = length-drop (pairsAt + pairSize * i) s in
       let k : length r8 ≡ 8 = ap (λ (y : List ℕ). length y) er
-      ∙ length-take-le 8 (drop (1176 + 56 * i) s) (omega arith) in
+      ∙ length-take-le 8 (drop (pairsAt + pairSize * i) s) (omega arith) in
       let p : pre ≡ m .prefix = ep ∙ prefix-part n c in
       let q : length pre ≡ length (m .prefix) = ap (λ (y : List ℕ). length y) p in
       let u : length (eventOctets pre r8 1) ≡ 12 + length pre = length-event pre r8 1 (omega arith) in
@@ -77,18 +79,18 @@ module _ (m : Model) (s : List ℕ) (i : ℕ) (w : AtPair m s i) where
       ap (λ (y : List ℕ). eventOctets y r8 1) p ∙ ap (λ (y : List ℕ). eventOctets (m .prefix) y 1) er ∙ event-part in
       let z : Wrote out at (eventOctets pre r8 1) o r =
       fits-wrote (eventFits (length out) at pre r8 1) out at (eventOctets pre r8 1)
-      (and-both (le-leb (length pre) 32 (omega (arith, w .measured .prefix-most)))
+      (and-both (le-leb (length pre) mostPrefix (omega (arith, w .measured .prefix-most)))
       (and-both (le-leb 8 (length r8) (omega arith))
       (le-leb (at + length (eventOctets pre r8 1)) (length out) (omega (arith, w .measured .prefix-most))))) x in
       record { octets = z .octets ∙ ap (put out at) v; count = z .count ∙ ap (λ (y : List ℕ). length y) v }
 
 -- an event's length, whatever the octets
-pub event-most : (out : List ℕ) (at : ℕ) (pre r8 : List ℕ) {r : ℕ} → length pre ≤ 32 → 8 ≤ length r8
-    → r ≡ pick (eventFits (length out) at pre r8 1) (length (eventOctets pre r8 1)) 0 → r ≤ 44
+pub event-most : (out : List ℕ) (at : ℕ) (pre r8 : List ℕ) {r : ℕ} → length pre ≤ mostPrefix → 8 ≤ length r8
+    → r ≡ pick (eventFits (length out) at pre r8 1) (length (eventOctets pre r8 1)) 0 → r ≤ eventMost
 unfolding pick
 event-most out at pre r8 {r} h b e = go (eventFits (length out) at pre r8 1) e
   where
-    go : (t : Bool) → r ≡ pick t (length (eventOctets pre r8 1)) 0 → r ≤ 44
+    go : (t : Bool) → r ≡ pick t (length (eventOctets pre r8 1)) 0 → r ≤ eventMost
     go true e = omega (arith, length-event pre r8 1 b)
     go false e = omega arith
 
@@ -138,7 +140,7 @@ module _ (m : Model) (s : List ℕ) (from count : ℕ) (w : Holding m s (from + 
       }
 
 -- the report of a packet
-pub report-wrote : (out : List ℕ) (at : ℕ) (l : List ℕ) {o dev adv : List ℕ} {r : ℕ} → Framed l → at + 45 ≤ length out
+pub report-wrote : (out : List ℕ) (at : ℕ) (l : List ℕ) {o dev adv : List ℕ} {r : ℕ} → Framed l → at + reportMost ≤ length out
     → dev ≡ take 7 (drop 1 l) → adv ≡ take (getD l 8 0) (drop 9 l)
     → (r ≡ pick (reportFits (length out) at (getD l 0 0) dev adv (getD l (9 + getD l 8 0) 0))
     (length (reportOctets (getD l 0 0) dev adv (getD l (9 + getD l 8 0) 0))) 0)
@@ -162,17 +164,17 @@ report-wrote out at l {o} {dev} {adv} {r} f h ed ea x =
     ∙ report-device e (getD l 1 0) (take 6 (drop 2 l)) (take n (drop 9 l)) s in
     let z : Wrote out at (reportOctets e dev adv s) o r =
     fits-wrote (reportFits (length out) at e dev adv s) out at (reportOctets e dev adv s)
-    (and-both (eq-eqb (length dev) 7 k) (and-both (le-leb (length adv) 31 (omega arith))
+    (and-both (eq-eqb (length dev) 7 k) (and-both (le-leb (length adv) mostData (omega arith))
     (le-leb (at + length (reportOctets e dev adv s)) (length out) (omega arith)))) x in
     record { octets = z .octets ∙ ap (put out at) v; count = z .count ∙ ap (λ (y : List ℕ). length y) v }
 
 -- a report's length
-pub report-most : (out : List ℕ) (at event : ℕ) (dev adv : List ℕ) (rssi : ℕ) {r : ℕ} → length dev ≡ 7 → length adv ≤ 31
-    → r ≡ pick (reportFits (length out) at event dev adv rssi) (length (reportOctets event dev adv rssi)) 0 → r ≤ 45
+pub report-most : (out : List ℕ) (at event : ℕ) (dev adv : List ℕ) (rssi : ℕ) {r : ℕ} → length dev ≡ 7 → length adv ≤ mostData
+    → r ≡ pick (reportFits (length out) at event dev adv rssi) (length (reportOctets event dev adv rssi)) 0 → r ≤ reportMost
 unfolding pick
 report-most out at event dev adv rssi {r} h b e = go (reportFits (length out) at event dev adv rssi) e
   where
-    go : (t : Bool) → r ≡ pick t (length (reportOctets event dev adv rssi)) 0 → r ≤ 45
+    go : (t : Bool) → r ≡ pick t (length (reportOctets event dev adv rssi)) 0 → r ≤ reportMost
     go true e = omega (arith, length-report event dev adv rssi h)
     go false e = omega arith
 

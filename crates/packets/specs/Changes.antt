@@ -9,12 +9,13 @@ use lib.Dec.{eqb, ltb}
 use lib.ListN.{length}
 use Rattle.laws.specs.Tests.{pick, sames}
 use Rattle.rule.specs.Engine.{find}
-use Rattle.model.specs.Types.{Monitor, Packet, Pair, deviceOf, watched, mostPairs}
+use Rattle.model.specs.Types.{Monitor, Packet, Pair, deviceOf, watched}
 use Rattle.model.specs.Monitors.{matches, strong}
 use Rattle.model.specs.Watch.{withSilent, gathered, counts, refreshed, windowTakes, atPacket, packetMove, holds, begins}
 use Rattle.model.specs.Watch.{startPair, turn, wants}
 use Rattle.marks.specs.Marks.{refreshes, takes, opens, tells, markOf, mark}
 use Rattle.marks.specs.Marks.{mark-refreshes, mark-takes, mark-opens, mark-tells}
+use Rattle.model.specs.Layout.{mostPairs}
 
 -- a pair of the packet's device over the packet, by its handle's octet
 unfoldable pub freshened : ℕ → Pair → Pair
@@ -49,18 +50,18 @@ move-changed mons p q = go (find mons (q .handle))
 
 -- one handle's turn, by its octet
 unfoldable pub starts : ℕ → ℕ → Packet → List Pair → Bool
-starts a h p qs = opens a && (not (holds qs h (deviceOf p)) && ltb (length qs) 64)
+starts a h p qs = opens a && (not (holds qs h (deviceOf p)) && ltb (length qs) mostPairs)
 
 pub turn-starts : (o : Option Monitor) (p : Packet) (h : ℕ) (qs : List Pair)
     → turn o p h qs ≡ pick (starts (mark o p) h p qs) (qs ++ (startPair h p ∷ [])) qs
-unfolding turn mark starts begins opens pick mostPairs
+unfolding turn mark starts begins opens pick
 turn-starts none p h qs = refl
 turn-starts (some m) p h qs = go (matches m p) refl
   where
     go : (t : Bool) → matches m p ≡ t
-        → pick (matches m p && (strong m p && (not (holds qs h (deviceOf p)) && ltb (length qs) 64)))
+        → pick (matches m p && (strong m p && (not (holds qs h (deviceOf p)) && ltb (length qs) mostPairs)))
         (qs ++ (startPair h p ∷ [])) qs
-        ≡ pick (opens (markOf m p) && (not (holds qs h (deviceOf p)) && ltb (length qs) 64)) (qs ++
+        ≡ pick (opens (markOf m p) && (not (holds qs h (deviceOf p)) && ltb (length qs) mostPairs)) (qs ++
         (startPair h p ∷ [])) qs
     go true e = rw (mark-opens m p, e)
     go false e = rw (mark-opens m p, e)

@@ -26,6 +26,7 @@ use Rattle.packets.specs.Changes.{changed, move-changed}
 use Rattle.packets.specs.Keys.{deviceNumber, same-true, same-false, key-pairs}
 use Rattle.packets.specs.Writes.{same-row}
 use Rattle.packets.specs.Moves.{noPair, pairAt, withPair, AtPair, pair-fits, moved-fits}
+use Rattle.model.specs.Layout.{mostMonitors, pairSize, pairsAt}
 
 -- what the loops are given of the packet: its fields in range, the octets of the handles, the number of its device
 pub record Given (mons : List (ℕ × Monitor)) (p : Packet) (acts : List ℕ) (dev : ℕ) : Type 0 where
@@ -39,14 +40,14 @@ Roomy qs = All (λ (q : Pair). q .packets < 4294967295) qs
 
 -- a row's turn, by its key
 module _ (m : Model) (s : List ℕ) (i : ℕ) (p : Packet) (acts : List ℕ) (dev key : ℕ) (w : AtPair m s i)
-    (g : Given (m .mons) p acts dev) (k : key ≡ little 8 s (1176 + 56 * i)) where
+    (g : Given (m .mons) p acts dev) (k : key ≡ little 8 s (pairsAt + pairSize * i)) where
   key-read : key ≡ pairAt m i .handle + 256 * value (watched (pairAt m i))
   unfolding pairAt
   key-read =
-      k ∙ ap (λ (l : List ℕ). little 8 l (1176 + 56 * i)) (w .block)
+      k ∙ ap (λ (l : List ℕ). little 8 l (pairsAt + pairSize * i)) (w .block)
       ∙ key-pairs m (w .measured) i noPair (w .within) (pair-fits w)
 
-  pub handle-low : key % 256 < 16
+  pub handle-low : key % 256 < mostMonitors
   handle-low = let f : Fits (pairAt m i) = pair-fits w in omega (arith, key-read, f .handle-most)
 
   pub row-other : (key / 256 ≡ dev → ⊥) → s ≡ padded (withPair m i (packetMove (m .mons) p (pairAt m i)))

@@ -23,6 +23,7 @@ use Rattle.blocks.specs.Bounds.{Fits}
 use Rattle.blocks.specs.Block.{Measured, row-pairs}
 use Rattle.blocks.specs.Fields.{keyOf, timesOf, place-split}
 use Rattle.steps.specs.Typed.{Sent}
+use Rattle.model.specs.Layout.{handleAt, mostMonitors, pairSize, pairsAt}
 
 -- the number of a packet's device
 unfoldable pub deviceNumber : Packet → ℕ
@@ -77,7 +78,7 @@ module _ (p : Packet) (t : Sent p) where
       go true e = absurd (n (ap value (sym (sames-eq (deviceOf p) (watched q) e))))
 
   -- it is the pair of a handle where the keys are equal
-  pub pair-true : (h : ℕ) (q : Pair) → Fits q → h < 16 → q .handle + 256 * value (watched q) ≡ h + 256 * deviceNumber p
+  pub pair-true : (h : ℕ) (q : Pair) → Fits q → h < mostMonitors → q .handle + 256 * value (watched q) ≡ h + 256 * deviceNumber p
       → isPair h (deviceOf p) q ≡ true
   unfolding isPair deviceNumber
   pair-true h q f b e =
@@ -116,10 +117,10 @@ payload-device l n b =
 
 -- a pair's row opens with its key: 8 octets
 pub place-key : (q : Pair) → length (q .address) ≡ 6
-    → little 8 (padTo 56 (pairRow q)) 0 ≡ q .handle + 256 * value (watched q)
+    → little 8 (padTo pairSize (pairRow q)) handleAt ≡ q .handle + 256 * value (watched q)
 unfolding watched device value
 place-key q h =
-    let e : padTo 56 (pairRow q) ≡ keyOf q ++ timesOf q = place-split q h in
+    let e : padTo pairSize (pairRow q) ≡ keyOf q ++ timesOf q = place-split q h in
     let n : length (keyOf q ++ timesOf q) ≡ length (keyOf q) + length (timesOf q) =
     lib.ListN.length-append (keyOf q) (timesOf q) in
     ap (λ (l : List ℕ). little 8 l 0) e
@@ -127,19 +128,19 @@ place-key q h =
     ∙ ap value (take-at (keyOf q) (timesOf q) 8 (omega arith))
 
 -- what stands in row i of the pairs of a block
-pub little-pairs : (m : Model) → Measured m → (i k off : ℕ) (d : Pair) → i < length (m .pairs) → off + k ≤ 56
-    → little k (padded m) (1176 + 56 * i + off) ≡ little k (padTo 56 (pairRow (getD (m .pairs) i d))) off
+pub little-pairs : (m : Model) → Measured m → (i k off : ℕ) (d : Pair) → i < length (m .pairs) → off + k ≤ pairSize
+    → little k (padded m) (pairsAt + pairSize * i + off) ≡ little k (padTo pairSize (pairRow (getD (m .pairs) i d))) off
 little-pairs m f i k off d b h =
-    let e : 1176 + 56 * i + off ≡ 1176 + (56 * i + off) = omega arith in
+    let e : pairsAt + pairSize * i + off ≡ pairsAt + (pairSize * i + off) = omega arith in
     ap (little k (padded m)) e
-    ∙ sym (little-drop k 1176 (padded m) (56 * i + off))
-    ∙ sym (little-row k 56 i off (drop 1176 (padded m)) h)
+    ∙ sym (little-drop k pairsAt (padded m) (pairSize * i + off))
+    ∙ sym (little-row k pairSize i off (drop pairsAt (padded m)) h)
     ∙ ap (λ (l : List ℕ). little k l off) (row-pairs m f i d b)
 
 pub key-pairs : (m : Model) → Measured m → (i : ℕ) (d : Pair) → i < length (m .pairs) → Fits (getD (m .pairs) i d)
-    → little 8 (padded m) (1176 + 56 * i)
+    → little 8 (padded m) (pairsAt + pairSize * i)
     ≡ getD (m .pairs) i d .handle + 256 * value (watched (getD (m .pairs) i d))
 key-pairs m f i d b q =
-    let z : 1176 + 56 * i ≡ 1176 + 56 * i + 0 = omega arith in
+    let z : pairsAt + pairSize * i ≡ pairsAt + pairSize * i + 0 = omega arith in
     ap (little 8 (padded m)) z ∙ little-pairs m f i 8 0 d b (omega arith)
     ∙ place-key (getD (m .pairs) i d) (q .address-length)

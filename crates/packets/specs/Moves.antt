@@ -25,6 +25,7 @@ use Rattle.steps.specs.Typed.{pick-both, Sent}
 use Rattle.marks.specs.Marks.{refreshes, takes, mark}
 use Rattle.packets.specs.Changes.{freshened, collected, changed, move-changed}
 use Rattle.packets.specs.Writes.{same-row, fits-silent, fits-gathered, row-silent, row-gathered}
+use Rattle.model.specs.Layout.{pairSize, pairsAt}
 
 -- the pair read past the end
 unfoldable pub noPair : Pair
@@ -55,11 +56,11 @@ pair-fits {m} {s} {i} a = all-at Fits (m .pairs) (a .measured .fit) i (a .within
 
 -- the count of ticks since a good packet starts anew, or is left
 module _ (m : Model) (s : List ℕ) (i a : ℕ) (w : AtPair m s i) where
-  pub refresh-done : {t : List ℕ} → a % 2 ≡ 1 → t ≡ put s (1176 + 56 * i + 8) (octetsOf 2 0)
+  pub refresh-done : {t : List ℕ} → a % 2 ≡ 1 → t ≡ put s (pairsAt + pairSize * i + 8) (octetsOf 2 0)
       → t ≡ padded (withPair m i (freshened a (pairAt m i)))
   unfolding withPair freshened refreshes pairAt
   refresh-done h e =
-      e ∙ ap (λ (l : List ℕ). put l (1176 + 56 * i + 8) (octetsOf 2 0)) (w .block)
+      e ∙ ap (λ (l : List ℕ). put l (pairsAt + pairSize * i + 8) (octetsOf 2 0)) (w .block)
       ∙ row-silent m (w .measured) i noPair (w .within) (pair-fits w)
       ∙ ap (λ (q : Pair). padded (withLists m (m .mons) (set (m .pairs) i q)))
       (sym (pick-true (withSilent (getD (m .pairs) i noPair) 0) (getD (m .pairs) i noPair) (eq-eqb (a % 2) 1 h)))
@@ -74,13 +75,13 @@ module _ (m : Model) (s : List ℕ) (i a : ℕ) (w : AtPair m s i) where
 -- the window takes the packet, or is left
 module _ (m : Model) (s : List ℕ) (i a : ℕ) (p : Packet) (w : AtPair m s i) where
   pub gather-done : {t : List ℕ} → Sent p → pairAt m i .packets < 4294967295 → a / 2 % 2 ≡ 1
-      → t ≡ put s (1176 + 56 * i + 11) (windowOf (little 4 s (1176 + 56 * i + 11) + 1)
-      (addRssi (little 8 s (1176 + 56 * i + 15)) (p .rssi)) (p .event) (p .adv))
+      → t ≡ put s (pairsAt + pairSize * i + 11) (windowOf (little 4 s (pairsAt + pairSize * i + 11) + 1)
+      (addRssi (little 8 s (pairsAt + pairSize * i + 15)) (p .rssi)) (p .event) (p .adv))
       → t ≡ padded (withPair m i (collected a p (pairAt m i)))
   unfolding withPair collected takes pairAt
   gather-done x r h e =
-      e ∙ ap (λ (l : List ℕ). put l (1176 + 56 * i + 11) (windowOf (little 4 l (1176 + 56 * i + 11) + 1)
-      (addRssi (little 8 l (1176 + 56 * i + 15)) (p .rssi)) (p .event) (p .adv))) (w .block)
+      e ∙ ap (λ (l : List ℕ). put l (pairsAt + pairSize * i + 11) (windowOf (little 4 l (pairsAt + pairSize * i + 11) + 1)
+      (addRssi (little 8 l (pairsAt + pairSize * i + 15)) (p .rssi)) (p .event) (p .adv))) (w .block)
       ∙ row-gathered m (w .measured) i noPair (w .within) (pair-fits w) p x r
       ∙ ap (λ (q : Pair). padded (withLists m (m .mons) (set (m .pairs) i q)))
       (sym (pick-true (gathered p (getD (m .pairs) i noPair)) (getD (m .pairs) i noPair) (eq-eqb (a / 2 % 2) 1 h)))

@@ -19,6 +19,7 @@ use Rattle.model.specs.Watch.{holds, wants, packetPairs, reported}
 use Rattle.blocks.specs.Facts.{SoundMonitors, SoundModel, monitors-tail, monitors-from, monitors-over}
 use Rattle.marks.specs.Marks.{tells, mark, marks, getD-marks}
 use Rattle.packets.specs.Changes.{wants-tells}
+use Rattle.model.specs.Layout.{mostMonitors}
 
 -- some number of k, k + 1, .., n of them, passes
 unfoldable pub anyFrom : (ℕ → Bool) → ℕ → ℕ → Bool
@@ -30,25 +31,25 @@ unfoldable pub wantsAt : List ℕ → List Pair → Packet → ℕ → Bool
 wantsAt acts qs p h = tells (getD acts h 0) && holds qs h (deviceOf p)
 
 -- the turns of the loop: what is left from h on has the answer
-module _ (f : ℕ → Bool) (h : ℕ) (q : anyFrom f 0 16 ≡ anyFrom f h (16 - h)) where
-  pub any-miss : h < 16 → f h ≡ false → anyFrom f 0 16 ≡ anyFrom f (h + 1) (16 - (h + 1))
+module _ (f : ℕ → Bool) (h : ℕ) (q : anyFrom f 0 mostMonitors ≡ anyFrom f h (mostMonitors - h)) where
+  pub any-miss : h < mostMonitors → f h ≡ false → anyFrom f 0 mostMonitors ≡ anyFrom f (h + 1) (mostMonitors - (h + 1))
   unfolding anyFrom
   any-miss b e =
-      let n : 16 - h ≡ suc (16 - (h + 1)) = omega arith in
+      let n : mostMonitors - h ≡ suc (mostMonitors - (h + 1)) = omega arith in
       let s : suc h ≡ h + 1 = omega arith in
-      q ∙ ap (λ (j : ℕ). anyFrom f h j) n ∙ ap (λ (t : Bool). t || anyFrom f (suc h) (16 - (h + 1))) e
-      ∙ ap (λ (j : ℕ). anyFrom f j (16 - (h + 1))) s
+      q ∙ ap (λ (j : ℕ). anyFrom f h j) n ∙ ap (λ (t : Bool). t || anyFrom f (suc h) (mostMonitors - (h + 1))) e
+      ∙ ap (λ (j : ℕ). anyFrom f j (mostMonitors - (h + 1))) s
 
-  pub any-hit : h < 16 → f h ≡ true → true ≡ anyFrom f 0 16
+  pub any-hit : h < mostMonitors → f h ≡ true → true ≡ anyFrom f 0 mostMonitors
   unfolding anyFrom
   any-hit b e =
-      let n : 16 - h ≡ suc (16 - (h + 1)) = omega arith in
-      sym (q ∙ ap (λ (j : ℕ). anyFrom f h j) n ∙ ap (λ (t : Bool). t || anyFrom f (suc h) (16 - (h + 1))) e)
+      let n : mostMonitors - h ≡ suc (mostMonitors - (h + 1)) = omega arith in
+      sym (q ∙ ap (λ (j : ℕ). anyFrom f h j) n ∙ ap (λ (t : Bool). t || anyFrom f (suc h) (mostMonitors - (h + 1))) e)
 
-  pub any-end : 16 ≤ h → false ≡ anyFrom f 0 16
+  pub any-end : mostMonitors ≤ h → false ≡ anyFrom f 0 mostMonitors
   unfolding anyFrom
   any-end b =
-      let n : 16 - h ≡ 0 = omega arith in
+      let n : mostMonitors - h ≡ 0 = omega arith in
       sym (q ∙ ap (λ (j : ℕ). anyFrom f h j) n)
 
 -- a handle's test
@@ -71,7 +72,7 @@ module _ (qs : List Pair) (p : Packet) (l : List (ℕ × Monitor)) where
   wanted : ℕ → Bool
   wanted h = tells (mark (find l h) p) && holds qs h (deviceOf p)
 
-  handles-from : (n k : ℕ) (r : List (ℕ × Monitor)) → k + n ≡ 16 → SoundMonitors k r
+  handles-from : (n k : ℕ) (r : List (ℕ × Monitor)) → k + n ≡ mostMonitors → SoundMonitors k r
       → ((h : ℕ) → k ≤ h → find l h ≡ find r h) → someOf (wants qs p) r ≡ anyFrom wanted k n
   unfolding someOf anyFrom wanted mark tells
   handles-from zero k [] e f q = refl
@@ -106,11 +107,11 @@ module _ (qs : List Pair) (p : Packet) (l : List (ℕ × Monitor)) where
           rw s ih
 
   pub wants-handles : (acts : List ℕ) → SoundMonitors 0 l → acts ≡ marks l p
-      → someOf (wants qs p) l ≡ anyFrom (wantsAt acts qs p) 0 16
+      → someOf (wants qs p) l ≡ anyFrom (wantsAt acts qs p) 0 mostMonitors
   unfolding wantsAt wanted
   wants-handles acts f e =
-      handles-from 16 0 l refl f (λ h b. refl)
-      ∙ any-same wanted (wantsAt acts qs p) 0 16 (λ h a b.
+      handles-from mostMonitors 0 l refl f (λ h b. refl)
+      ∙ any-same wanted (wantsAt acts qs p) 0 mostMonitors (λ h a b.
       ap (λ (n : ℕ). tells n && holds qs h (deviceOf p))
       (sym (ap (λ (x : List ℕ). getD x h 0) e ∙ getD-marks l p h (omega arith))))
 
@@ -132,7 +133,7 @@ module _ (m : Model) (p : Packet) where
       go false false c e = sym e
 
   pub reported-wants : {r : Bool} (acts : List ℕ) → SoundModel m → acts ≡ marks (m .mons) p → (m .filter ≡ 0 → ⊥)
-      → length (packetPairs m p) ≤ length (m .pairs) → r ≡ anyFrom (wantsAt acts (packetPairs m p) p) 0 16
+      → length (packetPairs m p) ≤ length (m .pairs) → r ≡ anyFrom (wantsAt acts (packetPairs m p) p) 0 mostMonitors
       → r ≡ reported m p
   unfolding reported
   reported-wants {r} acts f e n h q =

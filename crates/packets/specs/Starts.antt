@@ -29,6 +29,7 @@ use Rattle.packets.specs.Changes.{starts, turn-starts}
 use Rattle.packets.specs.Keys.{deviceNumber, pair-true, pair-false, key-pairs}
 use Rattle.packets.specs.Writes.{fits-start, row-start}
 use Rattle.packets.specs.Moves.{noPair, pairAt, AtPair, pair-fits}
+use Rattle.model.specs.Layout.{countAt, mostMonitors, mostPairs, pairSize, pairsAt}
 
 -- s is the block of the state m, with n pairs
 pub record Holding (m : Model) (s : List ℕ) (n : ℕ) : Type 0 where
@@ -39,7 +40,7 @@ pub record Holding (m : Model) (s : List ℕ) (n : ℕ) : Type 0 where
 -- what the search for the pair of a handle is given
 pub record Sought (p : Packet) (h key : ℕ) : Type 0 where
   pub sent : Sent p
-  pub low : h < 16
+  pub low : h < mostMonitors
   pub number : key ≡ h + 256 * deviceNumber p
 
 -- the search: what is left at row i has the answer
@@ -48,14 +49,14 @@ module _ (m : Model) (s : List ℕ) (n : ℕ) (p : Packet) (h key i : ℕ) (w : 
   at-pair : i < n → AtPair m s i
   at-pair b = record { measured = w .measured; block = w .block; within = omega (arith, w .count) }
 
-  key-at : (b : i < n) (k : ℕ) → k ≡ little 8 s (1176 + 56 * i)
+  key-at : (b : i < n) (k : ℕ) → k ≡ little 8 s (pairsAt + pairSize * i)
       → k ≡ getD (m .pairs) i noPair .handle + 256 * value (watched (getD (m .pairs) i noPair))
   unfolding pairAt
   key-at b k e =
-      e ∙ ap (λ (l : List ℕ). little 8 l (1176 + 56 * i)) (w .block)
+      e ∙ ap (λ (l : List ℕ). little 8 l (pairsAt + pairSize * i)) (w .block)
       ∙ key-pairs m (w .measured) i noPair (at-pair b .within) (pair-fits (at-pair b))
 
-  pub search-hit : (k : ℕ) → i < n → k ≡ little 8 s (1176 + 56 * i) → k ≡ key → true ≡ holds (m .pairs) h (deviceOf p)
+  pub search-hit : (k : ℕ) → i < n → k ≡ little 8 s (pairsAt + pairSize * i) → k ≡ key → true ≡ holds (m .pairs) h (deviceOf p)
   unfolding holds pairAt
   search-hit k b e y =
       let g : Pair = getD (m .pairs) i noPair in
@@ -65,7 +66,7 @@ module _ (m : Model) (s : List ℕ) (n : ℕ) (p : Packet) (h key i : ℕ) (w : 
       (at-pair b .within))
       ∙ some-stop (isPair h (deviceOf p)) g (drop (suc i) (m .pairs)) t)
 
-  pub search-miss : (k : ℕ) → i < n → k ≡ little 8 s (1176 + 56 * i) → (k ≡ key → ⊥)
+  pub search-miss : (k : ℕ) → i < n → k ≡ little 8 s (pairsAt + pairSize * i) → (k ≡ key → ⊥)
       → holds (m .pairs) h (deviceOf p) ≡ holds (drop (i + 1) (m .pairs)) h (deviceOf p)
   unfolding holds
   search-miss k b e y =
@@ -107,34 +108,34 @@ module _ (m : Model) (s : List ℕ) (n : ℕ) (p : Packet) (a h : ℕ) (w : Hold
   unfolding starts opens
   start-weak e = left-out (and-not-left _ _ (ne-eqb (a / 4 % 2) 1 e))
 
-  pub start-full : 64 ≤ n → Turned m (after a h p (m .pairs)) s n
+  pub start-full : mostPairs ≤ n → Turned m (after a h p (m .pairs)) s n
   unfolding starts
   start-full e =
       left-out (and-not-right (opens a) _ (and-not-right (not (holds (m .pairs) h (deviceOf p))) _
-      (le-ltb (length (m .pairs)) 64 (omega (arith, w .count)))))
+      (le-ltb (length (m .pairs)) mostPairs (omega (arith, w .count)))))
 
   pub start-held : true ≡ holds (m .pairs) h (deviceOf p) → Turned m (after a h p (m .pairs)) s n
   unfolding starts
   start-held e =
       left-out (and-not-right (opens a) _ (and-not-left (not (holds (m .pairs) h (deviceOf p))) _ (ap not (sym e))))
 
-  pub start-done : {t : List ℕ} (key : ℕ) → Sought p h key → a / 4 % 2 ≡ 1 → n < 64
+  pub start-done : {t : List ℕ} (key : ℕ) → Sought p h key → a / 4 % 2 ≡ 1 → n < mostPairs
       → false ≡ holds (m .pairs) h (deviceOf p)
-      → t ≡ put (put s (1176 + 56 * n) (octetsOf 8 key)) 4760 ((n + 1) ∷ [])
+      → t ≡ put (put s (pairsAt + pairSize * n) (octetsOf 8 key)) countAt ((n + 1) ∷ [])
       → Turned m (after a h p (m .pairs)) t (n + 1)
   unfolding after starts opens
   start-done {t} key x o b f e =
       let qs : List Pair = m .pairs ++ (startPair h p ∷ []) in
       let y : starts a h p (m .pairs) ≡ true =
       and-both (eq-eqb (a / 4 % 2) 1 o)
-      (and-both (ap not (sym f)) (lt-ltb (length (m .pairs)) 64 (omega (arith, w .count)))) in
+      (and-both (ap not (sym f)) (lt-ltb (length (m .pairs)) mostPairs (omega (arith, w .count)))) in
       let g : qs ≡ pick (starts a h p (m .pairs)) qs (m .pairs) = sym (pick-true qs (m .pairs) y) in
       let l : length qs ≡ length (m .pairs) + 1 = length-append (m .pairs) (startPair h p ∷ []) in
       record {
         block = e
-            ∙ ap (λ (z : List ℕ). put (put z (1176 + 56 * n) (octetsOf 8 key)) 4760 ((n + 1) ∷ [])) (w .block)
-            ∙ ap (λ (j : ℕ). put (put (padded m) (1176 + 56 * j) (octetsOf 8 key)) 4760 ((j + 1) ∷ [])) (w .count)
-            ∙ ap (λ (j : ℕ). put (put (padded m) (1176 + 56 * length (m .pairs)) (octetsOf 8 j)) 4760
+            ∙ ap (λ (z : List ℕ). put (put z (pairsAt + pairSize * n) (octetsOf 8 key)) countAt ((n + 1) ∷ [])) (w .block)
+            ∙ ap (λ (j : ℕ). put (put (padded m) (pairsAt + pairSize * j) (octetsOf 8 key)) countAt ((j + 1) ∷ [])) (w .count)
+            ∙ ap (λ (j : ℕ). put (put (padded m) (pairsAt + pairSize * length (m .pairs)) (octetsOf 8 j)) countAt
             ((length (m .pairs) + 1) ∷ [])) (x .number)
             ∙ row-start m (w .measured) h p (x .low) (x .sent) (omega (arith, w .count))
             ∙ ap (λ (z : List Pair). padded (withLists m (m .mons) z)) g;
@@ -142,31 +143,31 @@ module _ (m : Model) (s : List ℕ) (n : ℕ) (p : Packet) (a h : ℕ) (w : Hold
       }
 
 -- the pairs stay ones that fit, at most 64
-turns-fit : (mons : List (ℕ × Monitor)) (p : Packet) (n : ℕ) (qs : List Pair) → n ≤ 16 → Sent p → All Fits qs
-    → length qs ≤ 64
-    → All Fits (turns mons p n qs) × (length (turns mons p n qs) ≤ 64)
+turns-fit : (mons : List (ℕ × Monitor)) (p : Packet) (n : ℕ) (qs : List Pair) → n ≤ mostMonitors → Sent p → All Fits qs
+    → length qs ≤ mostPairs
+    → All Fits (turns mons p n qs) × (length (turns mons p n qs) ≤ mostPairs)
 unfolding turns starts
 turns-fit mons p zero qs b t a h = (a, h)
 turns-fit mons p (suc n) qs b t a h = go (turns mons p n qs) (turns-fit mons p n qs (omega arith) t a h)
   where
-    go : (l : List Pair) → All Fits l × (length l ≤ 64) → All Fits (turn (find mons n) p n l) × (length (turn
-        (find mons n) p n l) ≤ 64)
+    go : (l : List Pair) → All Fits l × (length l ≤ mostPairs) → All Fits (turn (find mons n) p n l) × (length (turn
+        (find mons n) p n l) ≤ mostPairs)
     go l r =
         let m : ℕ = mark (find mons n) p in
-        subst (λ (x : List Pair). All Fits x × (length x ≤ 64)) (sym (turn-starts (find mons n) p n l))
-        (pick-both (λ (x : List Pair). All Fits x × (length x ≤ 64)) (starts m n p l) (l ++ (startPair n p ∷ [])) l
+        subst (λ (x : List Pair). All Fits x × (length x ≤ mostPairs)) (sym (turn-starts (find mons n) p n l))
+        (pick-both (λ (x : List Pair). All Fits x × (length x ≤ mostPairs)) (starts m n p l) (l ++ (startPair n p ∷ [])) l
         (λ e.
-        let u : (not (holds l n (deviceOf p)) && ltb (length l) 64) ≡ true =
-        and-right (opens m) (not (holds l n (deviceOf p)) && ltb (length l) 64) e in
-        let v : length l < 64 = ltb-true (length l) 64 (and-right (not (holds l n (deviceOf p))) (ltb
-        (length l) 64) u) in (
+        let u : (not (holds l n (deviceOf p)) && ltb (length l) mostPairs) ≡ true =
+        and-right (opens m) (not (holds l n (deviceOf p)) && ltb (length l) mostPairs) e in
+        let v : length l < mostPairs = ltb-true (length l) mostPairs (and-right (not (holds l n (deviceOf p))) (ltb
+        (length l) mostPairs) u) in (
           all-append Fits l (startPair n p ∷ []) (r .0) (fits-start n p (omega arith) t, tt),
           rw (length-append l (startPair n p ∷ [])) (omega arith),
         ))
         (λ e. r))
 
 module _ (m : Model) (p : Packet) (f : Measured m) (t : Sent p) where
-  pub turns-measured : (h : ℕ) → h ≤ 16 → Measured (withLists m (m .mons) (turns (m .mons) p h (m .pairs)))
+  pub turns-measured : (h : ℕ) → h ≤ mostMonitors → Measured (withLists m (m .mons) (turns (m .mons) p h (m .pairs)))
   turns-measured h b =
       let r = turns-fit (m .mons) p h (m .pairs) b t (f .fit) (f .pairs-most) in
       measured-pairs m f (turns (m .mons) p h (m .pairs)) (r .0) (r .1)
@@ -177,7 +178,7 @@ module _ (m : Model) (p : Packet) (f : Measured m) (t : Sent p) where
   turns-none s n e c = record { block = e; count = c }
 
   -- a turn of the loop over the handles
-  pub turns-turn : (acts : List ℕ) (h a : ℕ) {s u : List ℕ} {n k : ℕ} → h < 16 → acts ≡ marks (m .mons) p
+  pub turns-turn : (acts : List ℕ) (h a : ℕ) {s u : List ℕ} {n k : ℕ} → h < mostMonitors → acts ≡ marks (m .mons) p
       → a ≡ getD acts h 0
       → Turned m (turns (m .mons) p h (m .pairs)) s n
       → ((g : Model) → Holding g s n → Turned g (after a h p (g .pairs)) u k)

@@ -15,18 +15,18 @@ use Rattle.laws.specs.Loops.{every, each, when}
 use Rattle.laws.specs.Put.{put, put-then}
 use Rattle.octets.specs.Little.{little, octetsOf, isOctet, octets-mod}
 use Rattle.sessions.specs.Machine.{answerRoom}
-use Rattle.model.specs.Types.{Model, Packet, Pair, withLists, mostMonitors, mostData}
+use Rattle.model.specs.Types.{Model, Packet, Pair, withLists}
 use Rattle.model.specs.Level.{inRange}
 use Rattle.model.specs.Frames.{packet, isPacket, packetOf}
 use Rattle.model.specs.Events.{startEvent, packetReport}
 use Rattle.model.specs.Watch.{packetMove, turns, packetPairs, startsOf, reported, packetAnswer}
 use Rattle.model.specs.Step.{stepTyped, answerTyped}
 use Rattle.model.specs.Sound.{soundPair, soundModel}
-use Rattle.model.specs.Block.{padded}
+use Rattle.model.specs.Block.{padded, advanced}
 use Rattle.blocks.specs.Facts.{SoundModel, SoundPair, sound-facts, pair-facts}
 use Rattle.blocks.specs.Bounds.{Window, window-facts}
-use Rattle.blocks.specs.Block.{Measured, sound-measured, getD-count, read-position, read-filter, padded-length}
-use Rattle.blocks.specs.Updates.{put-position}
+use Rattle.blocks.specs.Block.{Measured, sound-measured, getD-count, read-filter, padded-length, length-padded}
+use Rattle.blocks.specs.Updates.{advanced-moved}
 use Rattle.steps.specs.Facts.{and-five}
 use Rattle.steps.specs.Typed.{packet-sent}
 use Rattle.stepped.specs.Stepped.{Stepped}
@@ -37,10 +37,11 @@ use Rattle.packets.specs.Starts.{Holding, Turned, turns-measured}
 use Rattle.packets.specs.Reports.{anyFrom, wantsAt, reported-off, reported-start, reported-wants}
 use Rattle.packets.specs.Answers.{Wrote}
 use Rattle.marks.specs.Fields.{Clamped, Framed, framed, framed-facts, facts-framed}
+use Rattle.model.specs.Layout.{blockSize, countAt, filterAt, mostData, mostMonitors, mostPairs, positionAt}
 
 -- the lengths that a packet's step asks for: a block, the octets of a packet frame, room for the longest answer
 unfoldable pub lengthsFit : List ℕ → List ℕ → List ℕ → Bool
-lengthsFit s l out = eqb (length s) 4761 && (leb 2880 (length out) && framed l)
+lengthsFit s l out = eqb (length s) blockSize && (leb answerRoom (length out) && framed l)
 
 -- a packet frame of octets
 pub octets-known : (l : List ℕ) → ((i : ℕ) → getD l i 0 < 256) → every isOctet l ≡ true
@@ -49,13 +50,13 @@ octets-known [] f = refl
 octets-known (x ∷ l) f = and-both (lt-ltb x 256 (f 0)) (octets-known l (λ i. f (suc i)))
 
 pub packet-framed : (l : List ℕ) → isPacket l ≡ true → Framed l
-unfolding isPacket mostData
+unfolding isPacket
 packet-framed l e =
     let n : ℕ = getD l 8 0 in
     let r =
-    and-five (leb (getD l 0 0) 3) (leb (getD l 1 0) 1) (leb n 31) (eqb (length l) (10 + n)) (inRange (getD l
+    and-five (leb (getD l 0 0) 3) (leb (getD l 1 0) 1) (leb n mostData) (eqb (length l) (10 + n)) (inRange (getD l
     (9 + n) 0)) e in
-    (eqb-true (length l) (10 + n) (r .3), leb-true n 31 (r .2))
+    (eqb-true (length l) (10 + n) (r .3), leb-true n mostData (r .2))
 
 -- no window of a sound state is full before the last number
 roomy-all : (m : Model) → m .position < 4294967295 → (qs : List Pair) → every (soundPair m) qs ≡ true → Roomy qs
@@ -78,11 +79,11 @@ pub record Begun (m : Model) (s l acts : List ℕ) (dev n : ℕ) : Type 0 where
 
 pub begun : (m : Model) (s l acts : List ℕ) (dev n : ℕ) → soundModel m ≡ true → s ≡ padded m → m .position < 4294967295
     → ((i : ℕ) → getD l i 0 < 256) → isPacket l ≡ true → acts ≡ marksAt s (packetOf l) → dev ≡ little 8 l 0 / 256
-    → Clamped (getD s 4760 0) 64 n → Begun m s l acts dev n
+    → Clamped (getD s countAt 0) mostPairs n → Begun m s l acts dev n
 begun m s l acts dev n e b h o k a d c =
     let f : SoundModel m = sound-facts m e in
     let g : Measured m = sound-measured m f in
-    let z : getD s 4760 0 ≡ length (m .pairs) = ap (λ (x : List ℕ). getD x 4760 0) b ∙ getD-count m g in
+    let z : getD s countAt 0 ≡ length (m .pairs) = ap (λ (x : List ℕ). getD x countAt 0) b ∙ getD-count m g in
     let w : Framed l = packet-framed l k in
     record {
       facts = f;
@@ -129,15 +130,15 @@ module _ (m : Model) (s l acts : List ℕ) (dev n : ℕ) (b : Begun m s l acts d
 
   -- what the writers of the answer are given
   pub starts-holding : {t : List ℕ} {k : ℕ}
-      → Turned (afterMoves m (packetOf l)) (turns (afterMoves m (packetOf l) .mons) (packetOf l) 16 (afterMoves m
+      → Turned (afterMoves m (packetOf l)) (turns (afterMoves m (packetOf l) .mons) (packetOf l) mostMonitors (afterMoves m
       (packetOf l) .pairs)) t k
       → Holding (afterStarts m (packetOf l)) t k
-  unfolding afterMoves afterStarts withLists packetPairs mostMonitors
+  unfolding afterMoves afterStarts withLists packetPairs
   starts-holding {t} {k} w =
       record {
         measured = turns-measured (afterMoves m (packetOf l)) (packetOf l)
             (Rattle.packets.specs.Held.all-measured m (packetOf l) (b .measured) (b .given .sent) (b .roomy))
-            (b .given .sent) 16
+            (b .given .sent) mostMonitors
             (omega arith);
         block = w .block;
         count = w .count;
@@ -153,25 +154,25 @@ module _ (m : Model) (s l acts : List ℕ) (dev n : ℕ) (b : Begun m s l acts d
       f (afterStarts m (packetOf l)) (record { measured = h .measured; block = h .block; count = e ∙ h .count })
 
   -- whether the packet is reported
-  pub told-off : {t : List ℕ} {k : ℕ} → Holding (afterStarts m (packetOf l)) t k → getD t 4 0 ≡ 0
+  pub told-off : {t : List ℕ} {k : ℕ} → Holding (afterStarts m (packetOf l)) t k → getD t filterAt 0 ≡ 0
       → true ≡ reported m (packetOf l)
   unfolding afterStarts withLists
   told-off {t} {k} h e =
       reported-off m (packetOf l)
-      (sym (ap (λ (x : List ℕ). getD x 4 0) (h .block) ∙ read-filter (afterStarts m (packetOf l))) ∙ e)
+      (sym (ap (λ (x : List ℕ). getD x filterAt 0) (h .block) ∙ read-filter (afterStarts m (packetOf l))) ∙ e)
 
   pub told-start : {t : List ℕ} {k : ℕ} → Holding (afterStarts m (packetOf l)) t k → n < k
       → true ≡ reported m (packetOf l)
   unfolding afterStarts withLists
   told-start {t} {k} h y = reported-start m (packetOf l) (omega (arith, h .count, b .count))
 
-  pub told-wants : {t : List ℕ} {k : ℕ} {r : Bool} → Holding (afterStarts m (packetOf l)) t k → (getD t 4 0 ≡ 0
+  pub told-wants : {t : List ℕ} {k : ℕ} {r : Bool} → Holding (afterStarts m (packetOf l)) t k → (getD t filterAt 0 ≡ 0
       → ⊥) → k ≤ n
-      → r ≡ anyFrom (wantsAt acts (afterStarts m (packetOf l) .pairs) (packetOf l)) 0 16 → r ≡ reported m (packetOf l)
+      → r ≡ anyFrom (wantsAt acts (afterStarts m (packetOf l) .pairs) (packetOf l)) 0 mostMonitors → r ≡ reported m (packetOf l)
   unfolding afterStarts withLists
   told-wants {t} {k} {r} h e y q =
       reported-wants m (packetOf l) acts (b .facts) (b .given .octets)
-      (λ z. e (ap (λ (x : List ℕ). getD x 4 0) (h .block) ∙ read-filter (afterStarts m (packetOf l)) ∙ z))
+      (λ z. e (ap (λ (x : List ℕ). getD x filterAt 0) (h .block) ∙ read-filter (afterStarts m (packetOf l)) ∙ z))
       (omega (arith, h .count, b .count)) q
 
   -- the whole
@@ -180,7 +181,7 @@ module _ (m : Model) (s l acts : List ℕ) (dev n : ℕ) (b : Begun m s l acts d
       → told ≡ reported m (packetOf l)
       → Wrote out 0 (each (startEvent (m .prefix)) (drop n (packetPairs m (packetOf l)))) o w
       → Wrote o w (when told (packetReport (packetOf l))) v r
-      → u ≡ put t 0 (octetsOf 4 (little 4 t 0 + 1))
+      → u ≡ advanced t
       → Stepped m (packet (packetOf l)) u out v (w + r)
   unfolding stepTyped answerTyped packetAnswer startsOf afterStarts withLists
   packet-stepped {t} {u} {out} {o} {v} {k} {w} {r} {told} h e x y q =
@@ -193,55 +194,44 @@ module _ (m : Model) (s l acts : List ℕ) (dev n : ℕ) (b : Begun m s l acts d
       ap (λ (j : ℕ). each (startEvent (m .prefix)) (drop j (packetPairs m p)) ++ c) (b .count)
       ∙ ap (λ (j : Bool). each (startEvent (m .prefix)) (drop (length (m .pairs)) (packetPairs m p)) ++ when j
       (packetReport p)) e in
-      let pos : little 4 t 0 ≡ m .position =
-      ap (λ (z : List ℕ). little 4 z 0) (h .block) ∙ read-position g (omega (arith, b .below)) in
+      let n : length t ≡ blockSize = ap length (h .block) ∙ length-padded g (h .measured) in
       record {
-        block = q ∙ ap (λ (j : ℕ). put t 0 (octetsOf 4 (j + 1))) pos
-            ∙ ap (λ (z : List ℕ). put z 0 (octetsOf 4 (m .position + 1))) (h .block) ∙ put-position g;
+        block = q ∙ advanced-moved g t (h .block) (omega arith) (omega (arith, b .below));
         octets = put-then out 0 a w c (omega arith) (x .octets) (x .count ∙ sym (zero-add (length a))) (y .octets) ans;
         count = ap (λ (j : ℕ). j + r) (x .count) ∙ ap (λ (j : ℕ). length a + j) (y .count) ∙ sym (length-append a c)
             ∙ ap (λ (z : List ℕ). length z) ans;
       }
 
--- the position, one further
-pub position-written : (s : List ℕ) {v x : ℕ} {t : List ℕ} → v ≡ little 4 s 0 → x ≡ (v + 1) % 2 ^ 32
-    → t ≡ put s 0 (octetsOf 4 x)
-    → t ≡ put s 0 (octetsOf 4 (little 4 s 0 + 1))
-position-written s e f g =
-    g ∙ ap (λ (l : List ℕ). put s 0 l) (ap (octetsOf 4) (f ∙ ap (λ (z : ℕ). (z + 1) % 4294967296) e)
-    ∙ octets-mod 4 (little 4 s 0 + 1))
-
 -- the lengths that do not fit
 module _ (s l out : List ℕ) where
-  pub fit-block : (length s ≡ 4761 → ⊥) → false ≡ lengthsFit s l out
+  pub fit-block : (length s ≡ blockSize → ⊥) → false ≡ lengthsFit s l out
   unfolding lengthsFit
-  fit-block n = sym (and-not-left _ _ (ne-eqb (length s) 4761 n))
+  fit-block n = sym (and-not-left _ _ (ne-eqb (length s) blockSize n))
 
-  pub fit-out : length out < 2880 → false ≡ lengthsFit s l out
+  pub fit-out : length out < answerRoom → false ≡ lengthsFit s l out
   unfolding lengthsFit
-  fit-out n = sym (and-not-right (eqb (length s) 4761) _ (and-not-left _ _ (lt-leb 2880 (length out) n)))
+  fit-out n = sym (and-not-right (eqb (length s) blockSize) _ (and-not-left _ _ (lt-leb answerRoom (length out) n)))
 
-  pub fit-frame : {r : Bool} → length s ≡ 4761 → 2880 ≤ length out → r ≡ framed l → r ≡ lengthsFit s l out
+  pub fit-frame : {r : Bool} → length s ≡ blockSize → answerRoom ≤ length out → r ≡ framed l → r ≡ lengthsFit s l out
   unfolding lengthsFit
-  fit-frame a b e = e ∙ sym (rw (eq-eqb (length s) 4761 a, le-leb 2880 (length out) b))
+  fit-frame a b e = e ∙ sym (rw (eq-eqb (length s) blockSize a, le-leb answerRoom (length out) b))
 
-  pub fit-facts : lengthsFit s l out ≡ true → (length s ≡ 4761) × (2880 ≤ length out) × Framed l
+  pub fit-facts : lengthsFit s l out ≡ true → (length s ≡ blockSize) × (answerRoom ≤ length out) × Framed l
   unfolding lengthsFit
   fit-facts e =
-      let a = eqb (length s) 4761 in
-      let b = leb 2880 (length out) in
+      let a = eqb (length s) blockSize in
+      let b = leb answerRoom (length out) in
       let e1 = and-right a (b && framed l) e in (
-        eqb-true (length s) 4761 (and-left a (b && framed l) e),
-        leb-true 2880 (length out) (and-left b (framed l) e1),
+        eqb-true (length s) blockSize (and-left a (b && framed l) e),
+        leb-true answerRoom (length out) (and-left b (framed l) e1),
         framed-facts l (and-right b (framed l) e1),
       )
 
-  pub facts-fit : length s ≡ 4761 → 2880 ≤ length out → Framed l → lengthsFit s l out ≡ true
+  pub facts-fit : length s ≡ blockSize → answerRoom ≤ length out → Framed l → lengthsFit s l out ≡ true
   facts-fit a b f = sym (fit-frame a b refl) ∙ facts-framed l f
 
 -- a sound block, a packet frame and room for the answer fit
 pub packet-fits : (m : Model) (s l out : List ℕ) → soundModel m ≡ true → s ≡ padded m → isPacket l ≡ true
     → answerRoom ≤ length out → lengthsFit s l out ≡ true
-unfolding answerRoom
 packet-fits m s l out e b k h =
     facts-fit s l out (ap (λ (x : List ℕ). length x) b ∙ padded-length m e) h (packet-framed l k)

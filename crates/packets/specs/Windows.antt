@@ -17,6 +17,7 @@ use Rattle.steps.specs.Typed.{Sent}
 use Rattle.packets.specs.Changes.{collected}
 use Rattle.packets.specs.Moves.{pairAt, withPair, AtPair, gather-done}
 use Rattle.marks.specs.Fields.{Framed}
+use Rattle.model.specs.Layout.{mostData, pairSize, pairsAt, windowSize}
 
 -- the window that stands in s at an index, with the packet
 unfoldable pub takenBy : Packet → List ℕ → ℕ → List ℕ
@@ -24,13 +25,13 @@ takenBy p s at = windowOf (little 4 s at + 1) (addRssi (little 8 s (at + 4)) (p 
 
 -- the writes one after another: packets, sum, event type, data length, data, zeros
 pub window-written : (s l : List ℕ) (at n : ℕ) {count sum x y u : ℕ} {a b c d adv : List ℕ}
-    → at + 45 ≤ length s → Framed l → n ≡ getD l 8 0
+    → at + windowSize ≤ length s → Framed l → n ≡ getD l 8 0
     → count ≡ little 4 s at → sum ≡ little 8 s (at + 4)
     → x ≡ (count + 1) % 2 ^ 32 → u ≡ extended (getD l (9 + n) 0) → y ≡ (sum + u) % 2 ^ 64
     → a ≡ put s at (octetsOf 4 x) → b ≡ put a (at + 4) (octetsOf 8 y)
     → adv ≡ take (getD l 8 0) (drop 9 l)
     → c ≡ put (set (set b (at + 12) (getD l 0 0)) (at + 13) (getD l 8 0)) (at + 14) adv
-    → d ≡ put c (at + 14 + n) (replicate (31 - n) 0)
+    → d ≡ put c (at + 14 + n) (replicate (mostData - n) 0)
     → d ≡ put s at (takenBy (packetOf l) s at)
 unfolding takenBy packetOf addRssi
 window-written s l at n {count} {sum} {x} {y} {u} {a} {b} {c} {d} {adv} h f en ec es ex eu ey ea eb ed e1 e2 =
@@ -66,12 +67,12 @@ window-written s l at n {count} {sum} {x} {y} {u} {a} {b} {c} {d} {adv} h f en e
     (omega arith) e1 refl in
     let l5 : length (xs ++ ys ++ (getD l 0 0 ∷ []) ++ (getD l 8 0 ∷ []) ++ adv) ≡ 14 + length adv =
     length-append (xs ++ ys ++ (getD l 0 0 ∷ []) ++ (getD l 8 0 ∷ [])) adv ∙ omega arith in
-    let z : List ℕ = replicate (31 - length adv) 0 in
+    let z : List ℕ = replicate (mostData - length adv) 0 in
     let en2 : n ≡ length adv = en ∙ sym la in
     let w6 : d ≡ put s at (xs ++ ys ++ (getD l 0 0 ∷ []) ++ (getD l 8 0 ∷ []) ++ adv ++ z) =
     put-then s at (xs ++ ys ++ (getD l 0 0 ∷ []) ++ (getD l 8 0 ∷ []) ++ adv) (at + 14 + n) z (omega arith) w5
     (omega arith)
-    (e2 ∙ ap (λ (j : ℕ). put c (at + 14 + n) (replicate (31 - j) 0)) en2) refl in
+    (e2 ∙ ap (λ (j : ℕ). put c (at + 14 + n) (replicate (mostData - j) 0)) en2) refl in
     let g : xs ++ ys ++ (getD l 0 0 ∷ []) ++ (getD l 8 0 ∷ []) ++ adv ++ z
     ≡ xs ++ (ys ++ (getD l 0 0 ∷ getD l 8 0 ∷ (adv ++ z))) =
     simp append-assoc in
@@ -81,12 +82,12 @@ window-written s l at n {count} {sum} {x} {y} {u} {a} {b} {c} {d} {adv} h f en e
 -- pair i's window takes the packet
 pub gather-taken : (m : Model) (s : List ℕ) (i a : ℕ) (p : Packet) {t : List ℕ} → AtPair m s i → Sent p
     → pairAt m i .packets < 4294967295 → a / 2 % 2 ≡ 1
-    → t ≡ put s (1176 + 56 * i + 11) (takenBy p s (1176 + 56 * i + 11))
+    → t ≡ put s (pairsAt + pairSize * i + 11) (takenBy p s (pairsAt + pairSize * i + 11))
     → t ≡ padded (withPair m i (collected a p (pairAt m i)))
 unfolding takenBy
 gather-taken m s i a p w x r h e =
-    let z : 1176 + 56 * i + 11 + 4 ≡ 1176 + 56 * i + 15 = omega arith in
+    let z : pairsAt + pairSize * i + 11 + 4 ≡ pairsAt + pairSize * i + 15 = omega arith in
     gather-done m s i a p w x r h
-    (e ∙ ap (λ (k : ℕ). put s (1176 + 56 * i + 11) (windowOf (little 4 s (1176 + 56 * i + 11) + 1) (addRssi
+    (e ∙ ap (λ (k : ℕ). put s (pairsAt + pairSize * i + 11) (windowOf (little 4 s (pairsAt + pairSize * i + 11) + 1) (addRssi
     (little 8 s k) (p .rssi))
     (p .event) (p .adv))) z)

@@ -23,6 +23,7 @@ use Rattle.blocks.specs.Ends.{change-pair, add-pair}
 use Rattle.blocks.specs.Fields.{windowOf, length-window, put-silent, put-gathered, put-start}
 use Rattle.steps.specs.Typed.{Sent}
 use Rattle.packets.specs.Keys.{deviceNumber, device-octets, device-seven, little-pairs}
+use Rattle.model.specs.Layout.{blockSize, countAt, mostMonitors, mostPairs, pairSize, pairsAt, windowSize}
 
 -- a write inside a part is that part, with the write in it, written whole
 pub put-inside : {A : Type 0} (t : List A) (at n off : ℕ) (ys : List A) → at + n ≤ length t → off + length ys ≤ n
@@ -52,21 +53,21 @@ put-inside {A} t at n off ys h b =
     go (u ++ (v ++ w)) s refl ∙ sym back
 
 -- the row of pair i, as a part of the block
-pub part-row : (s : List ℕ) (i : ℕ) → take 56 (drop (1176 + 56 * i) s) ≡ row 56 i (drop 1176 s)
+pub part-row : (s : List ℕ) (i : ℕ) → take pairSize (drop (pairsAt + pairSize * i) s) ≡ row pairSize i (drop pairsAt s)
 unfolding row
-part-row s i = ap (λ (l : List ℕ). take 56 l) (sym (drop-drop (56 * i) 1176 s))
+part-row s i = ap (λ (l : List ℕ). take pairSize l) (sym (drop-drop (pairSize * i) pairsAt s))
 
 module _ (m : Model) (f : Measured m) where
   -- a write inside the row of pair i that makes it another pair's
-  pub put-row : (i : ℕ) (d q : Pair) → Fits q → i < length (m .pairs) → (off : ℕ) (ys : List ℕ) → off + length ys ≤ 56
-      → put (padTo 56 (pairRow (getD (m .pairs) i d))) off ys ≡ padTo 56 (pairRow q)
-      → put (padded m) (1176 + 56 * i + off) ys ≡ padded (withLists m (m .mons) (set (m .pairs) i q))
+  pub put-row : (i : ℕ) (d q : Pair) → Fits q → i < length (m .pairs) → (off : ℕ) (ys : List ℕ) → off + length ys ≤ pairSize
+      → put (padTo pairSize (pairRow (getD (m .pairs) i d))) off ys ≡ padTo pairSize (pairRow q)
+      → put (padded m) (pairsAt + pairSize * i + off) ys ≡ padded (withLists m (m .mons) (set (m .pairs) i q))
   put-row i d q g b off ys h e =
-      let n : length (padded m) ≡ 4761 = length-padded m f in
-      let k : length (m .pairs) ≤ 64 = f .pairs-most in
-      put-inside (padded m) (1176 + 56 * i) 56 off ys (omega arith) h
-      ∙ ap (λ (r : List ℕ). put (padded m) (1176 + 56 * i) (put r off ys)) (part-row (padded m) i ∙ row-pairs m f i d b)
-      ∙ ap (λ (r : List ℕ). put (padded m) (1176 + 56 * i) r) e
+      let n : length (padded m) ≡ blockSize = length-padded m f in
+      let k : length (m .pairs) ≤ mostPairs = f .pairs-most in
+      put-inside (padded m) (pairsAt + pairSize * i) pairSize off ys (omega arith) h
+      ∙ ap (λ (r : List ℕ). put (padded m) (pairsAt + pairSize * i) (put r off ys)) (part-row (padded m) i ∙ row-pairs m f i d b)
+      ∙ ap (λ (r : List ℕ). put (padded m) (pairsAt + pairSize * i) r) e
       ∙ change-pair m f i q g b
 
   -- a pair written over itself
@@ -109,7 +110,7 @@ fits-gathered p q t f h =
       adv-octets = t .adv-octets;
     }
 
-pub fits-start : (h : ℕ) (p : Packet) → h < 16 → Sent p → Fits (startPair h p)
+pub fits-start : (h : ℕ) (p : Packet) → h < mostMonitors → Sent p → Fits (startPair h p)
 unfolding startPair
 fits-start h p b t =
     record {
@@ -129,44 +130,44 @@ fits-start h p b t =
 -- the writes of one row: the ticks since a good packet, the window from the packets on
 module _ (m : Model) (f : Measured m) (i : ℕ) (d : Pair) (b : i < length (m .pairs)) (g : Fits (getD
     (m .pairs) i d)) where
-  pub row-silent : put (padded m) (1176 + 56 * i + 8) (octetsOf 2 0)
+  pub row-silent : put (padded m) (pairsAt + pairSize * i + 8) (octetsOf 2 0)
       ≡ padded (withLists m (m .mons) (set (m .pairs) i (withSilent (getD (m .pairs) i d) 0)))
   row-silent =
       put-row m f i d (withSilent (getD (m .pairs) i d) 0) (fits-silent (getD (m .pairs) i d) g) b 8 (octetsOf 2 0)
       (rw (length-octets 2 0) (omega arith))
       (put-silent (getD (m .pairs) i d) (g .address-length) 0)
 
-  pub read-packets : little 4 (padded m) (1176 + 56 * i + 11) ≡ getD (m .pairs) i d .packets
+  pub read-packets : little 4 (padded m) (pairsAt + pairSize * i + 11) ≡ getD (m .pairs) i d .packets
   unfolding pairIn
   read-packets =
       little-pairs m f i 4 11 d b (omega arith) ∙ ap (λ (q : Pair). q .packets) (pairIn-place (getD (m .pairs) i d) g)
 
-  pub read-sum : little 8 (padded m) (1176 + 56 * i + 15) ≡ getD (m .pairs) i d .sum
+  pub read-sum : little 8 (padded m) (pairsAt + pairSize * i + 15) ≡ getD (m .pairs) i d .sum
   unfolding pairIn
   read-sum =
       little-pairs m f i 8 15 d b (omega arith) ∙ ap (λ (q : Pair). q .sum) (pairIn-place (getD (m .pairs) i d) g)
 
   pub row-gathered : (p : Packet) → Sent p → getD (m .pairs) i d .packets < 4294967295
-      → put (padded m) (1176 + 56 * i + 11)
-      (windowOf (little 4 (padded m) (1176 + 56 * i + 11) + 1) (addRssi (little 8 (padded m) (1176 + 56 * i + 15))
+      → put (padded m) (pairsAt + pairSize * i + 11)
+      (windowOf (little 4 (padded m) (pairsAt + pairSize * i + 11) + 1) (addRssi (little 8 (padded m) (pairsAt + pairSize * i + 15))
       (p .rssi))
       (p .event) (p .adv))
       ≡ padded (withLists m (m .mons) (set (m .pairs) i (gathered p (getD (m .pairs) i d))))
   row-gathered p t h =
       let q : Pair = getD (m .pairs) i d in
       let w : List ℕ = windowOf (q .packets + 1) (addRssi (q .sum) (p .rssi)) (p .event) (p .adv) in
-      let n : length w ≡ 45 = length-window (q .packets + 1) (addRssi (q .sum) (p .rssi)) (p .event) (p .adv)
+      let n : length w ≡ windowSize = length-window (q .packets + 1) (addRssi (q .sum) (p .rssi)) (p .event) (p .adv)
       (t .adv-short) in
-      ap (λ (k : ℕ). put (padded m) (1176 + 56 * i + 11) (windowOf (k + 1)
-      (addRssi (little 8 (padded m) (1176 + 56 * i + 15)) (p .rssi)) (p .event) (p .adv))) read-packets
-      ∙ ap (λ (k : ℕ). put (padded m) (1176 + 56 * i + 11) (windowOf (q .packets + 1) (addRssi k (p .rssi))
+      ap (λ (k : ℕ). put (padded m) (pairsAt + pairSize * i + 11) (windowOf (k + 1)
+      (addRssi (little 8 (padded m) (pairsAt + pairSize * i + 15)) (p .rssi)) (p .event) (p .adv))) read-packets
+      ∙ ap (λ (k : ℕ). put (padded m) (pairsAt + pairSize * i + 11) (windowOf (q .packets + 1) (addRssi k (p .rssi))
       (p .event) (p .adv)))
       read-sum
       ∙ put-row m f i d (gathered p q) (fits-gathered p q t g h) b 11 w (omega arith)
       (put-gathered q (g .address-length) p (g .adv-most) (t .adv-short))
 
 -- a start: its key written over the empty row behind the pairs, and the number of pairs
-pub key-octets : (h : ℕ) (p : Packet) → h < 16 → Sent p → octetsOf 8 (h + 256 * deviceNumber p)
+pub key-octets : (h : ℕ) (p : Packet) → h < mostMonitors → Sent p → octetsOf 8 (h + 256 * deviceNumber p)
     ≡ h ∷ p .kind ∷ p .address
 unfolding deviceNumber deviceOf device octetsOf
 key-octets h p b t =
@@ -178,21 +179,21 @@ key-octets h p b t =
     ∙ octets-value (p .kind ∷ p .address) (device-octets p t) in
     rw (m, d) (ap (λ (l : List ℕ). h ∷ l) o)
 
-pub row-start : (m : Model) → Measured m → (h : ℕ) (p : Packet) → h < 16 → Sent p → length (m .pairs) < 64
-    → put (put (padded m) (1176 + 56 * length (m .pairs)) (octetsOf 8 (h + 256 * deviceNumber p))) 4760
+pub row-start : (m : Model) → Measured m → (h : ℕ) (p : Packet) → h < mostMonitors → Sent p → length (m .pairs) < mostPairs
+    → put (put (padded m) (pairsAt + pairSize * length (m .pairs)) (octetsOf 8 (h + 256 * deviceNumber p))) countAt
     ((length (m .pairs) + 1) ∷ [])
     ≡ padded (withLists m (m .mons) (m .pairs ++ (startPair h p ∷ [])))
 row-start m f h p b t k =
     let c : ℕ = length (m .pairs) in
-    let n : length (padded m) ≡ 4761 = length-padded m f in
-    let z : 1176 + 56 * c ≡ 1176 + 56 * c + 0 = omega arith in
+    let n : length (padded m) ≡ blockSize = length-padded m f in
+    let z : pairsAt + pairSize * c ≡ pairsAt + pairSize * c + 0 = omega arith in
     let ks : List ℕ = h ∷ p .kind ∷ p .address in
-    let e : put (padded m) (1176 + 56 * c) (octetsOf 8 (h + 256 * deviceNumber p))
-    ≡ put (padded m) (1176 + 56 * c) (padTo 56 (pairRow (startPair h p))) =
-    ap (λ (l : List ℕ). put (padded m) (1176 + 56 * c) l) (key-octets h p b t)
+    let e : put (padded m) (pairsAt + pairSize * c) (octetsOf 8 (h + 256 * deviceNumber p))
+    ≡ put (padded m) (pairsAt + pairSize * c) (padTo pairSize (pairRow (startPair h p))) =
+    ap (λ (l : List ℕ). put (padded m) (pairsAt + pairSize * c) l) (key-octets h p b t)
     ∙ ap (λ (j : ℕ). put (padded m) j ks) z
-    ∙ put-inside (padded m) (1176 + 56 * c) 56 0 ks (omega arith) (omega (arith, t .address-six))
-    ∙ ap (λ (r : List ℕ). put (padded m) (1176 + 56 * c) (put r 0 ks))
+    ∙ put-inside (padded m) (pairsAt + pairSize * c) pairSize 0 ks (omega arith) (omega (arith, t .address-six))
+    ∙ ap (λ (r : List ℕ). put (padded m) (pairsAt + pairSize * c) (put r 0 ks))
     (part-row (padded m) c ∙ row-pairs-zero m f c (omega arith) k)
-    ∙ ap (λ (r : List ℕ). put (padded m) (1176 + 56 * c) r) (put-start h p (t .address-six)) in
-    ap (λ (s : List ℕ). put s 4760 ((c + 1) ∷ [])) e ∙ add-pair m f (startPair h p) (fits-start h p b t) k
+    ∙ ap (λ (r : List ℕ). put (padded m) (pairsAt + pairSize * c) r) (put-start h p (t .address-six)) in
+    ap (λ (s : List ℕ). put s countAt ((c + 1) ∷ [])) e ∙ add-pair m f (startPair h p) (fits-start h p b t) k

@@ -1,6 +1,7 @@
 // A packet: what it does to the pairs held, the watches that it starts, and what it writes (document 01, Watching, by history). The
 // crate marks asks the monitors, and keeps what each says of the packet as one octet a handle. Then the rows of the pairs held are
 // changed in place, the starts appended behind them, and the answer written.
+use state::State;
 ghost use Prim.Native.Nat.{ℕ, _+_, _*_, _/_, _≤_, _<_};
 ghost use mathlib.Core.Path.{_≡_};
 ghost use mathlib.Core.Bool.{Bool, true, false, _&&_};
@@ -30,6 +31,8 @@ ghost use Rattle.packets.specs.Starts.{Holding, Sought, Turned, after};
 ghost use Rattle.packets.specs.Whole.{Begun, afterMoves, afterStarts, lengthsFit};
 ghost use Rattle.packets.specs.Reports.{anyFrom, wantsAt};
 ghost use Rattle.packets.specs.Answers.{Wrote};
+ghost use Rattle.model.specs.Layout.{eventMost, packetMost, reportMost, startsMost};
+ghost use Rattle.model.specs.Layout.{blockSize, countAt, mostMonitors, mostPairs, pairSize, pairsAt, positionAt, windowSize};
 
 // An RSSI octet as a number of 8 octets in two's complement.
 fn extend(o: u8) -> u64
@@ -44,10 +47,10 @@ fn extend(o: u8) -> u64
 
 // A window that begins at an index takes the packet: one packet more, its RSSI in the sum, its event type and data.
 fn gather_at(s: &mut [u8], at: usize, payload: &[u8])
-    requires { ⌜ (at + 45 ≤ length (now s)) × Framed (now payload) ⌝ }
+    requires { ⌜ (at + windowSize ≤ length (now s)) × Framed (now payload) ⌝ }
     ensures { λ _. ⌜ now (s .exit) ≡ put (now (s .entry)) at (takenBy (packetOf (now (payload .entry))) (now (s .entry)) at) ⌝ }
 {
-    let n = marks::index(payload[8]);
+    let n = octets::wide(payload[8]);
     let end = 9 + n;
     let count = octets::get32(s, at);
     let sum = octets::get64(s, at + 4);
@@ -60,31 +63,31 @@ fn gather_at(s: &mut [u8], at: usize, payload: &[u8])
     s[at + 12] = payload[0];
     s[at + 13] = payload[8];
     parts::copy(s, at + 14, &payload[9..end]);
-    parts::fill(s, at + 14 + n, 31 - n, 0);
+    parts::fill(s, at + 14 + n, State::DATA - n, 0);
 }
 
 // The count of ticks of pair i starts anew, where its handle's octet says so.
 fn refresh(s: &mut [u8], i: usize, a: u8)
-    requires { ⌜ (length (now s) ≡ 4761) × (i < 64) ⌝ }
+    requires { ⌜ (length (now s) ≡ blockSize) × (i < mostPairs) ⌝ }
     ensures { λ _. ⌜ ((m : Model) → AtPair m (now (s .entry)) i → now (s .exit) ≡ padded (withPair m i (freshened a (pairAt m i)))) ⌝ }
 {
     if a % 2 == 1 {
-        octets::put16(s, 1176 + 56 * i + 8, 0);
+        octets::put16(s, State::PAIRS_AT + State::PAIR_ROW * i + State::SILENT_AT, 0);
     }
 }
 
 // The window of pair i takes the packet, where its handle's octet says so.
 fn gather(s: &mut [u8], i: usize, a: u8, payload: &[u8])
-    requires { ⌜ (length (now s) ≡ 4761) × (i < 64) × Framed (now payload) ⌝ }
+    requires { ⌜ (length (now s) ≡ blockSize) × (i < mostPairs) × Framed (now payload) ⌝ }
     ensures { λ _. ⌜ ((m : Model) → AtPair m (now (s .entry)) i → Sent (packetOf (now (payload .entry))) → pairAt m i .packets < 4294967295 → now (s .exit) ≡ padded (withPair m i (collected a (packetOf (now (payload .entry))) (pairAt m i)))) ⌝ }
 {
     if a / 2 % 2 == 1 {
-        gather_at(s, 1176 + 56 * i + 11, payload);
+        gather_at(s, State::PAIRS_AT + State::PAIR_ROW * i + State::PACKETS_AT, payload);
     }
 }
 
 fn change_row(s: &mut [u8], i: usize, a: u8, payload: &[u8])
-    requires { ⌜ (length (now s) ≡ 4761) × (i < 64) × Framed (now payload) ⌝ }
+    requires { ⌜ (length (now s) ≡ blockSize) × (i < mostPairs) × Framed (now payload) ⌝ }
     ensures { λ _. ⌜ ((m : Model) → AtPair m (now (s .entry)) i → Sent (packetOf (now (payload .entry))) → pairAt m i .packets < 4294967295 → now (s .exit) ≡ padded (withPair m i (changed a (packetOf (now (payload .entry))) (pairAt m i)))) ⌝ }
 {
     refresh(s, i, a);
@@ -93,22 +96,22 @@ fn change_row(s: &mut [u8], i: usize, a: u8, payload: &[u8])
 
 // Pair i over the packet: changed where it is a pair of the packet's device. A row opens with its key, the handle and the device.
 fn move_row(s: &mut [u8], i: usize, acts: &[u8], payload: &[u8], dev: u64)
-    requires { ⌜ (length (now s) ≡ 4761) × (i < 64) × (length (now acts) ≡ 16) × Framed (now payload) ⌝ }
+    requires { ⌜ (length (now s) ≡ blockSize) × (i < mostPairs) × (length (now acts) ≡ mostMonitors) × Framed (now payload) ⌝ }
     ensures { λ _. ⌜ ((m : Model) → AtPair m (now (s .entry)) i → Given (m .mons) (packetOf (now (payload .entry))) (now (acts .entry)) dev → pairAt m i .packets < 4294967295 → now (s .exit) ≡ padded (withPair m i (packetMove (m .mons) (packetOf (now (payload .entry))) (pairAt m i)))) ⌝ }
 {
-    let key = octets::get64(s, 1176 + 56 * i);
+    let key = octets::get64(s, State::PAIRS_AT + State::PAIR_ROW * i);
     if key / 256 != dev {
         return;
     }
     let h = (key % 256) as usize;
-    if h < 16 {
+    if h < State::MONITORS {
         change_row(s, i, acts[h], payload);
     }
 }
 
 // The n pairs held over the packet.
 fn move_rows(s: &mut [u8], n: usize, acts: &[u8], payload: &[u8], dev: u64)
-    requires { ⌜ (length (now s) ≡ 4761) × (n ≤ 64) × (length (now acts) ≡ 16) × Framed (now payload) ⌝ }
+    requires { ⌜ (length (now s) ≡ blockSize) × (n ≤ mostPairs) × (length (now acts) ≡ mostMonitors) × Framed (now payload) ⌝ }
     ensures { λ _. ⌜ ((m : Model) → Begun m (now (s .entry)) (now (payload .entry)) (now (acts .entry)) dev n → now (s .exit) ≡ padded (afterMoves m (packetOf (now (payload .entry))))) ⌝ }
 {
     let mut i = 0;
@@ -120,12 +123,12 @@ fn move_rows(s: &mut [u8], n: usize, acts: &[u8], payload: &[u8], dev: u64)
 
 // Whether a pair with that key is among the n pairs held.
 fn is_held(s: &[u8], n: usize, key: u64) -> bool
-    requires { ⌜ (length (now s) ≡ 4761) × (n ≤ 64) ⌝ }
+    requires { ⌜ (length (now s) ≡ blockSize) × (n ≤ mostPairs) ⌝ }
     ensures { λ r. ⌜ ((m : Model) (p : Packet) (h : ℕ) → Holding m (now (s .entry)) n → Sought p h key → r ≡ holds (m .pairs) h (deviceOf p)) ⌝ }
 {
     let mut i = 0;
     while i < n {
-        if octets::get64(s, 1176 + 56 * i) == key {
+        if octets::get64(s, State::PAIRS_AT + State::PAIR_ROW * i) == key {
             return true;
         }
         i += 1;
@@ -135,22 +138,22 @@ fn is_held(s: &[u8], n: usize, key: u64) -> bool
 
 // A pair at its start behind the n pairs held: its key over an empty row, and the number of pairs.
 fn push_row(s: &mut [u8], n: usize, key: u64)
-    requires { ⌜ (length (now s) ≡ 4761) × (n < 64) ⌝ }
-    ensures { λ _. ⌜ now (s .exit) ≡ put (put (now (s .entry)) (1176 + 56 * n) (octetsOf 8 key)) 4760 ((n + 1) ∷ []) ⌝ }
+    requires { ⌜ (length (now s) ≡ blockSize) × (n < mostPairs) ⌝ }
+    ensures { λ _. ⌜ now (s .exit) ≡ put (put (now (s .entry)) (pairsAt + pairSize * n) (octetsOf 8 key)) countAt ((n + 1) ∷ []) ⌝ }
 {
-    octets::put64(s, 1176 + 56 * n, key);
-    s[4760] = (n + 1) as u8;
+    octets::put64(s, State::PAIRS_AT + State::PAIR_ROW * n, key);
+    s[State::COUNT_AT] = (n + 1) as u8;
 }
 
 // One handle's turn: a start takes its room at once. Answers the number of pairs held.
 fn start_at(s: &mut [u8], n: usize, h: usize, a: u8, dev: u64) -> usize
-    requires { ⌜ (length (now s) ≡ 4761) × (n ≤ 64) × (h < 16) × (dev < 72057594037927936) ⌝ }
-    ensures { λ r. ⌜ (n ≤ r) × (r ≤ 64) × ((m : Model) (p : Packet) → Holding m (now (s .entry)) n → Sent p → dev ≡ deviceNumber p → Turned m (after a h p (m .pairs)) (now (s .exit)) r) ⌝ }
+    requires { ⌜ (length (now s) ≡ blockSize) × (n ≤ mostPairs) × (h < mostMonitors) × (dev < 72057594037927936) ⌝ }
+    ensures { λ r. ⌜ (n ≤ r) × (r ≤ mostPairs) × ((m : Model) (p : Packet) → Holding m (now (s .entry)) n → Sent p → dev ≡ deviceNumber p → Turned m (after a h p (m .pairs)) (now (s .exit)) r) ⌝ }
 {
     if a / 4 % 2 != 1 {
         return n;
     }
-    if n >= 64 {
+    if n >= State::PAIRS {
         return n;
     }
     let key = h as u64 + 256 * dev;
@@ -163,12 +166,12 @@ fn start_at(s: &mut [u8], n: usize, h: usize, a: u8, dev: u64) -> usize
 
 // The turns of the handles 0 to 15.
 fn start_all(s: &mut [u8], n: usize, acts: &[u8], dev: u64) -> usize
-    requires { ⌜ (length (now s) ≡ 4761) × (n ≤ 64) × (length (now acts) ≡ 16) × (dev < 72057594037927936) ⌝ }
-    ensures { λ r. ⌜ (n ≤ r) × (r ≤ 64) × ((m : Model) (p : Packet) → Holding m (now (s .entry)) n → Given (m .mons) p (now (acts .entry)) dev → Turned m (turns (m .mons) p 16 (m .pairs)) (now (s .exit)) r) ⌝ }
+    requires { ⌜ (length (now s) ≡ blockSize) × (n ≤ mostPairs) × (length (now acts) ≡ mostMonitors) × (dev < 72057594037927936) ⌝ }
+    ensures { λ r. ⌜ (n ≤ r) × (r ≤ mostPairs) × ((m : Model) (p : Packet) → Holding m (now (s .entry)) n → Given (m .mons) p (now (acts .entry)) dev → Turned m (turns (m .mons) p mostMonitors (m .pairs)) (now (s .exit)) r) ⌝ }
 {
     let mut k = n;
     let mut h = 0;
-    while h < 16 {
+    while h < State::MONITORS {
         k = start_at(s, k, h, acts[h], dev);
         h += 1;
     }
@@ -177,7 +180,7 @@ fn start_all(s: &mut [u8], n: usize, acts: &[u8], dev: u64) -> usize
 
 // Whether the monitor of a handle has the packet reported at once: sampling 0 and the pair under watch.
 fn is_wanted_at(s: &[u8], n: usize, h: usize, a: u8, dev: u64) -> bool
-    requires { ⌜ (length (now s) ≡ 4761) × (n ≤ 64) × (h < 16) × (dev < 72057594037927936) ⌝ }
+    requires { ⌜ (length (now s) ≡ blockSize) × (n ≤ mostPairs) × (h < mostMonitors) × (dev < 72057594037927936) ⌝ }
     ensures { λ r. ⌜ ((m : Model) (p : Packet) → Holding m (now (s .entry)) n → Sent p → dev ≡ deviceNumber p → r ≡ (tells a && holds (m .pairs) h (deviceOf p))) ⌝ }
 {
     if a / 8 % 2 != 1 {
@@ -187,11 +190,11 @@ fn is_wanted_at(s: &[u8], n: usize, h: usize, a: u8, dev: u64) -> bool
 }
 
 fn is_wanted(s: &[u8], n: usize, acts: &[u8], dev: u64) -> bool
-    requires { ⌜ (length (now s) ≡ 4761) × (n ≤ 64) × (length (now acts) ≡ 16) × (dev < 72057594037927936) ⌝ }
-    ensures { λ r. ⌜ ((m : Model) (p : Packet) → Holding m (now (s .entry)) n → Sent p → dev ≡ deviceNumber p → r ≡ anyFrom (wantsAt (now (acts .entry)) (m .pairs) p) 0 16) ⌝ }
+    requires { ⌜ (length (now s) ≡ blockSize) × (n ≤ mostPairs) × (length (now acts) ≡ mostMonitors) × (dev < 72057594037927936) ⌝ }
+    ensures { λ r. ⌜ ((m : Model) (p : Packet) → Holding m (now (s .entry)) n → Sent p → dev ≡ deviceNumber p → r ≡ anyFrom (wantsAt (now (acts .entry)) (m .pairs) p) 0 mostMonitors) ⌝ }
 {
     let mut h = 0;
-    while h < 16 {
+    while h < State::MONITORS {
         if is_wanted_at(s, n, h, acts[h], dev) {
             return true;
         }
@@ -202,10 +205,10 @@ fn is_wanted(s: &[u8], n: usize, acts: &[u8], dev: u64) -> bool
 
 // Whether the packet is reported: n pairs were held before it, and k are now.
 fn is_told(s: &[u8], n: usize, k: usize, acts: &[u8], dev: u64) -> bool
-    requires { ⌜ (length (now s) ≡ 4761) × (k ≤ 64) × (length (now acts) ≡ 16) × (dev < 72057594037927936) ⌝ }
+    requires { ⌜ (length (now s) ≡ blockSize) × (k ≤ mostPairs) × (length (now acts) ≡ mostMonitors) × (dev < 72057594037927936) ⌝ }
     ensures { λ r. ⌜ ((m : Model) (e l : List ℕ) → Begun m e l (now (acts .entry)) dev n → Holding (afterStarts m (packetOf l)) (now (s .entry)) k → r ≡ reported m (packetOf l)) ⌝ }
 {
-    if s[4] == 0 {
+    if s[State::FILTER_AT] == 0 {
         return true;
     }
     if n < k {
@@ -216,19 +219,19 @@ fn is_told(s: &[u8], n: usize, k: usize, acts: &[u8], dev: u64) -> bool
 
 // The start event of pair i, written into out at an index. Answers how many octets that is.
 fn put_start(s: &[u8], i: usize, out: &mut [u8], at: usize) -> usize
-    requires { ⌜ (length (now s) ≡ 4761) × (i < 64) ⌝ }
-    ensures { λ r. ⌜ (r ≤ 44) × ((m : Model) → AtPair m (now (s .entry)) i → at + 44 ≤ length (now (out .entry)) → Wrote (now (out .entry)) at (startEvent (m .prefix) (pairAt m i)) (now (out .exit)) r) ⌝ }
+    requires { ⌜ (length (now s) ≡ blockSize) × (i < mostPairs) ⌝ }
+    ensures { λ r. ⌜ (r ≤ eventMost) × ((m : Model) → AtPair m (now (s .entry)) i → at + eventMost ≤ length (now (out .entry)) → Wrote (now (out .entry)) at (startEvent (m .prefix) (pairAt m i)) (now (out .exit)) r) ⌝ }
 {
-    let end = 8 + marks::clamp(s[7], 32);
-    let from = 1176 + 56 * i;
-    let to = from + 8;
-    events::put_event(out, at, &s[8..end], &s[from..to], 1)
+    let end = State::PREFIX_AT + octets::at_most(s[State::PREFIX_LENGTH_AT], State::PREFIX);
+    let from = State::PAIRS_AT + State::PAIR_ROW * i;
+    let to = from + State::KEY;
+    events::put_event(out, at, &s[State::PREFIX_AT..end], &s[from..to], 1)
 }
 
 // The start events of the pairs from an index on.
 fn put_starts(s: &[u8], from: usize, count: usize, out: &mut [u8]) -> usize
-    requires { ⌜ (length (now s) ≡ 4761) × (from + count ≤ 64) × (2880 ≤ length (now out)) ⌝ }
-    ensures { λ r. ⌜ (r ≤ 2816) × ((m : Model) → Holding m (now (s .entry)) (from + count) → Wrote (now (out .entry)) 0 (each (startEvent (m .prefix)) (drop from (m .pairs))) (now (out .exit)) r) ⌝ }
+    requires { ⌜ (length (now s) ≡ blockSize) × (from + count ≤ mostPairs) × (answerRoom ≤ length (now out)) ⌝ }
+    ensures { λ r. ⌜ (r ≤ startsMost) × ((m : Model) → Holding m (now (s .entry)) (from + count) → Wrote (now (out .entry)) 0 (each (startEvent (m .prefix)) (drop from (m .pairs))) (now (out .exit)) r) ⌝ }
 {
     let mut w = 0;
     let mut j = 0;
@@ -242,11 +245,11 @@ fn put_starts(s: &[u8], from: usize, count: usize, out: &mut [u8]) -> usize
 
 // The packet's report, where it is told.
 fn put_told(out: &mut [u8], at: usize, told: bool, payload: &[u8]) -> usize
-    requires { ⌜ (at + 45 ≤ length (now out)) × Framed (now payload) ⌝ }
-    ensures { λ r. ⌜ (r ≤ 45) × Wrote (now (out .entry)) at (when told (packetReport (packetOf (now (payload .entry))))) (now (out .exit)) r ⌝ }
+    requires { ⌜ (at + reportMost ≤ length (now out)) × Framed (now payload) ⌝ }
+    ensures { λ r. ⌜ (r ≤ reportMost) × Wrote (now (out .entry)) at (when told (packetReport (packetOf (now (payload .entry))))) (now (out .exit)) r ⌝ }
 {
     if told {
-        let end = 9 + marks::index(payload[8]);
+        let end = 9 + octets::wide(payload[8]);
         return events::put_report(
             out,
             at,
@@ -259,41 +262,32 @@ fn put_told(out: &mut [u8], at: usize, told: bool, payload: &[u8]) -> usize
     0
 }
 
-// The position moves.
-fn advance(s: &mut [u8])
-    requires { ⌜ length (now s) ≡ 4761 ⌝ }
-    ensures { λ _. ⌜ now (s .exit) ≡ put (now (s .entry)) 0 (octetsOf 4 (little 4 (now (s .entry)) 0 + 1)) ⌝ }
-{
-    let position = octets::get32(s, 0);
-    octets::put32(s, 0, std::num::wrapping_add_u32(position, 1));
-}
-
 fn fits(s: &[u8], payload: &[u8], out: &[u8]) -> bool
     ensures { λ r. ⌜ r ≡ lengthsFit (now (s .entry)) (now (payload .entry)) (now (out .entry)) ⌝ }
 {
-    if s.len() != 4761 {
+    if s.len() != State::SIZE {
         return false;
     }
-    if out.len() < 2880 {
+    if out.len() < State::ANSWER {
         return false;
     }
     marks::is_framed(payload)
 }
 
 fn step(s: &mut [u8], payload: &[u8], out: &mut [u8]) -> usize
-    requires { ⌜ (length (now s) ≡ 4761) × (2880 ≤ length (now out)) × Framed (now payload) ⌝ }
-    ensures { λ r. ⌜ (r ≤ 2861) × ((m : Model) → soundModel m ≡ true → now (s .entry) ≡ padded m → m .position < 4294967295 → isPacket (now (payload .entry)) ≡ true → Stepped m (packetFrame (packetOf (now (payload .entry)))) (now (s .exit)) (now (out .entry)) (now (out .exit)) r) ⌝ }
+    requires { ⌜ (length (now s) ≡ blockSize) × (answerRoom ≤ length (now out)) × Framed (now payload) ⌝ }
+    ensures { λ r. ⌜ (r ≤ packetMost) × ((m : Model) → soundModel m ≡ true → now (s .entry) ≡ padded m → m .position < 4294967295 → isPacket (now (payload .entry)) ≡ true → Stepped m (packetFrame (packetOf (now (payload .entry)))) (now (s .exit)) (now (out .entry)) (now (out .exit)) r) ⌝ }
 {
-    let mut acts = [0u8; 16];
+    let mut acts = [0u8; State::MONITORS];
     marks::mark_all(&mut acts, s, payload);
     let dev = octets::get64(payload, 0) / 256;
-    let n = marks::clamp(s[4760], 64);
+    let n = octets::at_most(s[State::COUNT_AT], State::PAIRS);
     move_rows(s, n, &acts, payload, dev);
     let k = start_all(s, n, &acts, dev);
     let told = is_told(s, n, k, &acts, dev);
     let w = put_starts(s, n, k - n, out);
     let r = put_told(out, w, told, payload);
-    advance(s);
+    state::advance(s);
     w + r
 }
 

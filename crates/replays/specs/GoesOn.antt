@@ -1,5 +1,5 @@
--- A replay that was stopped for want of room (refusal 3) goes on: the caller empties the output and replays what was not read, from the state
--- reached; the two together are the replay of the whole. Document 01, Refusal numbers. Assumes nothing.
+-- A replay that ended before the text did, for want of room (refusal 3) or at the frame that it was held to, goes on: the caller replays what
+-- was not read, from the state reached; the two together are the replay of the whole. Document 01, Refusal numbers. Assumes nothing.
 use Prim.Native.Nat.{ℕ, zero, suc, _+_, _-_, _≤_, _<_}
 use mathlib.Core.Path.{_≡_, refl, sym, ap, ap₂, _∙_, subst, fun-ext}
 use mathlib.Core.Bool.{Bool, true, false, cond}
@@ -18,8 +18,8 @@ use Rattle.sessions.specs.Session.{answer}
 use Rattle.sessions.specs.Saved.{Replayed, withAnswer, resume, replayLines, replay, cut, cutFrom, Enough}
 use Rattle.sessions.specs.Cuts.{AllLines, cut-torn}
 use Rattle.sessions.specs.Refusals.{answer-unsound, answer-judge}
-use Rattle.replays.specs.Into.{Reached, begun, reach, lineFrom, linesFrom, replayInto}
-use Rattle.replays.specs.Pieces.{stopped, line-goes, rest, restFrom, rest-clear, flat-cut}
+use Rattle.replays.specs.Into.{Reached, begun, reach, lineFrom, linesWhile, replayWhile}
+use Rattle.replays.specs.Pieces.{stays, line-goes, rest, restFrom, rest-clear, flat-cut}
 use Rattle.replays.specs.Whole.{answer-room}
 
 -- the lines of a text end in their only LF
@@ -126,8 +126,8 @@ module _ (M : Machine) where
         ∙ ap (resume s o) (fun-ext (λ t. lent-free (λ i. lent (suc i)) lent t ls (λ i. big (suc i)) big))
 
     -- nothing read
-    none-left : (r : Reached (M .S)) (ls : List (List ℕ)) (k : ℕ)
-        → Left r ls (record { state = r .state; wrote = r .wrote; taken = r .taken; stop = some k })
+    none-left : (r : Reached (M .S)) (ls : List (List ℕ)) (k : Option ℕ)
+        → Left r ls (record { state = r .state; wrote = r .wrote; taken = r .taken; stop = k })
     unfolding flat
     none-left r ls k =
         record {
@@ -140,18 +140,19 @@ module _ (M : Machine) where
           wrote = λ lent big. refl;
         }
 
-    one-left : (l : List ℕ) (ls : List (List ℕ)) (r : Reached (M .S)) (o : Outcome (M .S))
-        → answer M (room - length (r .wrote)) (r .state) text l ≡ o → linesFrom M room (reach r (length l) o) ls .stop ≡ some 3
-        → ((y : Reached (M .S)) → y .stop ≡ none → linesFrom M room y ls .stop ≡ some 3 → Left y ls (linesFrom M room y ls))
-        → Left r (l ∷ ls) (linesFrom M room (reach r (length l) o) ls)
+    -- a line and what follows it, where the position passes the test
+    one-left : (goes : ℕ → Bool) (l : List ℕ) (ls : List (List ℕ)) (r : Reached (M .S)) (o : Outcome (M .S))
+        → answer M (room - length (r .wrote)) (r .state) text l ≡ o
+        → ((y : Reached (M .S)) → y .stop ≡ none → Left y ls (linesWhile M goes room y ls))
+        → Left r (l ∷ ls) (linesWhile M goes room (reach r (length l) o) ls)
     unfolding reach resume withAnswer flat
-    one-left l ls r (done t a) p h ih =
+    one-left goes l ls r (done t a) p ih =
         let y : Reached (M .S) = record { state = t; wrote = r .wrote ++ a; taken = r .taken + length l; stop = none } in
-        line-left l ls r y (linesFrom M room y ls) a refl refl
+        line-left l ls r y (linesWhile M goes room y ls) a refl refl
         (λ lent big. let f = first l ls (r .state) (room - length (r .wrote)) (done t a) p (λ z. let c : _≡_ {A = ℕ} 0 1 = cc in absurd (omega arith)) lent big in
         (ap (λ (v : Replayed (M .S)). v .state) f, ap (λ (v : Replayed (M .S)). v .stop) f, ap (λ (v : Replayed (M .S)). flat (v .answers)) f))
-        (ih y refl h)
-    one-left l ls r (refused k) p h ih = go (eqb k 1) refl h
+        (ih y refl)
+    one-left goes l ls r (refused k) p ih = go (eqb k 1) refl
       where
         skipped : Reached (M .S)
         skipped = record { state = r .state; wrote = r .wrote; taken = r .taken + length l; stop = none }
@@ -168,50 +169,50 @@ module _ (M : Machine) where
             (λ z. let c : k ≡ 3 = cc in let d : k ≡ 1 = eqb-true k 1 e in absurd (omega arith)) lent big
             ∙ ap (λ (b : Bool). cond {A = Replayed (M .S)} b (replayLines M lent (r .state) ls) ended) e
 
-        go : (b : Bool) → eqb k 1 ≡ b → linesFrom M room (cond {A = Reached (M .S)} b skipped halt) ls .stop ≡ some 3
-            → Left r (l ∷ ls) (linesFrom M room (cond {A = Reached (M .S)} b skipped halt) ls)
-        go true e z =
-            line-left l ls r skipped (linesFrom M room skipped ls) [] refl (sym (append-nil (r .wrote)))
+        go : (b : Bool) → eqb k 1 ≡ b → Left r (l ∷ ls) (linesWhile M goes room (cond {A = Reached (M .S)} b skipped halt) ls)
+        go true e =
+            line-left l ls r skipped (linesWhile M goes room skipped ls) [] refl (sym (append-nil (r .wrote)))
             (λ lent big. let f = passed e lent big in
             (ap (λ (v : Replayed (M .S)). v .state) f, ap (λ (v : Replayed (M .S)). v .stop) f, ap (λ (v : Replayed (M .S)). flat (v .answers)) f))
-            (ih skipped refl z)
-        go false e z = subst (Left r (l ∷ ls)) (sym (stopped M room halt k ls refl)) (none-left r (l ∷ ls) k)
+            (ih skipped refl)
+        go false e = subst (Left r (l ∷ ls)) (sym (stays M room goes halt k ls refl)) (none-left r (l ∷ ls) (some k))
 
-    pub lines-left : (ls : List (List ℕ)) (r : Reached (M .S)) → r .stop ≡ none → linesFrom M room r ls .stop ≡ some 3
-        → Left r ls (linesFrom M room r ls)
-    unfolding linesFrom
-    lines-left [] r e h = absurd (none≢some (sym e ∙ h))
-    lines-left (l ∷ ls) r e h =
-        let o = answer M (room - length (r .wrote)) (r .state) text l in
-        let g : lineFrom M room (r .stop) r l ≡ reach r (length l) o = line-goes M room r l e in
-        subst (λ (x : Reached (M .S)). Left r (l ∷ ls) (linesFrom M room x ls)) (sym g)
-        (one-left l ls r o refl (sym (ap (λ (x : Reached (M .S)). linesFrom M room x ls .stop) g) ∙ h) (λ y q k. lines-left ls y q k))
+    -- What replay reached is behind the lines read; the rest is left. However it ended: no line was left, a line was refused, or the position
+    -- failed the test.
+    pub lines-left : (goes : ℕ → Bool) (ls : List (List ℕ)) (r : Reached (M .S)) → r .stop ≡ none → Left r ls (linesWhile M goes room r ls)
+    unfolding linesWhile
+    lines-left goes [] r e = none-left r [] (r .stop)
+    lines-left goes (l ∷ ls) r e =
+        go (goes (M .pos (r .state)))
+        (subst (λ (x : Reached (M .S)). Left r (l ∷ ls) (linesWhile M goes room x ls)) (sym (line-goes M room r l e))
+        (one-left goes l ls r (answer M (room - length (r .wrote)) (r .state) text l) refl (λ y q. lines-left goes ls y q)))
+      where
+        go : (b : Bool) → Left r (l ∷ ls) (linesWhile M goes room (lineFrom M room (r .stop) r l) ls)
+            → Left r (l ∷ ls) (elim b [ true ↦ linesWhile M goes room (lineFrom M room (r .stop) r l) ls | false ↦ r ])
+        go true on = on
+        go false on = none-left r (l ∷ ls) (r .stop)
 
-    -- A text whose replay was stopped for want of room: what was written, and the replay of what was not read from the state reached, are the
-    -- replay of the whole.
-    pub record GoesOn (s : M .S) (t : List ℕ) : Type 0 where
-      pub state :
-          (lent : ℕ → ℕ) → Enough lent
-          → replay M lent s t .state ≡ replay M lent (replayInto M room s t .state) (drop (replayInto M room s t .taken) t) .state
-      pub stop :
-          (lent : ℕ → ℕ) → Enough lent
-          → replay M lent s t .stop ≡ replay M lent (replayInto M room s t .state) (drop (replayInto M room s t .taken) t) .stop
+    -- A text of which a replay read a part and ended at x: what was written, and the replay of what was not read from the state reached, are
+    -- the replay of the whole.
+    pub record GoesOn (s : M .S) (t : List ℕ) (x : Reached (M .S)) : Type 0 where
+      pub state : (lent : ℕ → ℕ) → Enough lent → replay M lent s t .state ≡ replay M lent (x .state) (drop (x .taken) t) .state
+      pub stop : (lent : ℕ → ℕ) → Enough lent → replay M lent s t .stop ≡ replay M lent (x .state) (drop (x .taken) t) .stop
       pub wrote :
           (lent : ℕ → ℕ) → Enough lent
-          → flat (replay M lent s t .answers)
-          ≡ replayInto M room s t .wrote ++ flat (replay M lent (replayInto M room s t .state) (drop (replayInto M room s t .taken) t) .answers)
+          → flat (replay M lent s t .answers) ≡ x .wrote ++ flat (replay M lent (x .state) (drop (x .taken) t) .answers)
 
-    pub goes-on : (s : M .S) (t : List ℕ) → replayInto M room s t .stop ≡ some 3 → GoesOn s t
-    unfolding replayInto replay begun
-    goes-on s t h =
-        let w : Left (begun s) (cut t) (linesFrom M room (begun s) (cut t)) = lines-left (cut t) (begun s) refl h in
-        let n : linesFrom M room (begun s) (cut t) .taken ≡ length (flat (w .before)) = w .taken ∙ zero-add (length (flat (w .before))) in
-        let c : cut (drop (linesFrom M room (begun s) (cut t) .taken) t) ≡ w .left =
+    -- however it ended: no line was left, a line was refused, or the position failed the test
+    pub goes-on : (goes : ℕ → Bool) (s : M .S) (t : List ℕ) → GoesOn s t (replayWhile M goes room s t)
+    unfolding replay replayWhile begun
+    goes-on goes s t =
+        let x : Reached (M .S) = linesWhile M goes room (begun s) (cut t) in
+        let w : Left (begun s) (cut t) x = lines-left goes (cut t) (begun s) refl in
+        let n : x .taken ≡ length (flat (w .before)) = w .taken ∙ zero-add (length (flat (w .before))) in
+        let c : cut (drop (x .taken) t) ≡ w .left =
         ap (λ (k : ℕ). cut (drop k t)) n ∙ cut-behind t (w .before) (w .left) (w .split) in
-        let end : M .S = linesFrom M room (begun s) (cut t) .state in
         record {
-          state = λ lent big. w .state lent big ∙ ap (λ (ls : List (List ℕ)). replayLines M lent end ls .state) (sym c);
-          stop = λ lent big. w .stop lent big ∙ ap (λ (ls : List (List ℕ)). replayLines M lent end ls .stop) (sym c);
+          state = λ lent big. w .state lent big ∙ ap (λ (ls : List (List ℕ)). replayLines M lent (x .state) ls .state) (sym c);
+          stop = λ lent big. w .stop lent big ∙ ap (λ (ls : List (List ℕ)). replayLines M lent (x .state) ls .stop) (sym c);
           wrote = λ lent big. w .wrote lent big
-              ∙ ap (λ (ls : List (List ℕ)). linesFrom M room (begun s) (cut t) .wrote ++ flat (replayLines M lent end ls .answers)) (sym c);
+              ∙ ap (λ (ls : List (List ℕ)). x .wrote ++ flat (replayLines M lent (x .state) ls .answers)) (sym c);
         }

@@ -17,7 +17,7 @@ use Rattle.rule.specs.Base.{none≢some}
 use Rattle.sessions.specs.Machine.{Machine, Outcome, refused, done, LF, NoLF, text}
 use Rattle.sessions.specs.Session.{answer}
 use Rattle.sessions.specs.Saved.{cut, cutFrom}
-use Rattle.replays.specs.Into.{Reached, begun, reach, lineFrom, linesFrom, replayInto}
+use Rattle.replays.specs.Into.{Reached, begun, reach, lineFrom, linesWhile, linesFrom, replayWhile, replayInto}
 
 -- what stands after the last LF of a text, behind a piece before it
 unfoldable pub restFrom : List ℕ → List ℕ → List ℕ
@@ -112,15 +112,24 @@ reach-taken {S} r n (refused k) q = go (eqb k 1) q
 module _ (M : Machine) (room : ℕ) where
   pub lines-append : (r : Reached (M .S)) (ls ks : List (List ℕ))
       → linesFrom M room r (ls ++ ks) ≡ linesFrom M room (linesFrom M room r ls) ks
-  unfolding linesFrom
+  unfolding linesWhile
   lines-append r [] ks = refl
   lines-append r (l ∷ ls) ks = lines-append (lineFrom M room (r .stop) r l) ls ks
 
   -- what has stopped stays
+  pub stays : (goes : ℕ → Bool) (r : Reached (M .S)) (k : ℕ) (ls : List (List ℕ)) → r .stop ≡ some k → linesWhile M goes room r ls ≡ r
+  unfolding linesWhile lineFrom
+  stays goes r k [] e = refl
+  stays goes r k (l ∷ ls) e =
+      go (goes (M .pos (r .state))) (ap (λ (o : Option ℕ). linesWhile M goes room (lineFrom M room o r l) ls) e ∙ stays goes r k ls e)
+    where
+      go : (b : Bool) → linesWhile M goes room (lineFrom M room (r .stop) r l) ls ≡ r
+          → elim b [ true ↦ linesWhile M goes room (lineFrom M room (r .stop) r l) ls | false ↦ r ] ≡ r
+      go true h = h
+      go false h = refl
+
   pub stopped : (r : Reached (M .S)) (k : ℕ) (ls : List (List ℕ)) → r .stop ≡ some k → linesFrom M room r ls ≡ r
-  unfolding linesFrom lineFrom
-  stopped r k [] e = refl
-  stopped r k (l ∷ ls) e = ap (λ (o : Option ℕ). linesFrom M room (lineFrom M room o r l) ls) e ∙ stopped r k ls e
+  stopped = stays (λ p. true)
 
   -- a line of a replay that has not stopped
   pub line-goes : (r : Reached (M .S)) (l : List ℕ) → r .stop ≡ none
@@ -139,7 +148,7 @@ module _ (M : Machine) (room : ℕ) where
   -- lines that were not stopped at are read
   pub lines-taken : (r : Reached (M .S)) (ls : List (List ℕ)) → r .stop ≡ none → linesFrom M room r ls .stop ≡ none
       → linesFrom M room r ls .taken ≡ r .taken + length (flat ls)
-  unfolding linesFrom flat
+  unfolding linesWhile flat
   lines-taken r [] e h = sym (add-zero (r .taken))
   lines-taken r (l ∷ ls) e h =
       go (lineFrom M room (r .stop) r l .stop) refl (λ q. lines-taken (lineFrom M room (r .stop) r l) ls q h)
@@ -157,13 +166,13 @@ module _ (M : Machine) (room : ℕ) where
 
   -- Replaying a text in two pieces, cut anywhere: the second goes on where the first stood, behind what the first left unread.
   pub pieces : (s : M .S) (t u : List ℕ) → replayInto M room s (t ++ u) ≡ linesFrom M room (replayInto M room s t) (cut (rest t ++ u))
-  unfolding replayInto
+  unfolding replayWhile
   pieces s t u =
       ap (linesFrom M room (begun s)) (cut-append t u) ∙ lines-append (begun s) (cut t) (cut (rest t ++ u))
 
   -- what a piece that did not stop left unread is its last part without LF
   pub unread : (s : M .S) (t : List ℕ) → replayInto M room s t .stop ≡ none → drop (replayInto M room s t .taken) t ≡ rest t
-  unfolding replayInto begun
+  unfolding replayWhile begun
   unread s t h =
       let e : linesFrom M room (begun s) (cut t) .taken ≡ length (flat (cut t)) = lines-taken (begun s) (cut t) refl h ∙ zero-add (length (flat (cut t))) in
       ap (λ (n : ℕ). drop n t) e ∙ drop-lines t

@@ -16,7 +16,7 @@ use Rattle.sessions.specs.Machine.{Machine, Outcome, refused, done, text, Form,
 use Rattle.sessions.specs.Session.{answer}
 use Rattle.sessions.specs.Saved.{Replayed, withAnswer, resume, replayLines, replay, cut, Enough}
 use Rattle.sessions.specs.Refusals.{answer-unsound, answer-short, answer-judge}
-use Rattle.replays.specs.Into.{Reached, begun, reach, lineFrom, linesFrom, replayInto}
+use Rattle.replays.specs.Into.{Reached, begun, reach, lineFrom, linesWhile, linesFrom, replayWhile, replayInto}
 use Rattle.replays.specs.Pieces.{stopped, line-goes}
 
 -- An answer that is not refusal 3 is the answer with any room enough.
@@ -79,7 +79,7 @@ module _ (M : Machine) (room : ℕ) where
   pub lines-same : (ls : List (List ℕ)) (r : Reached (M .S)) (lent : ℕ → ℕ) → r .stop ≡ none
       → (linesFrom M room r ls .stop ≡ some 3 → ⊥) → Enough lent
       → Same (r .wrote) (linesFrom M room r ls) (replayLines M lent (r .state) ls)
-  unfolding linesFrom replayLines flat
+  unfolding linesWhile replayLines flat
   lines-same [] r lent e n big = record { state = refl; wrote = sym (append-nil (r .wrote)); stop = e }
   lines-same (l ∷ ls) r lent e n big =
       let o = answer M (room - length (r .wrote)) (r .state) text l in
@@ -102,5 +102,5 @@ module _ (M : Machine) (room : ℕ) where
   -- Replay of a text into one output that was not stopped for want of room is the replay of document 01.
   pub replay-whole : (s : M .S) (t : List ℕ) (lent : ℕ → ℕ) → (replayInto M room s t .stop ≡ some 3 → ⊥) → Enough lent
       → Same [] (replayInto M room s t) (replay M lent s t)
-  unfolding replayInto replay begun
+  unfolding replayWhile replay begun
   replay-whole s t lent n big = lines-same (cut t) (begun s) lent refl n big

@@ -18,6 +18,8 @@ use Rattle.images.specs.Exactly.{image-exactly}
 use Rattle.images.specs.Sizes.{image-most}
 use Rattle.save.specs.Text.{savedText}
 use Rattle.save.specs.Image.{saved-image}
+use Rattle.sessions.specs.Machine.{saveRoom}
+use Rattle.model.specs.Layout.{blockSize}
 
 -- what an image holds is sound, and the image is its text
 pub image-sound : (t : List ℕ) → isImage t ≡ true → soundModel (heldIn t) ≡ true
@@ -41,7 +43,7 @@ both-ways false true f g = g refl
 both-ways false false f g = refl
 
 -- "image 9,770": a longer text is none
-pub image-long : (t : List ℕ) → 9770 < length t → isImage t ≡ false
+pub image-long : (t : List ℕ) → saveRoom < length t → isImage t ≡ false
 image-long t h =
     not-so (isImage t) (λ i.
     let n : length t ≡ length (imageText (heldIn t)) = ap (λ (x : List ℕ). length x) (image-text t i) in
@@ -71,30 +73,30 @@ module _ (t s : List ℕ) (q : (m : Model) → soundModel m ≡ true → t ≡ i
 
 -- what restore answers: whether the block has its size and the text is an image
 unfoldable pub restores : List ℕ → ℕ → Bool
-restores t n = eqb n 4761 && isImage t
+restores t n = eqb n blockSize && isImage t
 
 -- what restore answers and leaves; where it answers false, what stands in the block is not said
 abbrev pub Restored : List ℕ → List ℕ → List ℕ → Bool → Type 0
 Restored t s after r = (r ≡ restores t (length s)) × (restores t (length s) ≡ true → after ≡ padded (heldIn t))
 
 module _ (t s : List ℕ) {after : List ℕ} where
-  pub restored-not-block : (length s ≡ 4761 → ⊥) → Restored t s after false
+  pub restored-not-block : (length s ≡ blockSize → ⊥) → Restored t s after false
   unfolding restores
   restored-not-block h =
-      let e : eqb (length s) 4761 ≡ false = ne-eqb (length s) 4761 h in
+      let e : eqb (length s) blockSize ≡ false = ne-eqb (length s) blockSize h in
       (rw e, λ i. absurd (false≢true (rw e at i)))
 
   pub restored-refused : isImage t ≡ false → Restored t s after false
   unfolding restores
   restored-refused h =
-      let e : (eqb (length s) 4761 && isImage t) ≡ false = and-not-right (eqb (length s) 4761) (isImage t) h in
+      let e : (eqb (length s) blockSize && isImage t) ≡ false = and-not-right (eqb (length s) blockSize) (isImage t) h in
       (sym e, λ i. absurd (false≢true (sym e ∙ i)))
 
-  pub restored-done : {r : Bool} → length s ≡ 4761
+  pub restored-done : {r : Bool} → length s ≡ blockSize
       → ((m : Model) → soundModel m ≡ true → t ≡ imageText m → after ≡ padded m) → sound after ≡ true
       → r ≡ sames (savedText after) t → Restored t s after r
   unfolding restores
   restored-done h q u e = (
-    e ∙ image-again t after q u ∙ rw (eq-eqb (length s) 4761 h),
-    λ i. image-block t after q (and-right (eqb (length s) 4761) (isImage t) i),
+    e ∙ image-again t after q u ∙ rw (eq-eqb (length s) blockSize h),
+    λ i. image-block t after q (and-right (eqb (length s) blockSize) (isImage t) i),
   )

@@ -8,6 +8,8 @@ use Rattle.laws.specs.Tests.{pick}
 use Rattle.laws.specs.Put.{put, putIf, take-put, length-put}
 use Rattle.save.specs.Text.{savedText, saves, length-savedText}
 use Rattle.save.specs.Steps.{saves-done}
+use Rattle.sessions.specs.Machine.{saveRoom}
+use Rattle.model.specs.Layout.{blockSize}
 
 -- what save wrote into enough room: the block's text, from the start
 pub record Written (s after : List ℕ) (n : ℕ) : Type 0 where
@@ -18,11 +20,11 @@ pub record Written (s after : List ℕ) (n : ℕ) : Type 0 where
 pub written : (s out : List ℕ) {after : List ℕ} {n : ℕ}
     → (n ≡ pick (saves s (length out)) (length (savedText s)) 0)
     × (after ≡ putIf (saves s (length out)) out 0 (savedText s))
-    → length s ≡ 4761 → 9770 ≤ length out → Written s after n
+    → length s ≡ blockSize → saveRoom ≤ length out → Written s after n
 unfolding pick putIf
 written s out {after} {n} p h k =
     let q : (n ≡ length (savedText s)) × (after ≡ put out 0 (savedText s)) = rw (saves-done s (length out) h k) at p in
-    let b : length (savedText s) ≤ 9770 = length-savedText s in
+    let b : length (savedText s) ≤ saveRoom = length-savedText s in
     let l : length (put out 0 (savedText s)) ≡ length out = length-put out 0 (savedText s) (omega arith) in
     record {
       count = q .0;
@@ -31,11 +33,11 @@ written s out {after} {n} p h k =
     }
 
 -- the same of 9,770 octets of 0
-pub written-zeros : (s : List ℕ) {after : List ℕ} {n : ℕ} → length s ≡ 4761
-    → (n ≡ pick (saves s (length {A = ℕ} (replicate 9770 0))) (length (savedText s)) 0)
-    × (after ≡ putIf (saves s (length {A = ℕ} (replicate 9770 0))) (replicate 9770 0) 0 (savedText s))
+pub written-zeros : (s : List ℕ) {after : List ℕ} {n : ℕ} → length s ≡ blockSize
+    → (n ≡ pick (saves s (length {A = ℕ} (replicate saveRoom 0))) (length (savedText s)) 0)
+    × (after ≡ putIf (saves s (length {A = ℕ} (replicate saveRoom 0))) (replicate saveRoom 0) 0 (savedText s))
     → Written s after n
 written-zeros s h p =
-    let z : List ℕ = replicate 9770 0 in
-    let e : length z ≡ 9770 = length-replicate {A = ℕ} 9770 0 in
+    let z : List ℕ = replicate saveRoom 0 in
+    let e : length z ≡ saveRoom = length-replicate {A = ℕ} saveRoom 0 in
     written s z p h (omega arith)

@@ -19,10 +19,10 @@ use Rattle.laws.specs.Rows.{flat, put-whole}
 use Rattle.lines.specs.Hex.{textOf}
 use Rattle.rule.specs.Base.{All, all-append}
 use Rattle.rule.specs.Engine.{find}
-use Rattle.model.specs.Types.{Model, Monitor, Pair, withLists, mostMonitors, mostPairs}
+use Rattle.model.specs.Types.{Model, Monitor, Pair, withLists}
 use Rattle.model.specs.Sound.{soundModel}
 use Rattle.model.specs.Image.{headRow, monitorRow, pairRow, endRow, records, imageText}
-use Rattle.model.specs.Block.{padTo, headSize, monitorSize, pairSize, monitorPlace, monitorBlock, pairBlock, padded}
+use Rattle.model.specs.Block.{padTo, monitorPlace, monitorBlock, pairBlock, padded}
 use Rattle.blocks.specs.Rows.{length-headRow, length-monitorRow, length-pairRow, octets-cons}
 use Rattle.blocks.specs.Facts.{SoundMonitor, SoundMonitors, SoundModel, sound-facts, monitors-tail}
 use Rattle.blocks.specs.Bounds.{Fits, pairs-fit, sound-headRow, sound-monitorRow, fits-pairRow}
@@ -34,6 +34,7 @@ use Rattle.restore.specs.Lines.{monitor-own}
 use Rattle.restore.specs.Lines.{stored, storedMonitor, storedPair, storedAll}
 use Rattle.restore.specs.Lines.{name-head, name-monitor, name-pair, name-other}
 use Rattle.restore.specs.Rows.{Row}
+use Rattle.model.specs.Layout.{blockSize, bodySize, countAt, dataAt, handleAt, headSize, lineRow, monitorSize, monitorsAt, mostCondition, mostData, mostMonitors, mostPairs, mostPrefix, pairSize, pairsAt}
 
 -- the octets of a row behind its name
 
@@ -50,30 +51,30 @@ take-padTo n k r h b =
     rw (s, ← append-assoc r z y) (take-at (r ++ z) y k m)
 
 -- a name and a row in 72 octets: the row in the octets that its place has
-pub behind-name : (name k : ℕ) (r : List ℕ) → length r ≤ k → k ≤ 71 → take k (drop 1 (padTo 72 (name ∷ r))) ≡ padTo k r
+pub behind-name : (name k : ℕ) (r : List ℕ) → length r ≤ k → k ≤ monitorSize → take k (drop 1 (padTo lineRow (name ∷ r))) ≡ padTo k r
 unfolding padTo
 behind-name name k r h b =
-    let e : 72 - suc (length r) ≡ 71 - length r = omega arith in
-    ap (λ (j : ℕ). take k (r ++ replicate j 0)) e ∙ take-padTo 71 k r h b
+    let e : lineRow - suc (length r) ≡ monitorSize - length r = omega arith in
+    ap (λ (j : ℕ). take k (r ++ replicate j 0)) e ∙ take-padTo monitorSize k r h b
 
-pub name-of : (name : ℕ) (r : List ℕ) → getD (padTo 72 (name ∷ r)) 0 0 ≡ name
+pub name-of : (name : ℕ) (r : List ℕ) → getD (padTo lineRow (name ∷ r)) 0 0 ≡ name
 unfolding padTo
 name-of name r = refl
 
 -- A0 in an empty block
-pub head-stored : (m : Model) → length (m .prefix) ≤ 32
-    → stored (replicate 4761 0) (padTo 72 (0xA0 ∷ headRow m)) ≡ padded (withLists m [] [])
-unfolding padded withLists headSize headRow monitorBlock monitorPlace monitorSize
-    pairBlock pairSize mostMonitors mostPairs upTo flat
+pub head-stored : (m : Model) → length (m .prefix) ≤ mostPrefix
+    → stored (replicate blockSize 0) (padTo lineRow (0xA0 ∷ headRow m)) ≡ padded (withLists m [] [])
+unfolding padded withLists headRow monitorBlock monitorPlace
+    pairBlock upTo flat
 head-stored m h =
     let n : length (headRow m) ≡ 8 + length (m .prefix) = length-headRow m in
-    let l : List ℕ = padTo 72 (0xA0 ∷ headRow m) in
-    let k : length (padTo 40 (headRow m)) ≡ 40 = length-head m h in
-    sym (name-head (replicate 4761 0) l (name-of 0xA0 (headRow m)) refl)
-    ∙ ap (λ (x : List ℕ). put (replicate 4761 0) 0 x) (behind-name 0xA0 40 (headRow m) (omega arith) (omega arith))
-    ∙ ap (λ (x : List ℕ). put x 0 (padTo 40 (headRow m))) (sym (replicate-append-replicate 40 4721 0))
-    ∙ put-left (replicate 40 0) (replicate 4721 0) 0 (padTo 40 (headRow m)) (omega arith)
-    ∙ ap (λ (x : List ℕ). x ++ replicate 4721 0) (put-whole (replicate 40 0) (padTo 40 (headRow m)) (sym k))
+    let l : List ℕ = padTo lineRow (0xA0 ∷ headRow m) in
+    let k : length (padTo headSize (headRow m)) ≡ headSize = length-head m h in
+    sym (name-head (replicate blockSize 0) l (name-of 0xA0 (headRow m)) refl)
+    ∙ ap (λ (x : List ℕ). put (replicate blockSize 0) 0 x) (behind-name 0xA0 headSize (headRow m) (omega arith) (omega arith))
+    ∙ ap (λ (x : List ℕ). put x 0 (padTo headSize (headRow m))) (sym (replicate-append-replicate headSize bodySize 0))
+    ∙ put-left (replicate headSize 0) (replicate bodySize 0) 0 (padTo headSize (headRow m)) (omega arith)
+    ∙ ap (λ (x : List ℕ). x ++ replicate bodySize 0) (put-whole (replicate headSize 0) (padTo headSize (headRow m)) (sym k))
 
 -- monitors by handle, one more behind the others
 find-same : (l : List (ℕ × Monitor)) (h : ℕ) (n : Monitor) → All (λ y. y .0 < h) l
@@ -91,41 +92,41 @@ all-below : (k j : ℕ) (l : List (ℕ × Monitor)) → k ≤ j → All (λ y. y
 all-below k j [] h a = tt
 all-below k j (y ∷ l) h a = (omega (arith, a .0), all-below k j l h (a .1))
 
-monitor-own-row : (s : List ℕ) (x : ℕ × Monitor) → x .0 < 16
-    → storedMonitor s (padTo 71 (monitorRow x)) ≡ put s (40 + 71 * x .0) (padTo 71 (monitorRow x))
+monitor-own-row : (s : List ℕ) (x : ℕ × Monitor) → x .0 < mostMonitors
+    → storedMonitor s (padTo monitorSize (monitorRow x)) ≡ put s (monitorsAt + monitorSize * x .0) (padTo monitorSize (monitorRow x))
 unfolding padTo monitorRow
-monitor-own-row s x b = sym (monitor-own s (padTo 71 (monitorRow x)) b (place-at s x))
+monitor-own-row s x b = sym (monitor-own s (padTo monitorSize (monitorRow x)) b (place-at s x))
   where
     place-at : (s : List ℕ) (x : ℕ × Monitor)
-        → put s (40 + 71 * x .0) (padTo 71 (monitorRow x))
-        ≡ put s (40 + 71 * getD (padTo 71 (monitorRow x)) 0 0) (padTo 71 (monitorRow x))
+        → put s (monitorsAt + monitorSize * x .0) (padTo monitorSize (monitorRow x))
+        ≡ put s (monitorsAt + monitorSize * getD (padTo monitorSize (monitorRow x)) handleAt 0) (padTo monitorSize (monitorRow x))
     place-at s x = refl
 
-pair-behind : (s r : List ℕ) (n : ℕ) → getD s 4760 0 ≡ n → n < 64
-    → storedPair s r ≡ put (put s (1176 + 56 * n) r) 4760 ((n + 1) ∷ [])
+pair-behind : (s r : List ℕ) (n : ℕ) → getD s countAt 0 ≡ n → n < mostPairs
+    → storedPair s r ≡ put (put s (pairsAt + pairSize * n) r) countAt ((n + 1) ∷ [])
 unfolding storedPair
-pair-behind s r n c b = rw c (pick-true _ s (lt-ltb n 64 b))
+pair-behind s r n c b = rw c (pick-true _ s (lt-ltb n mostPairs b))
 
 module _ (m : Model) where
   monitor-stored : (l : List (ℕ × Monitor)) (x : ℕ × Monitor) → Measured (withLists m l []) → All (λ y. y .0 < x .0) l
-      → x .0 < 16 → length (x .1 .condition) ≤ 64
-      → stored (padded (withLists m l [])) (padTo 72 (0xA1 ∷ monitorRow x)) ≡ padded (withLists m (l ++ (x ∷ [])) [])
-  unfolding withLists monitorPlace monitorSize
+      → x .0 < mostMonitors → length (x .1 .condition) ≤ mostCondition
+      → stored (padded (withLists m l [])) (padTo lineRow (0xA1 ∷ monitorRow x)) ≡ padded (withLists m (l ++ (x ∷ [])) [])
+  unfolding withLists monitorPlace
   monitor-stored l x f a b c =
       let w : Model = withLists m l [] in
-      let r : List ℕ = padTo 71 (monitorRow x) in
+      let r : List ℕ = padTo monitorSize (monitorRow x) in
       let n : length (monitorRow x) ≡ 7 + length (x .1 .condition) = length-monitorRow x in
-      let k : length r ≡ 71 = length-full x c in
-      let s : Short (l ++ (x ∷ [])) = all-append (λ y. length (y .1 .condition) ≤ 64) l (x ∷ []) (f .short) (c, tt) in
-      let p : put (monitorBlock l) (71 * x .0) r ≡ monitorBlock (l ++ (x ∷ [])) =
+      let k : length r ≡ monitorSize = length-full x c in
+      let s : Short (l ++ (x ∷ [])) = all-append (λ y. length (y .1 .condition) ≤ mostCondition) l (x ∷ []) (f .short) (c, tt) in
+      let p : put (monitorBlock l) (monitorSize * x .0) r ≡ monitorBlock (l ++ (x ∷ [])) =
       rw (find-same l (x .0) (x .1) a) at (put-monitorBlock l (l ++ (x ∷ [])) (f .short) s (x .0) b
       (λ g d. find-other l (x .0) g (x .1) d)) in
-      let e : take 71 (drop 1 (padTo 72 (0xA1 ∷ monitorRow x))) ≡ r =
-      behind-name 0xA1 71 (monitorRow x) (omega arith) (omega arith) in
-      sym (name-monitor (padded w) (padTo 72 (0xA1 ∷ monitorRow x)) (name-of 0xA1 (monitorRow x)) refl)
+      let e : take monitorSize (drop 1 (padTo lineRow (0xA1 ∷ monitorRow x))) ≡ r =
+      behind-name 0xA1 monitorSize (monitorRow x) (omega arith) (omega arith) in
+      sym (name-monitor (padded w) (padTo lineRow (0xA1 ∷ monitorRow x)) (name-of 0xA1 (monitorRow x)) refl)
       ∙ ap (storedMonitor (padded w)) e
       ∙ monitor-own-row (padded w) x b
-      ∙ put-monitors w f (l ++ (x ∷ [])) (71 * x .0) r (omega arith) p
+      ∙ put-monitors w f (l ++ (x ∷ [])) (monitorSize * x .0) r (omega arith) p
 
   monitors-stored : (l r : List (ℕ × Monitor)) (k : ℕ) → Measured (withLists m l []) → All (λ y. y .0 < k) l
       → SoundMonitors k r
@@ -135,14 +136,14 @@ module _ (m : Model) where
   monitors-stored l [] k f a s = ap (λ (x : List (ℕ × Monitor)). padded (withLists m x [])) (sym (append-nil l))
   monitors-stored l (x ∷ r) k f a s =
       let h : k ≤ x .0 = s .handles .0 .0 in
-      let c : length (x .1 .condition) ≤ 64 = accepted (x .1) (s .monitors .0 .accept) .short in
+      let c : length (x .1 .condition) ≤ mostCondition = accepted (x .1) (s .monitors .0 .accept) .short in
       let b : All (λ y. y .0 < x .0) l = all-below k (x .0) l h a in
       let d : All (λ y. y .0 < suc (x .0)) (l ++ (x ∷ [])) =
       all-append (λ y. y .0 < suc (x .0)) l (x ∷ []) (all-below k (suc (x .0)) l (omega arith) a) (omega arith, tt) in
       let g : Measured (withLists m (l ++ (x ∷ [])) []) =
       record {
         prefix-most = f .prefix-most;
-        short = all-append (λ y. length (y .1 .condition) ≤ 64) l (x ∷ []) (f .short) (c, tt);
+        short = all-append (λ y. length (y .1 .condition) ≤ mostCondition) l (x ∷ []) (f .short) (c, tt);
         fit = tt;
         pairs-most = omega arith;
       } in
@@ -153,25 +154,25 @@ module _ (m : Model) where
 
   -- pairs in start order, one more behind the others
   pair-stored : (l : List (ℕ × Monitor)) (ps : List Pair) (q : Pair) → Measured (withLists m l ps) → Fits q
-      → length ps < 64
-      → stored (padded (withLists m l ps)) (padTo 72 (0xA2 ∷ pairRow q)) ≡ padded (withLists m l (ps ++ (q ∷ [])))
+      → length ps < mostPairs
+      → stored (padded (withLists m l ps)) (padTo lineRow (0xA2 ∷ pairRow q)) ≡ padded (withLists m l (ps ++ (q ∷ [])))
   unfolding withLists
   pair-stored l ps q f g b =
       let w : Model = withLists m l ps in
       let s : List ℕ = padded w in
-      let r : List ℕ = padTo 56 (pairRow q) in
-      let n : length (pairRow q) ≡ 25 + length (q .adv) = length-pairRow q (g .address-length) in
-      let c : getD s 4760 0 ≡ length ps = getD-count w f in
-      let k : length (q .adv) ≤ 31 = g .adv-most in
-      let e : take 56 (drop 1 (padTo 72 (0xA2 ∷ pairRow q))) ≡ r =
-      behind-name 0xA2 56 (pairRow q) (omega arith) (omega arith) in
-      sym (name-pair s (padTo 72 (0xA2 ∷ pairRow q)) (name-of 0xA2 (pairRow q)) refl)
+      let r : List ℕ = padTo pairSize (pairRow q) in
+      let n : length (pairRow q) ≡ dataAt + length (q .adv) = length-pairRow q (g .address-length) in
+      let c : getD s countAt 0 ≡ length ps = getD-count w f in
+      let k : length (q .adv) ≤ mostData = g .adv-most in
+      let e : take pairSize (drop 1 (padTo lineRow (0xA2 ∷ pairRow q))) ≡ r =
+      behind-name 0xA2 pairSize (pairRow q) (omega arith) (omega arith) in
+      sym (name-pair s (padTo lineRow (0xA2 ∷ pairRow q)) (name-of 0xA2 (pairRow q)) refl)
       ∙ ap (storedPair s) e
       ∙ pair-behind s r (length ps) c b
       ∙ add-pair w f q g b
 
   pairs-stored : (l : List (ℕ × Monitor)) (ps qs : List Pair) → Measured (withLists m l ps) → All Fits qs
-      → length ps + length qs ≤ 64
+      → length ps + length qs ≤ mostPairs
       → storedAll (padded (withLists m l ps)) (map (λ (q : Pair). 0xA2 ∷ pairRow q) qs)
       ≡ padded (withLists m l (ps ++ qs))
   unfolding storedAll withLists
@@ -193,18 +194,18 @@ module _ (m : Model) where
 stored-append : (s : List ℕ) (rs ts : List (List ℕ)) → storedAll s (rs ++ ts) ≡ storedAll (storedAll s rs) ts
 unfolding storedAll
 stored-append s [] ts = refl
-stored-append s (r ∷ rs) ts = stored-append (stored s (padTo 72 r)) rs ts
+stored-append s (r ∷ rs) ts = stored-append (stored s (padTo lineRow r)) rs ts
 
 end-stored : (s r : List ℕ) → storedAll s ((0xAF ∷ r) ∷ []) ≡ s
 unfolding storedAll
 end-stored s r =
-    let e : getD (padTo 72 (0xAF ∷ r)) 0 0 ≡ 0xAF = name-of 0xAF r in
-    sym (name-other s (padTo 72 (0xAF ∷ r)) (λ (x : getD (padTo 72 (0xAF ∷ r)) 0 0 ≡ 0xA0). omega arith)
-    (λ (x : getD (padTo 72 (0xAF ∷ r)) 0 0 ≡ 0xA1). omega arith)
-    (λ (x : getD (padTo 72 (0xAF ∷ r)) 0 0 ≡ 0xA2). omega arith))
+    let e : getD (padTo lineRow (0xAF ∷ r)) 0 0 ≡ 0xAF = name-of 0xAF r in
+    sym (name-other s (padTo lineRow (0xAF ∷ r)) (λ (x : getD (padTo lineRow (0xAF ∷ r)) 0 0 ≡ 0xA0). omega arith)
+    (λ (x : getD (padTo lineRow (0xAF ∷ r)) 0 0 ≡ 0xA1). omega arith)
+    (λ (x : getD (padTo lineRow (0xAF ∷ r)) 0 0 ≡ 0xA2). omega arith))
 
 -- The rows of a sound state, stored in an empty block one after another, give its block.
-pub records-stored : (m : Model) → soundModel m ≡ true → storedAll (replicate 4761 0) (records m) ≡ padded m
+pub records-stored : (m : Model) → soundModel m ≡ true → storedAll (replicate blockSize 0) (records m) ≡ padded m
 unfolding records withLists storedAll
 records-stored m e =
     let f : SoundModel m = sound-facts m e in
@@ -240,10 +241,10 @@ all-and : {A : Type 0} (P Q : A → Type 0) (l : List A) → All P l → All Q l
 all-and P Q [] p q = tt
 all-and P Q (a ∷ l) p q = ((p .0, q .0), all-and P Q l (p .1) (q .1))
 
-monitor-row : (x : ℕ × Monitor) → ((0 ≤ x .0) × (x .0 < 16)) × SoundMonitor (x .1) → Row (0xA1 ∷ monitorRow x)
+monitor-row : (x : ℕ × Monitor) → ((0 ≤ x .0) × (x .0 < mostMonitors)) × SoundMonitor (x .1) → Row (0xA1 ∷ monitorRow x)
 monitor-row x p =
-    let b : x .0 < 16 = p .0 .1 in
-    let c : length (x .1 .condition) ≤ 64 = accepted (x .1) (p .1 .accept) .short in
+    let b : x .0 < mostMonitors = p .0 .1 in
+    let c : length (x .1 .condition) ≤ mostCondition = accepted (x .1) (p .1 .accept) .short in
     record {
       octets = octets-cons 0xA1 (monitorRow x) (omega arith) (sound-monitorRow x (omega arith) (p .1));
       most = omega (arith, length-monitorRow x);
@@ -262,7 +263,7 @@ records-rows m e =
     let f : SoundModel m = sound-facts m e in
     let ms : List (List ℕ) = map (λ (x : ℕ × Monitor). 0xA1 ∷ monitorRow x) (m .mons) in
     let qs : List (List ℕ) = map (λ (q : Pair). 0xA2 ∷ pairRow q) (m .pairs) in
-    let n : length (m .mons) ≤ 16 = sound-fits m e .most-mons in
+    let n : length (m .mons) ≤ mostMonitors = sound-fits m e .most-mons in
     let z : Row (0xAF ∷ endRow m) =
     record {
       octets = octets-cons 0xAF (endRow m) (omega arith)
@@ -275,7 +276,7 @@ records-rows m e =
         most = omega (arith, length-headRow m, f .prefix-most);
       },
       all-append Row ms (qs ++ ((0xAF ∷ endRow m) ∷ [])) (all-map _ (λ (x : ℕ × Monitor). 0xA1 ∷ monitorRow x) (m .mons)
-          (all-and (λ x. (0 ≤ x .0) × (x .0 < 16)) (λ x. SoundMonitor (x .1)) (m .mons) (f .mons-sound .handles)
+          (all-and (λ x. (0 ≤ x .0) × (x .0 < mostMonitors)) (λ x. SoundMonitor (x .1)) (m .mons) (f .mons-sound .handles)
           (f .mons-sound .monitors)) monitor-row)
           (all-append Row qs ((0xAF ∷ endRow m) ∷ [])
           (all-map Fits (λ (q : Pair). 0xA2 ∷ pairRow q) (m .pairs) (pairs-fit m f) pair-row)
@@ -283,14 +284,14 @@ records-rows m e =
     )
 
 -- The lines of the image of a sound state, stored in a block that was cleared, give the state's block.
-pub block-filled : (s t : List ℕ) {r : Bool} {z u : List ℕ} → length s ≡ 4761
-    → (r ≡ leb (0 + 4761) (length s)) × (z ≡ putIf r s 0 (replicate 4761 0))
+pub block-filled : (s t : List ℕ) {r : Bool} {z u : List ℕ} → length s ≡ blockSize
+    → (r ≡ leb (0 + blockSize) (length s)) × (z ≡ putIf r s 0 (replicate blockSize 0))
     → ((rs : List (List ℕ)) → All Row rs → t ≡ each textOf rs → u ≡ storedAll z rs)
     → (m : Model) → soundModel m ≡ true → t ≡ imageText m → u ≡ padded m
 unfolding imageText
 block-filled s t {r} {z} {u} h p q m e i =
-    let n : length {A = ℕ} (replicate 4761 0) ≡ 4761 = length-replicate {A = ℕ} 4761 0 in
-    let k : z ≡ replicate 4761 0 =
-    put-of s 0 (replicate 4761 0) 4761 (length s) (p .0) (omega arith) (p .1)
-    ∙ put-whole s (replicate 4761 0) (h ∙ sym n) in
+    let n : length {A = ℕ} (replicate blockSize 0) ≡ blockSize = length-replicate {A = ℕ} blockSize 0 in
+    let k : z ≡ replicate blockSize 0 =
+    put-of s 0 (replicate blockSize 0) blockSize (length s) (p .0) (omega arith) (p .1)
+    ∙ put-whole s (replicate blockSize 0) (h ∙ sym n) in
     q (records m) (records-rows m e) i ∙ ap (λ (x : List ℕ). storedAll x (records m)) k ∙ records-stored m e

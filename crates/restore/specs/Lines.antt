@@ -17,31 +17,32 @@ use Rattle.lines.specs.Hex.{lf, octetsIn}
 use Rattle.lines.specs.Answers.{takeText, afterWrite}
 use Rattle.lines.specs.declared.Wrote.{Wrote}
 use Rattle.model.specs.Block.{padTo}
+use Rattle.model.specs.Layout.{blockSize, countAt, handleAt, headSize, lineRow, monitorSize, monitorsAt, mostMonitors, mostPairs, pairSize, pairsAt}
 
 -- the octets of a line's text in 72 octets with zeros behind them; zeros alone where it is no text or holds more
 unfoldable pub lineIn : List ℕ → List ℕ
-lineIn t = afterWrite (takeText t 72) (replicate 72 0) (octetsIn t)
+lineIn t = afterWrite (takeText t lineRow) (replicate lineRow 0) (octetsIn t)
 
 -- A1: the row of its handle, where that is one
 unfoldable pub storedMonitor : List ℕ → List ℕ → List ℕ
-storedMonitor s r = pick (ltb (getD r 0 0) 16) (put s (40 + 71 * getD r 0 0) r) s
+storedMonitor s r = pick (ltb (getD r handleAt 0) mostMonitors) (put s (monitorsAt + monitorSize * getD r handleAt 0) r) s
 
 -- A2: the row behind the pairs, and one pair more, where there is room
 unfoldable pub storedPair : List ℕ → List ℕ → List ℕ
 storedPair s r =
-    pick (ltb (getD s 4760 0) 64) (put (put s (1176 + 56 * getD s 4760 0) r) 4760 ((getD s 4760 0 + 1) ∷ [])) s
+    pick (ltb (getD s countAt 0) mostPairs) (put (put s (pairsAt + pairSize * getD s countAt 0) r) countAt ((getD s countAt 0 + 1) ∷ [])) s
 
 -- a line by its name: A0 the head, A1 a monitor, A2 a pair, of every other nothing
 unfoldable pub stored : List ℕ → List ℕ → List ℕ
 stored s l =
-    pick (eqb (getD l 0 0) 0xA0) (put s 0 (take 40 (drop 1 l))) (
-    pick (eqb (getD l 0 0) 0xA1) (storedMonitor s (take 71 (drop 1 l))) (
-    pick (eqb (getD l 0 0) 0xA2) (storedPair s (take 56 (drop 1 l))) s))
+    pick (eqb (getD l 0 0) 0xA0) (put s 0 (take headSize (drop 1 l))) (
+    pick (eqb (getD l 0 0) 0xA1) (storedMonitor s (take monitorSize (drop 1 l))) (
+    pick (eqb (getD l 0 0) 0xA2) (storedPair s (take pairSize (drop 1 l))) s))
 
 -- lines one after another
 unfoldable pub storedAll : List ℕ → List (List ℕ) → List ℕ
 storedAll s [] = s
-storedAll s (r ∷ rs) = storedAll (stored s (padTo 72 r)) rs
+storedAll s (r ∷ rs) = storedAll (stored s (padTo lineRow r)) rs
 
 -- the characters up to the first LF, with it; all of them where there is none
 unfoldable pub lineLength : List ℕ → ℕ
@@ -51,38 +52,38 @@ lineLength (c ∷ t) = pick (eqb c lf) 1 (suc (lineLength t))
 -- the branches of the code
 
 module _ (s r : List ℕ) where
-  pub monitor-other : 16 ≤ getD r 0 0 → s ≡ storedMonitor s r
+  pub monitor-other : mostMonitors ≤ getD r handleAt 0 → s ≡ storedMonitor s r
   unfolding storedMonitor pick
-  monitor-other h = rw (le-ltb (getD r 0 0) 16 h)
+  monitor-other h = rw (le-ltb (getD r handleAt 0) mostMonitors h)
 
-  pub monitor-own : {t : List ℕ} → getD r 0 0 < 16 → t ≡ put s (40 + 71 * getD r 0 0) r → t ≡ storedMonitor s r
+  pub monitor-own : {t : List ℕ} → getD r handleAt 0 < mostMonitors → t ≡ put s (monitorsAt + monitorSize * getD r handleAt 0) r → t ≡ storedMonitor s r
   unfolding storedMonitor pick
-  monitor-own h e = rw (lt-ltb (getD r 0 0) 16 h) e
+  monitor-own h e = rw (lt-ltb (getD r handleAt 0) mostMonitors h) e
 
-  pub pair-full : 64 ≤ getD s 4760 0 → s ≡ storedPair s r
+  pub pair-full : mostPairs ≤ getD s countAt 0 → s ≡ storedPair s r
   unfolding storedPair pick
-  pair-full h = rw (le-ltb (getD s 4760 0) 64 h)
+  pair-full h = rw (le-ltb (getD s countAt 0) mostPairs h)
 
-  pub pair-more : {t : List ℕ} → length s ≡ 4761 → length r ≡ 56 → getD s 4760 0 < 64
-      → t ≡ put s (1176 + 56 * getD s 4760 0) r → set t 4760 (getD s 4760 0 + 1) ≡ storedPair s r
+  pub pair-more : {t : List ℕ} → length s ≡ blockSize → length r ≡ pairSize → getD s countAt 0 < mostPairs
+      → t ≡ put s (pairsAt + pairSize * getD s countAt 0) r → set t countAt (getD s countAt 0 + 1) ≡ storedPair s r
   unfolding storedPair pick
   pair-more {t} l k h e =
-      let n : length (put s (1176 + 56 * getD s 4760 0) r) ≡ length s =
-      length-put s (1176 + 56 * getD s 4760 0) r (omega arith) in
-      rw (lt-ltb (getD s 4760 0) 64 h, e)
-      (set-put (put s (1176 + 56 * getD s 4760 0) r) 4760 (getD s 4760 0 + 1) (omega arith))
+      let n : length (put s (pairsAt + pairSize * getD s countAt 0) r) ≡ length s =
+      length-put s (pairsAt + pairSize * getD s countAt 0) r (omega arith) in
+      rw (lt-ltb (getD s countAt 0) mostPairs h, e)
+      (set-put (put s (pairsAt + pairSize * getD s countAt 0) r) countAt (getD s countAt 0 + 1) (omega arith))
 
 module _ (s l : List ℕ) {t : List ℕ} where
-  pub name-head : getD l 0 0 ≡ 0xA0 → t ≡ put s 0 (take 40 (drop 1 l)) → t ≡ stored s l
+  pub name-head : getD l 0 0 ≡ 0xA0 → t ≡ put s 0 (take headSize (drop 1 l)) → t ≡ stored s l
   unfolding stored pick
   name-head h e = rw (eq-eqb (getD l 0 0) 0xA0 h) e
 
-  pub name-monitor : getD l 0 0 ≡ 0xA1 → t ≡ storedMonitor s (take 71 (drop 1 l)) → t ≡ stored s l
+  pub name-monitor : getD l 0 0 ≡ 0xA1 → t ≡ storedMonitor s (take monitorSize (drop 1 l)) → t ≡ stored s l
   unfolding stored pick
   name-monitor h e =
       rw (ne-eqb (getD l 0 0) 0xA0 (λ (x : getD l 0 0 ≡ 0xA0). omega arith), eq-eqb (getD l 0 0) 0xA1 h) e
 
-  pub name-pair : getD l 0 0 ≡ 0xA2 → t ≡ storedPair s (take 56 (drop 1 l)) → t ≡ stored s l
+  pub name-pair : getD l 0 0 ≡ 0xA2 → t ≡ storedPair s (take pairSize (drop 1 l)) → t ≡ stored s l
   unfolding stored pick
   name-pair h e =
       rw (
@@ -99,12 +100,12 @@ name-other s l a b c = rw (ne-eqb (getD l 0 0) 0xA0 a, ne-eqb (getD l 0 0) 0xA1 
 
 -- a text read into 72 octets of 0, and stored
 pub text-stored : (s t : List ℕ) {w : Wrote} {l u : List ℕ}
-    → (w ≡ takeText t (length {A = ℕ} (replicate 72 0))) × (l ≡ afterWrite w (replicate 72 0) (octetsIn t))
+    → (w ≡ takeText t (length {A = ℕ} (replicate lineRow 0))) × (l ≡ afterWrite w (replicate lineRow 0) (octetsIn t))
     → u ≡ stored s l
     → u ≡ stored s (lineIn t)
 unfolding lineIn
 text-stored s t p q = q ∙ ap (stored s) (p .1)
-    ∙ ap (λ (w : Wrote). stored s (afterWrite w (replicate 72 0) (octetsIn t))) (p .0)
+    ∙ ap (λ (w : Wrote). stored s (afterWrite w (replicate lineRow 0) (octetsIn t))) (p .0)
 
 -- lengths of lines
 

@@ -21,11 +21,12 @@ use Rattle.lines.specs.Answers.{takeText, afterWrite}
 use Rattle.rule.specs.Base.{All}
 use Rattle.model.specs.Block.{padTo}
 use Rattle.restore.specs.Lines.{lineIn, stored, storedAll, lineLength}
+use Rattle.model.specs.Layout.{lineRow}
 
 -- a row with its name that is octets, at most 72
 pub record Row (r : List ℕ) : Type 0 where
   pub octets : every isOctet r ≡ true
-  pub most : length r ≤ 72
+  pub most : length r ≤ lineRow
 
 -- the end of a line is its only LF
 line-lf : (l t : List ℕ) → every notLf l ≡ true → lineLength (l ++ (lf ∷ t)) ≡ length l + 1
@@ -54,10 +55,10 @@ put-zeros n r h =
     ∙ ap (λ (l : List ℕ). l ++ replicate (n - length r) 0) (put-whole z r k)
 
 -- the text of a row is read as that row
-pub line-in : (r : List ℕ) → Row r → lineIn (textOf r) ≡ padTo 72 r
+pub line-in : (r : List ℕ) → Row r → lineIn (textOf r) ≡ padTo lineRow r
 unfolding lineIn takeText afterWrite pick
 line-in r f =
-    rw (is-text r (f .octets), read-written r (f .octets), le-leb (length r) 72 (f .most)) (put-zeros 72 r (f .most))
+    rw (is-text r (f .octets), read-written r (f .octets), le-leb (length r) lineRow (f .most)) (put-zeros lineRow r (f .most))
 
 -- what is left of a text at an index: the lines of rows that, stored, give the goal
 pub record Rest (t : List ℕ) (at : ℕ) (s goal : List ℕ) : Type 0 where
@@ -88,7 +89,7 @@ rest-turn t at s goal {e} {u} f h p q = go (f .rest) (f .each-row) (f .left) (f 
         let k : take (e - at) (drop at t) ≡ textOf r =
         ap (λ (i : ℕ). take i (drop at t)) d ∙ ap (λ (x : List ℕ). take (length (textOf r)) x) l
         ∙ take-at (textOf r) w (length (textOf r)) refl in
-        let v : u ≡ stored s (padTo 72 r) =
+        let v : u ≡ stored s (padTo lineRow r) =
         q ∙ ap (λ (x : List ℕ). stored s (lineIn x)) k ∙ ap (stored s) (line-in r (a .0)) in
         let i : e ≡ at + length (textOf r) = omega arith in
         record {

@@ -10,8 +10,9 @@ use Rattle.laws.specs.Loops.{each}
 use Rattle.model.specs.Types.{Pair}
 use Rattle.model.specs.Level.{levels}
 use Rattle.model.specs.Image.{heldIn}
-use Rattle.images.specs.Quoted.{codes}
+use Rattle.model.specs.Quoted.{codes}
 use Rattle.restore.specs.Accept.{restores}
+use Rattle.model.specs.Layout.{blockSize}
 
 -- the monitor of "A session in full" with a window of 2 ticks, and its pair with a packet at −60 in the window
 unfoldable pub minusSixty : List String
@@ -20,12 +21,11 @@ minusSixty =
     "A2000006050403020100000101000000C4FFFFFFFFFFFFFF0303020106\n" ∷ "AF0101\n" ∷ []
 
 -- It is restored; its sum is −60 in two's complement, and 67 above −127.
-pub sum-signed : (restores (each codes minusSixty) 4761 ≡ true)
+pub sum-signed : (restores (each codes minusSixty) blockSize ≡ true)
     × (map (λ (q : Pair). q .sum) (heldIn (each codes minusSixty) .pairs) ≡ 18446744073709551556 ∷ [])
     × (map (λ (q : Pair). levels (q .sum) (q .packets)) (heldIn (each codes minusSixty) .pairs) ≡ 67 ∷ [])
 unfolding restores minusSixty codes
-    Rattle.model.specs.Types.mostMonitors Rattle.model.specs.Types.mostPairs Rattle.model.specs.Types.mostCondition
-    Rattle.model.specs.Types.mostData Rattle.model.specs.Types.mostPrefix Rattle.model.specs.Types.ticksOf
+    Rattle.model.specs.Types.ticksOf
     Rattle.model.specs.Types.device Rattle.model.specs.Types.watched
     Rattle.model.specs.Level.level Rattle.model.specs.Level.inRange Rattle.model.specs.Level.levels
     Rattle.model.specs.Monitors.highAbove Rattle.model.specs.Monitors.faultOf Rattle.model.specs.Monitors.accepts

@@ -21,12 +21,13 @@ ghost use Rattle.model.specs.Block.{padded};
 ghost use Rattle.restore.specs.Lines.{lineIn, storedMonitor, storedPair, stored, storedAll, lineLength};
 ghost use Rattle.restore.specs.Rows.{Row};
 ghost use Rattle.restore.specs.Accept.{restores};
+ghost use Rattle.model.specs.Layout.{blockSize, lineRow, monitorSize, pairSize};
 
 const LF: u8 = 10;
 
 // An A1 row at the place of its handle.
 fn store_monitor(s: &mut [u8], row: &[u8])
-    requires { ⌜ (length (now s) ≡ 4761) × (length (now row) ≡ 71) ⌝ }
+    requires { ⌜ (length (now s) ≡ blockSize) × (length (now row) ≡ monitorSize) ⌝ }
     ensures { λ _. ⌜ now (s .exit) ≡ storedMonitor (now (s .entry)) (now (row .entry)) ⌝ }
 {
     let h = row[0] as usize;
@@ -38,11 +39,11 @@ fn store_monitor(s: &mut [u8], row: &[u8])
 
 // An A2 row behind the pairs, and one pair more.
 fn store_pair(s: &mut [u8], row: &[u8])
-    requires { ⌜ (length (now s) ≡ 4761) × (length (now row) ≡ 56) ⌝ }
+    requires { ⌜ (length (now s) ≡ blockSize) × (length (now row) ≡ pairSize) ⌝ }
     ensures { λ _. ⌜ now (s .exit) ≡ storedPair (now (s .entry)) (now (row .entry)) ⌝ }
 {
     let n = s[State::COUNT_AT];
-    if 64 <= n {
+    if State::MOST_PAIRS <= n {
         return;
     }
     let at = State::PAIRS_AT + State::PAIR_ROW * (n as usize);
@@ -52,30 +53,30 @@ fn store_pair(s: &mut [u8], row: &[u8])
 
 // A line's octets, by the octet that names it.
 fn store_line(s: &mut [u8], line: &[u8])
-    requires { ⌜ (length (now s) ≡ 4761) × (length (now line) ≡ 72) ⌝ }
+    requires { ⌜ (length (now s) ≡ blockSize) × (length (now line) ≡ lineRow) ⌝ }
     ensures { λ _. ⌜ now (s .exit) ≡ stored (now (s .entry)) (now (line .entry)) ⌝ }
 {
     let name = line[0];
     if name == 0xA0 {
-        parts::copy(s, 0, &line[1..41]);
+        parts::copy(s, 0, &line[1..State::HEAD_LINE]);
         return;
     }
     if name == 0xA1 {
-        store_monitor(s, &line[1..72]);
+        store_monitor(s, &line[1..State::LINE_ROW]);
         return;
     }
     if name == 0xA2 {
-        store_pair(s, &line[1..57]);
+        store_pair(s, &line[1..State::PAIR_LINE]);
         return;
     }
 }
 
 // A line's text; one that is no text, or holds over 72 octets, is passed over.
 fn store_text(s: &mut [u8], text: &[u8])
-    requires { ⌜ length (now s) ≡ 4761 ⌝ }
+    requires { ⌜ length (now s) ≡ blockSize ⌝ }
     ensures { λ _. ⌜ now (s .exit) ≡ stored (now (s .entry)) (lineIn (now (text .entry))) ⌝ }
 {
-    let mut line = [0u8; 72];
+    let mut line = [0u8; State::LINE_ROW];
     lines::take_text(text, &mut line);
     store_line(s, &line);
 }
@@ -97,7 +98,7 @@ fn line_end(text: &[u8], at: usize) -> usize
 }
 
 fn store_lines(s: &mut [u8], text: &[u8])
-    requires { ⌜ length (now s) ≡ 4761 ⌝ }
+    requires { ⌜ length (now s) ≡ blockSize ⌝ }
     ensures { λ _. ⌜ ((rs : List (List ℕ)) → All Row rs → now (text .entry) ≡ each textOf rs → now (s .exit) ≡ storedAll (now (s .entry)) rs) ⌝ }
 {
     let n = text.len();
@@ -112,7 +113,7 @@ fn store_lines(s: &mut [u8], text: &[u8])
 // The lines of a text in an empty block. Of the image of a sound state that is the state's block; what it is of
 // another text is not said.
 fn fill_block(s: &mut [u8], text: &[u8])
-    requires { ⌜ length (now s) ≡ 4761 ⌝ }
+    requires { ⌜ length (now s) ≡ blockSize ⌝ }
     ensures { λ _. ⌜ ((m : Model) → soundModel m ≡ true → now (text .entry) ≡ imageText m → now (s .exit) ≡ padded m) ⌝ }
 {
     parts::fill(s, 0, State::SIZE, 0);
@@ -121,7 +122,7 @@ fn fill_block(s: &mut [u8], text: &[u8])
 
 // Whether a text is what save writes of a block.
 fn is_saved(s: &[u8], text: &[u8]) -> bool
-    requires { ⌜ length (now s) ≡ 4761 ⌝ }
+    requires { ⌜ length (now s) ≡ blockSize ⌝ }
     ensures { λ r. ⌜ r ≡ sames (savedText (now (s .entry))) (now (text .entry)) ⌝ }
 {
     let mut out = [0u8; State::IMAGE];

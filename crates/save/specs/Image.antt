@@ -24,7 +24,7 @@ use Rattle.sessions.specs.Machine.{saveRoom}
 use Rattle.model.specs.Types.{Model, Monitor, Pair}
 use Rattle.model.specs.Sound.{soundModel}
 use Rattle.model.specs.Image.{headRow, monitorRow, pairRow, endRow, records, imageText, pairIn}
-use Rattle.model.specs.Block.{padTo, monitorSize, monitorPlace, padded, inUse}
+use Rattle.model.specs.Block.{padTo, monitorPlace, padded, inUse}
 use Rattle.blocks.specs.Rows.{length-headRow, length-monitorRow, length-pairRow, getD-past}
 use Rattle.blocks.specs.Facts.{SoundMonitor, SoundMonitors, SoundModel}
 use Rattle.blocks.specs.Facts.{sound-facts, monitors-tail, monitors-from, monitors-over}
@@ -33,18 +33,20 @@ use Rattle.blocks.specs.Tables.{from, places-same}
 use Rattle.blocks.specs.Monitors.{inUse-none, inUse-some}
 use Rattle.blocks.specs.Block.{Measured, measured, padded-head, behind}
 use Rattle.blocks.specs.Block.{read-count, row-monitors, row-pairs, getD-count, padded-length}
-use Rattle.save.specs.Text.{atMost, at-is, headText, monitorText, pairText, endText, monitorAt, pairAt, liveBelow}
+use Rattle.octets.specs.Numbers.{atMost, at-is}
+use Rattle.save.specs.Text.{headText, monitorText, pairText, endText, monitorAt, pairAt, liveBelow}
 use Rattle.save.specs.Text.{monitorsText, pairsText, pairsIn, savedText, saves}
+use Rattle.model.specs.Layout.{blockSize, conditionLengthAt, dataAt, lengthAt, monitorSize, mostCondition, mostData, mostMonitors, mostPairs, mostPrefix, pairSize}
 
 at-most-is : (v n : ℕ) → v ≤ n → atMost v n ≡ v
 at-most-is v n h = sym (at-is v n h)
 
 -- A0
 
-pub head-image : (m : Model) → length (m .prefix) ≤ 32 → headText (padded m) ≡ textOf (0xA0 ∷ headRow m)
+pub head-image : (m : Model) → length (m .prefix) ≤ mostPrefix → headText (padded m) ≡ textOf (0xA0 ∷ headRow m)
 unfolding headText
 head-image m h =
-    rw (read-count m, at-most-is (length (m .prefix)) 32 h, padded-head m)
+    rw (read-count m, at-most-is (length (m .prefix)) mostPrefix h, padded-head m)
     (ap (λ (r : List ℕ). textOf (0xA0 ∷ r))
     (take-at (headRow m) (behind m) (8 + length (m .prefix)) (length-headRow m)))
 
@@ -54,7 +56,7 @@ place-none : (h : ℕ) → monitorText (monitorPlace h none) ≡ []
 unfolding monitorText
 place-none h = when-false _ (inUse-none h)
 
-place-count : (h : ℕ) (n : Monitor) → getD (monitorPlace h (some n)) 6 0 ≡ length (n .condition)
+place-count : (h : ℕ) (n : Monitor) → getD (monitorPlace h (some n)) conditionLengthAt 0 ≡ length (n .condition)
 unfolding monitorPlace padTo monitorRow
 place-count h n = refl
 
@@ -68,9 +70,9 @@ place-some : (h : ℕ) (n : Monitor) → SoundMonitor n
     → monitorText (monitorPlace h (some n)) ≡ textOf (0xA1 ∷ monitorRow (h, n))
 unfolding monitorText
 place-some h n f =
-    let k : length (n .condition) ≤ 64 = Rattle.model.specs.Accepted.accepted n (f .accept) .short in
+    let k : length (n .condition) ≤ mostCondition = Rattle.model.specs.Accepted.accepted n (f .accept) .short in
     when-true _ (inUse-some h n f)
-    ∙ rw (place-count h n, at-most-is (length (n .condition)) 64 k, place-row h n)
+    ∙ rw (place-count h n, at-most-is (length (n .condition)) mostCondition k, place-row h n)
 
 -- what is written place by place, handle by handle, is what is written monitor by monitor
 
@@ -82,7 +84,7 @@ flat-from f (suc n) k =
     sym (append-assoc (upTo f k) (f k) (flat (from f (suc k) n))) ∙ flat-from f n (suc k) ∙ ap (upTo f) e
 
 module _ {B : Type 0} (T : ℕ → Option Monitor → List B) (z : (h : ℕ) → T h none ≡ []) where
-  from-each : (l : List (ℕ × Monitor)) (n k : ℕ) (r : List (ℕ × Monitor)) → k + n ≡ 16 → SoundMonitors k r
+  from-each : (l : List (ℕ × Monitor)) (n k : ℕ) (r : List (ℕ × Monitor)) → k + n ≡ mostMonitors → SoundMonitors k r
       → ((h : ℕ) → k ≤ h → find l h ≡ find r h)
       → flat (from (λ h. T h (find l h)) k n) ≡ each (λ (x : ℕ × Monitor). T (x .0) (some (x .1))) r
   unfolding from flat each
@@ -121,9 +123,9 @@ module _ {B : Type 0} (T : ℕ → Option Monitor → List B) (z : (h : ℕ) →
           rw (s, z k) ih
 
   places-each : (l : List (ℕ × Monitor)) → SoundMonitors 0 l
-      → upTo (λ h. T h (find l h)) 16 ≡ each (λ (x : ℕ × Monitor). T (x .0) (some (x .1))) l
+      → upTo (λ h. T h (find l h)) mostMonitors ≡ each (λ (x : ℕ × Monitor). T (x .0) (some (x .1))) l
   unfolding upTo
-  places-each l f = sym (flat-from (λ h. T h (find l h)) 16 0) ∙ from-each l 16 0 l refl f (λ h b. refl)
+  places-each l f = sym (flat-from (λ h. T h (find l h)) mostMonitors 0) ∙ from-each l mostMonitors 0 l refl f (λ h b. refl)
 
 -- each element written alike; each line of rows made from elements
 
@@ -145,15 +147,15 @@ length-ones P f [] p h = refl
 length-ones P f (a ∷ l) p h = simp length-append (omega (arith, h a (p .0), length-ones P f l (p .1) h))
 
 module _ (m : Model) (e : soundModel m ≡ true) where
-  monitor-at : (h : ℕ) → h < 16 → monitorAt (padded m) h ≡ monitorPlace h (find (m .mons) h)
+  monitor-at : (h : ℕ) → h < mostMonitors → monitorAt (padded m) h ≡ monitorPlace h (find (m .mons) h)
   unfolding monitorAt
   monitor-at h b = row-monitors m (measured m e) h b
 
-  monitors-image : monitorsText (padded m) 16 ≡ each textOf (map (λ (x : ℕ × Monitor). 0xA1 ∷ monitorRow x) (m .mons))
+  monitors-image : monitorsText (padded m) mostMonitors ≡ each textOf (map (λ (x : ℕ × Monitor). 0xA1 ∷ monitorRow x) (m .mons))
   unfolding monitorsText
   monitors-image =
       let f : SoundModel m = sound-facts m e in
-      places-same (λ h. monitorText (monitorAt (padded m) h)) (λ h. monitorText (monitorPlace h (find (m .mons) h))) 16
+      places-same (λ h. monitorText (monitorAt (padded m) h)) (λ h. monitorText (monitorPlace h (find (m .mons) h))) mostMonitors
       (λ h b. ap monitorText (monitor-at h b))
       ∙ places-each (λ h o. monitorText (monitorPlace h o)) place-none (m .mons) (f .mons-sound)
       ∙ each-same (λ (x : ℕ × Monitor). SoundMonitor (x .1)) (λ x. monitorText (monitorPlace (x .0) (some (x .1))))
@@ -169,13 +171,13 @@ module _ (m : Model) (e : soundModel m ≡ true) where
   unfolding only
   count-some x g = rw (inUse-some (x .0) (x .1) g)
 
-  live-image : length (liveBelow (padded m) 16) ≡ length (m .mons)
+  live-image : length (liveBelow (padded m) mostMonitors) ≡ length (m .mons)
   unfolding liveBelow
   live-image =
       let f : SoundModel m = sound-facts m e in
       ap (λ (l : List ℕ). length l) (
       places-same (λ h. only (inUse (monitorAt (padded m) h)) h)
-      (λ h. only (inUse (monitorPlace h (find (m .mons) h))) h) 16
+      (λ h. only (inUse (monitorPlace h (find (m .mons) h))) h) mostMonitors
       (λ h b. ap (λ (r : List ℕ). only (inUse r) h) (monitor-at h b))
       ∙ places-each (λ h o. only (inUse (monitorPlace h o)) h) count-none (m .mons) (f .mons-sound))
       ∙ length-ones (λ (x : ℕ × Monitor). SoundMonitor (x .1))
@@ -184,19 +186,19 @@ module _ (m : Model) (e : soundModel m ≡ true) where
 
 -- A2: the line of a pair
 
-pair-count : (q : Pair) → length (q .address) ≡ 6 → getD (padTo 56 (pairRow q)) 24 0 ≡ length (q .adv)
+pair-count : (q : Pair) → length (q .address) ≡ 6 → getD (padTo pairSize (pairRow q)) lengthAt 0 ≡ length (q .adv)
 unfolding padTo pairRow octetsOf
 pair-count q h =
     let w : List ℕ = q .handle ∷ q .kind ∷ q .address in
     ap (λ (l : List ℕ). getD (q .handle ∷ q .kind ∷ l) 24 0) (append-assoc (q .address) _ _)
     ∙ getD-past w _ 8 (omega arith) 16
 
-pair-line : (q : Pair) → Fits q → pairText (padTo 56 (pairRow q)) ≡ textOf (0xA2 ∷ pairRow q)
+pair-line : (q : Pair) → Fits q → pairText (padTo pairSize (pairRow q)) ≡ textOf (0xA2 ∷ pairRow q)
 unfolding pairText padTo
 pair-line q f =
-    rw (pair-count q (f .address-length), at-most-is (length (q .adv)) 31 (f .adv-most))
+    rw (pair-count q (f .address-length), at-most-is (length (q .adv)) mostData (f .adv-most))
     (ap (λ (r : List ℕ). textOf (0xA2 ∷ r))
-    (take-at (pairRow q) (replicate (56 - length (pairRow q)) 0) (25 + length (q .adv))
+    (take-at (pairRow q) (replicate (pairSize - length (pairRow q)) 0) (dataAt + length (q .adv))
     (length-pairRow q (f .address-length))))
 
 all-at : (l : List Pair) → All Fits l → (i : ℕ) (d : Pair) → i < length l → Fits (getD l i d)
@@ -222,7 +224,7 @@ module _ (m : Model) (f : Measured m) where
 
   pairs-in : pairsIn (padded m) ≡ length (m .pairs)
   unfolding pairsIn
-  pairs-in = rw (getD-count m f) (at-most-is (length (m .pairs)) 64 (f .pairs-most))
+  pairs-in = rw (getD-count m f) (at-most-is (length (m .pairs)) mostPairs (f .pairs-most))
 
   pairs-image : pairsText (padded m) (pairsIn (padded m))
       ≡ each textOf (map (λ (q : Pair). 0xA2 ∷ pairRow q) (m .pairs))
@@ -257,11 +259,11 @@ pub saves-model : (m : Model) (s out : List ℕ) {after : List ℕ} {n : ℕ} �
     → n ≡ pick (saves s (length out)) (length (savedText s)) 0
     → after ≡ putIf (saves s (length out)) out 0 (savedText s)
     → (n ≡ length (imageText m)) × (after ≡ put out 0 (imageText m))
-unfolding saves saveRoom putIf pick
+unfolding saves putIf pick
 saves-model m s out {after} {n} h e r p q =
-    let t : (eqb (length s) 4761) ≡ true = eq-eqb (length s) 4761
+    let t : (eqb (length s) blockSize) ≡ true = eq-eqb (length s) blockSize
     (ap (λ (l : List ℕ). length l) e ∙ padded-length m h) in
-    let u : leb 9770 (length out) ≡ true = le-leb 9770 (length out) r in
+    let u : leb saveRoom (length out) ≡ true = le-leb saveRoom (length out) r in
     let v : savedText s ≡ imageText m = ap savedText e ∙ saved-image m h in
     (rw (t, u, v) at p, rw (t, u, v) at q)
 

@@ -17,9 +17,12 @@ use Rattle.laws.specs.Rows.{row, getD-row}
 use Rattle.lines.specs.Hex.{lf, digit, hexOf, textOf}
 use Rattle.lines.specs.Texts.{length-text}
 use Rattle.model.specs.Block.{inUse}
-use Rattle.save.specs.Text.{atMost, monitorText, monitorAt, pairAt, pairText}
+use Rattle.octets.specs.Numbers.{atMost}
+use Rattle.save.specs.Text.{monitorText, monitorAt, pairAt, pairText}
 use Rattle.save.specs.Text.{liveBelow, monitorsText, pairsText, headText, endText}
 use Rattle.save.specs.Text.{savedText, saves, pairsIn}
+use Rattle.sessions.specs.Machine.{saveRoom}
+use Rattle.model.specs.Layout.{blockSize, conditionAt, conditionLengthAt, countAt, headSize, intervalAt, lengthAt, monitorSize, monitorsAt, mostCondition, mostData, mostMonitors, mostPairs, mostPrefix, pairSize, pairsAt, prefixLengthAt}
 
 -- what is put over a shorter part that was put there stands alone
 pub put-again : (xs : List ℕ) (at : ℕ) (ys zs : List ℕ) → at ≤ length xs → length ys ≤ length zs
@@ -54,52 +57,52 @@ line-length at name r =
     omega arith
 
 -- rows are parts of the block
-pub part-monitor : (s : List ℕ) (h : ℕ) → take (40 + 71 * h + 71 - (40 + 71 * h)) (drop (40 + 71 * h) s) ≡ monitorAt s h
+pub part-monitor : (s : List ℕ) (h : ℕ) → take (monitorsAt + monitorSize * h + monitorSize - (monitorsAt + monitorSize * h)) (drop (monitorsAt + monitorSize * h) s) ≡ monitorAt s h
 unfolding monitorAt row
 part-monitor s h =
-    let e : 40 + 71 * h + 71 - (40 + 71 * h) ≡ 71 = omega arith in
-    rw (e, drop-drop (71 * h) 40 s)
+    let e : monitorsAt + monitorSize * h + monitorSize - (monitorsAt + monitorSize * h) ≡ monitorSize = omega arith in
+    rw (e, drop-drop (monitorSize * h) headSize s)
 
-pub part-pair : (s : List ℕ) (i : ℕ) → take (1176 + 56 * i + 56 - (1176 + 56 * i)) (drop (1176 + 56 * i) s) ≡ pairAt s i
+pub part-pair : (s : List ℕ) (i : ℕ) → take (pairsAt + pairSize * i + pairSize - (pairsAt + pairSize * i)) (drop (pairsAt + pairSize * i) s) ≡ pairAt s i
 unfolding pairAt row
 part-pair s i =
-    let e : 1176 + 56 * i + 56 - (1176 + 56 * i) ≡ 56 = omega arith in
-    rw (e, drop-drop (56 * i) 1176 s)
+    let e : pairsAt + pairSize * i + pairSize - (pairsAt + pairSize * i) ≡ pairSize = omega arith in
+    rw (e, drop-drop (pairSize * i) pairsAt s)
 
 -- a line of what is used of a row is the line of the row
 module _ (xs r : List ℕ) (at : ℕ) {n k : ℕ} {l : List ℕ} where
-  pub head-put : n ≡ atMost (getD r 7 0) 32
+  pub head-put : n ≡ atMost (getD r prefixLengthAt 0) mostPrefix
       → (k ≡ 0 + length (textOf (0xA0 ∷ take (8 + n) r))) × (l ≡ put xs 0 (textOf (0xA0 ∷ take (8 + n) r)))
       → (k ≡ length (headText r)) × (l ≡ put xs 0 (headText r))
   unfolding headText
   head-put e p = let q = rw e at p in (
     q .0
-        ∙ zero-add (length (textOf (0xA0 ∷ take (8 + atMost (getD r 7 0) 32) r))),
+        ∙ zero-add (length (textOf (0xA0 ∷ take (8 + atMost (getD r prefixLengthAt 0) mostPrefix) r))),
     q .1,
   )
 
-  pub pair-put : n ≡ atMost (getD r 24 0) 31
+  pub pair-put : n ≡ atMost (getD r lengthAt 0) mostData
       → (k ≡ at + length (textOf (0xA2 ∷ take (25 + n) r))) × (l ≡ put xs at (textOf (0xA2 ∷ take (25 + n) r)))
       → (k ≡ at + length (pairText r)) × (l ≡ put xs at (pairText r))
   unfolding pairText
   pair-put e p = rw e at p
 
-  pub used-put : (getD r 3 0 ≡ 0 → ⊥) → n ≡ atMost (getD r 6 0) 64
+  pub used-put : (getD r intervalAt 0 ≡ 0 → ⊥) → n ≡ atMost (getD r conditionLengthAt 0) mostCondition
       → (k ≡ at + length (textOf (0xA1 ∷ take (7 + n) r))) × (l ≡ put xs at (textOf (0xA1 ∷ take (7 + n) r)))
       → (k ≡ at + length (monitorText r)) × (l ≡ put xs at (monitorText r))
   unfolding monitorText inUse
   used-put h e p =
-      let w : when (not (eqb (getD r 3 0) 0)) (textOf (0xA1 ∷ take (7 + atMost (getD r 6 0) 64) r))
-      ≡ textOf (0xA1 ∷ take (7 + atMost (getD r 6 0) 64) r) =
-      when-true _ (ap not (ne-eqb (getD r 3 0) 0 h)) in
+      let w : when (not (eqb (getD r intervalAt 0) 0)) (textOf (0xA1 ∷ take (conditionAt + atMost (getD r conditionLengthAt 0) mostCondition) r))
+      ≡ textOf (0xA1 ∷ take (conditionAt + atMost (getD r conditionLengthAt 0) mostCondition) r) =
+      when-true _ (ap not (ne-eqb (getD r intervalAt 0) 0 h)) in
       rw w (rw e at p)
 
-pub unused-put : (xs r : List ℕ) (at : ℕ) → getD r 3 0 ≡ 0 → (at ≡ at + length (monitorText r))
+pub unused-put : (xs r : List ℕ) (at : ℕ) → getD r intervalAt 0 ≡ 0 → (at ≡ at + length (monitorText r))
     × (xs ≡ put xs at (monitorText r))
 unfolding monitorText inUse
 unused-put xs r at h =
-    let e : when (not (eqb (getD r 3 0) 0)) (textOf (0xA1 ∷ take (7 + atMost (getD r 6 0) 64) r)) ≡ [] =
-    when-false _ (ap not (eq-eqb (getD r 3 0) 0 h)) in
+    let e : when (not (eqb (getD r intervalAt 0) 0)) (textOf (0xA1 ∷ take (conditionAt + atMost (getD r conditionLengthAt 0) mostCondition) r)) ≡ [] =
+    when-false _ (ap not (eq-eqb (getD r intervalAt 0) 0 h)) in
     rw e (omega arith, sym (put-nil xs at))
 
 -- one place more, written behind those before it
@@ -143,15 +146,15 @@ unfolding pick only
 one-used true j = refl
 one-used false j = refl
 
-used-at : (s : List ℕ) (h : ℕ) → pick (eqb (getD s (40 + 71 * h + 3) 0) 0) 0 1 ≡ length (only (inUse (monitorAt s h)) h)
+used-at : (s : List ℕ) (h : ℕ) → pick (eqb (getD s (monitorsAt + monitorSize * h + 3) 0) 0) 0 1 ≡ length (only (inUse (monitorAt s h)) h)
 unfolding inUse monitorAt
 used-at s h =
-    let i : 40 + (71 * h + 3) ≡ 40 + 71 * h + 3 = omega arith in
-    rw (getD-row 71 h 3 (drop 40 s) 0 (omega arith), getD-drop 40 s (71 * h + 3) 0, i)
-    (one-used (eqb (getD s (40 + 71 * h + 3) 0) 0) h)
+    let i : monitorsAt + (monitorSize * h + 3) ≡ monitorsAt + monitorSize * h + 3 = omega arith in
+    rw (getD-row monitorSize h 3 (drop monitorsAt s) 0 (omega arith), getD-drop headSize s (monitorSize * h + 3) 0, i)
+    (one-used (eqb (getD s (monitorsAt + monitorSize * h + 3) 0) 0) h)
 
 pub live-turn : (s : List ℕ) (h : ℕ) {n w : ℕ} → n ≡ length (liveBelow s h)
-    → w ≡ pick (eqb (getD s (40 + 71 * h + 3) 0) 0) 0 1 → n + w ≡ length (liveBelow s (h + 1))
+    → w ≡ pick (eqb (getD s (monitorsAt + monitorSize * h + 3) 0) 0) 0 1 → n + w ≡ length (liveBelow s (h + 1))
 unfolding liveBelow
 live-turn s h {n} {w} p q =
     let f : ℕ → List ℕ = λ j. only (inUse (monitorAt s j)) j in
@@ -162,15 +165,15 @@ live-turn s h {n} {w} p q =
 -- the four parts, one behind another
 pub parts-put : (s xs : List ℕ) (u n : ℕ) {a b c d : ℕ} {k l m o : List ℕ}
     → a ≡ length (headText s) → k ≡ put xs 0 (headText s)
-    → b ≡ a + length (monitorsText s 16) → l ≡ put k a (monitorsText s 16)
+    → b ≡ a + length (monitorsText s mostMonitors) → l ≡ put k a (monitorsText s mostMonitors)
     → c ≡ b + length (pairsText s n) → m ≡ put l b (pairsText s n)
     → d ≡ c + length (endText u n) → o ≡ put m c (endText u n)
-    → u ≡ length (liveBelow s 16) → n ≡ atMost (getD s 4760 0) 64
+    → u ≡ length (liveBelow s mostMonitors) → n ≡ atMost (getD s countAt 0) mostPairs
     → (d ≡ length (savedText s)) × (o ≡ put xs 0 (savedText s))
 unfolding savedText pairsIn
 parts-put s xs u n {a} {b} {c} {d} {k} {l} {m} {o} pa pk pb pl pc pm pd po pu pn =
     let h = headText s in
-    let ms = monitorsText s 16 in
+    let ms = monitorsText s mostMonitors in
     let ps = pairsText s n in
     let z = endText u n in
     let e1 : length (h ++ ms) ≡ length h + length ms = length-append h ms in
@@ -182,14 +185,14 @@ parts-put s xs u n {a} {b} {c} {d} {k} {l} {m} {o} pa pk pb pl pc pm pd po pu pn
 
 -- whether save writes
 module _ (s : List ℕ) (room : ℕ) where
-  pub saves-not-block : (length s ≡ 4761 → ⊥) → saves s room ≡ false
+  pub saves-not-block : (length s ≡ blockSize → ⊥) → saves s room ≡ false
   unfolding saves
-  saves-not-block h = rw (ne-eqb (length s) 4761 h)
+  saves-not-block h = rw (ne-eqb (length s) blockSize h)
 
-  pub saves-short : room < 9770 → saves s room ≡ false
+  pub saves-short : room < saveRoom → saves s room ≡ false
   unfolding saves
-  saves-short h = and-not-right (eqb (length s) 4761) (leb 9770 room) (lt-leb 9770 room h)
+  saves-short h = and-not-right (eqb (length s) blockSize) (leb saveRoom room) (lt-leb saveRoom room h)
 
-  pub saves-done : length s ≡ 4761 → 9770 ≤ room → saves s room ≡ true
+  pub saves-done : length s ≡ blockSize → saveRoom ≤ room → saves s room ≡ true
   unfolding saves
-  saves-done h k = rw (eq-eqb (length s) 4761 h, le-leb 9770 room k)
+  saves-done h k = rw (eq-eqb (length s) blockSize h, le-leb saveRoom room k)

@@ -13,25 +13,25 @@ use lib.ListN.{length, take, drop, getD, length-append, length-take}
 use Rattle.laws.specs.Tests.{pick, cases-le}
 use Rattle.laws.specs.Loops.{when, only, upTo, length-upTo, length-when, length-only}
 use Rattle.laws.specs.Rows.{row}
+use Rattle.octets.specs.Numbers.{atMost, at-most}
 use Rattle.lines.specs.Hex.{textOf}
 use Rattle.lines.specs.Texts.{length-text}
 use Rattle.model.specs.Block.{inUse}
-
--- a length that stands in a row, cut to what the row has
-unfoldable pub atMost : ℕ → ℕ → ℕ
-atMost v n = pick (leb v n) v n
+use Rattle.model.specs.Layout.{headLine, monitorLine, pairLine}
+use Rattle.sessions.specs.Machine.{saveRoom}
+use Rattle.model.specs.Layout.{blockSize, conditionAt, conditionLengthAt, countAt, dataAt, headSize, lengthAt, monitorSize, monitorsAt, mostCondition, mostData, mostMonitors, mostPairs, mostPrefix, pairSize, pairsAt, prefixAt, prefixLengthAt}
 
 -- "A0 line: position (4), filter, opcode (2), prefix length, prefix", from the start of the block
 unfoldable pub headText : List ℕ → List ℕ
-headText s = textOf (0xA0 ∷ take (8 + atMost (getD s 7 0) 32) s)
+headText s = textOf (0xA0 ∷ take (prefixAt + atMost (getD s prefixLengthAt 0) mostPrefix) s)
 
 -- "A1 per monitor": the line of a monitor row in use, nothing of one that is not
 unfoldable pub monitorText : List ℕ → List ℕ
-monitorText r = when (inUse r) (textOf (0xA1 ∷ take (7 + atMost (getD r 6 0) 64) r))
+monitorText r = when (inUse r) (textOf (0xA1 ∷ take (conditionAt + atMost (getD r conditionLengthAt 0) mostCondition) r))
 
 -- "A2 per pair": the line of a pair row
 unfoldable pub pairText : List ℕ → List ℕ
-pairText r = textOf (0xA2 ∷ take (25 + atMost (getD r 24 0) 31) r)
+pairText r = textOf (0xA2 ∷ take (dataAt + atMost (getD r lengthAt 0) mostData) r)
 
 -- "AF: number of monitors, number of pairs"
 unfoldable pub endText : ℕ → ℕ → List ℕ
@@ -39,10 +39,10 @@ endText mons pairs = textOf (0xAF ∷ mons ∷ pairs ∷ [])
 
 -- the row of handle h, the row of pair i
 unfoldable pub monitorAt : List ℕ → ℕ → List ℕ
-monitorAt s h = row 71 h (drop 40 s)
+monitorAt s h = row monitorSize h (drop monitorsAt s)
 
 unfoldable pub pairAt : List ℕ → ℕ → List ℕ
-pairAt s i = row 56 i (drop 1176 s)
+pairAt s i = row pairSize i (drop pairsAt s)
 
 -- the handles below n whose rows are in use
 unfoldable pub liveBelow : List ℕ → ℕ → List ℕ
@@ -57,30 +57,18 @@ pairsText s n = upTo (λ i. pairText (pairAt s i)) n
 
 -- the number of pairs that a block holds
 unfoldable pub pairsIn : List ℕ → ℕ
-pairsIn s = atMost (getD s 4760 0) 64
+pairsIn s = atMost (getD s countAt 0) mostPairs
 
 -- the text of a block
 unfoldable pub savedText : List ℕ → List ℕ
 savedText s =
-    headText s ++ monitorsText s 16 ++ pairsText s (pairsIn s) ++ endText (length (liveBelow s 16)) (pairsIn s)
+    headText s ++ monitorsText s mostMonitors ++ pairsText s (pairsIn s) ++ endText (length (liveBelow s mostMonitors)) (pairsIn s)
 
 -- whether save writes: the block has its size, and 9,770 octets are lent
 unfoldable pub saves : List ℕ → ℕ → Bool
-saves s room = eqb (length s) 4761 && leb 9770 room
+saves s room = eqb (length s) blockSize && leb saveRoom room
 
 -- lengths
-
-pub at-most : (v n : ℕ) → atMost v n ≤ n
-unfolding atMost pick
-at-most v n = cases-le v n (λ h. rw (le-leb v n h) (omega arith)) (λ h. rw (lt-leb v n h) (omega arith))
-
-pub at-is : (v n : ℕ) → v ≤ n → v ≡ atMost v n
-unfolding atMost pick
-at-is v n h = rw (le-leb v n h)
-
-pub at-over : (v n : ℕ) → n < v → n ≡ atMost v n
-unfolding atMost pick
-at-over v n h = rw (lt-leb v n h)
 
 -- a line of at most n octets of a row, with the octet that names it
 pub length-line : (name n k : ℕ) (r : List ℕ) → k ≤ n → length (textOf (name ∷ take k r)) ≤ 2 * n + 3
@@ -89,35 +77,35 @@ length-line name n k r h =
     let e : length (textOf (name ∷ take k r)) ≡ 2 * length (name ∷ take k r) + 1 = length-text (name ∷ take k r) in
     omega arith
 
-pub length-headText : (s : List ℕ) → length (headText s) ≤ 83
+pub length-headText : (s : List ℕ) → length (headText s) ≤ headLine
 unfolding headText
 length-headText s =
-    length-line 0xA0 40 (8 + atMost (getD s 7 0) 32) s (omega (arith, at-most (getD s 7 0) 32))
+    length-line 0xA0 headSize (prefixAt + atMost (getD s prefixLengthAt 0) mostPrefix) s (omega (arith, at-most (getD s prefixLengthAt 0) mostPrefix))
 
-pub length-monitorText : (r : List ℕ) → length (monitorText r) ≤ 145
+pub length-monitorText : (r : List ℕ) → length (monitorText r) ≤ monitorLine
 unfolding monitorText
 length-monitorText r =
-    let l = textOf (0xA1 ∷ take (7 + atMost (getD r 6 0) 64) r) in
-    let n : length l ≤ 145 = length-line 0xA1 71 (7 + atMost (getD r 6 0) 64) r
-    (omega (arith, at-most (getD r 6 0) 64)) in
+    let l = textOf (0xA1 ∷ take (conditionAt + atMost (getD r conditionLengthAt 0) mostCondition) r) in
+    let n : length l ≤ monitorLine = length-line 0xA1 (conditionAt + mostCondition) (conditionAt + atMost (getD r conditionLengthAt 0) mostCondition) r
+    (omega (arith, at-most (getD r conditionLengthAt 0) mostCondition)) in
     omega (arith, length-when (inUse r) l)
 
-pub length-pairText : (r : List ℕ) → length (pairText r) ≤ 115
+pub length-pairText : (r : List ℕ) → length (pairText r) ≤ pairLine
 unfolding pairText
 length-pairText r =
-    length-line 0xA2 56 (25 + atMost (getD r 24 0) 31) r (omega (arith, at-most (getD r 24 0) 31))
+    length-line 0xA2 (dataAt + mostData) (dataAt + atMost (getD r lengthAt 0) mostData) r (omega (arith, at-most (getD r lengthAt 0) mostData))
 
 pub length-endText : (u c : ℕ) → length (endText u c) ≡ 7
 unfolding endText
 length-endText u c = length-text (0xAF ∷ u ∷ c ∷ [])
 
-pub length-monitorsText : (s : List ℕ) (n : ℕ) → length (monitorsText s n) ≤ 145 * n
+pub length-monitorsText : (s : List ℕ) (n : ℕ) → length (monitorsText s n) ≤ monitorLine * n
 unfolding monitorsText
-length-monitorsText s n = length-upTo (λ h. monitorText (monitorAt s h)) 145 (λ h. length-monitorText (monitorAt s h)) n
+length-monitorsText s n = length-upTo (λ h. monitorText (monitorAt s h)) monitorLine (λ h. length-monitorText (monitorAt s h)) n
 
-pub length-pairsText : (s : List ℕ) (n : ℕ) → length (pairsText s n) ≤ 115 * n
+pub length-pairsText : (s : List ℕ) (n : ℕ) → length (pairsText s n) ≤ pairLine * n
 unfolding pairsText
-length-pairsText s n = length-upTo (λ i. pairText (pairAt s i)) 115 (λ i. length-pairText (pairAt s i)) n
+length-pairsText s n = length-upTo (λ i. pairText (pairAt s i)) pairLine (λ i. length-pairText (pairAt s i)) n
 
 pub length-liveBelow : (s : List ℕ) (n : ℕ) → length (liveBelow s n) ≤ n
 unfolding liveBelow
@@ -125,14 +113,14 @@ length-liveBelow s n =
     let b = length-upTo (λ h. only (inUse (monitorAt s h)) h) 1 (λ h. length-only (inUse (monitorAt s h)) h) n in
     omega (arith, b)
 
-pub pairs-most : (s : List ℕ) → pairsIn s ≤ 64
+pub pairs-most : (s : List ℕ) → pairsIn s ≤ mostPairs
 unfolding pairsIn
-pairs-most s = at-most (getD s 4760 0) 64
+pairs-most s = at-most (getD s countAt 0) mostPairs
 
 -- "image 9,770": no block has a longer text
-pub length-savedText : (s : List ℕ) → length (savedText s) ≤ 9770
+pub length-savedText : (s : List ℕ) → length (savedText s) ≤ saveRoom
 unfolding savedText
 length-savedText s =
-    let e = length-endText (length (liveBelow s 16)) (pairsIn s) in
+    let e = length-endText (length (liveBelow s mostMonitors)) (pairsIn s) in
     simp length-append
-    (omega (arith, length-headText s, length-monitorsText s 16, length-pairsText s (pairsIn s), pairs-most s))
+    (omega (arith, length-headText s, length-monitorsText s mostMonitors, length-pairsText s (pairsIn s), pairs-most s))

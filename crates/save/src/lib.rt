@@ -17,18 +17,9 @@ ghost use Rattle.model.specs.Types.{Model};
 ghost use Rattle.model.specs.Sound.{soundModel};
 ghost use Rattle.model.specs.Image.{imageText};
 ghost use Rattle.model.specs.Block.{padded};
-ghost use Rattle.save.specs.Text.{atMost, headText, monitorText, pairText, endText, liveBelow, monitorsText, pairsText, savedText, saves};
-
-// A length that stands in a row, cut to what the row has.
-fn at_most(v: u8, n: usize) -> usize
-    ensures { λ r. ⌜ (r ≡ atMost v n) × (r ≤ n) ⌝ }
-{
-    let k = v as usize;
-    if k <= n {
-        return k;
-    }
-    n
-}
+ghost use Rattle.save.specs.Text.{headText, monitorText, pairText, endText, liveBelow, monitorsText, pairsText, savedText, saves};
+ghost use Rattle.model.specs.Layout.{headLine, monitorLine, monitorLines, pairLine, pairLines};
+ghost use Rattle.model.specs.Layout.{blockSize, monitorSize, mostMonitors, mostPairs, pairSize};
 
 // A line: the octet that names it, then a row, in hexadecimal with the LF. The row's text takes the place of the
 // name's LF.
@@ -43,29 +34,29 @@ fn put_line(out: &mut [u8], at: usize, name: u8, row: &[u8]) -> usize
 }
 
 fn put_head(s: &[u8], out: &mut [u8]) -> usize
-    requires { ⌜ (length (now s) ≡ 4761) × (83 ≤ length (now out)) ⌝ }
+    requires { ⌜ (length (now s) ≡ blockSize) × (headLine ≤ length (now out)) ⌝ }
     ensures { λ r. ⌜ (r ≡ length (headText (now (s .entry)))) × (now (out .exit) ≡ put (now (out .entry)) 0 (headText (now (s .entry)))) ⌝ }
 {
-    let n = at_most(s[State::PREFIX_LENGTH_AT], State::PREFIX);
+    let n = octets::at_most(s[State::PREFIX_LENGTH_AT], State::PREFIX);
     let end = State::PREFIX_AT + n;
     put_line(out, 0, 0xA0, &s[..end])
 }
 
 fn put_monitor(out: &mut [u8], at: usize, row: &[u8]) -> usize
-    requires { ⌜ (length (now row) ≡ 71) × (at + 145 ≤ length (now out)) ⌝ }
+    requires { ⌜ (length (now row) ≡ monitorSize) × (at + monitorLine ≤ length (now out)) ⌝ }
     ensures { λ r. ⌜ (r ≡ at + length (monitorText (now (row .entry)))) × (now (out .exit) ≡ put (now (out .entry)) at (monitorText (now (row .entry)))) ⌝ }
 {
-    if row[3] == 0 {
+    if row[State::INTERVAL_AT] == 0 {
         return at;
     }
-    let n = at_most(row[6], State::CONDITION);
-    let end = 7 + n;
+    let n = octets::at_most(row[State::CONDITION_LENGTH_AT], State::CONDITION);
+    let end = State::CONDITION_AT + n;
     put_line(out, at, 0xA1, &row[..end])
 }
 
 fn put_monitors(s: &[u8], out: &mut [u8], at: usize) -> usize
-    requires { ⌜ (length (now s) ≡ 4761) × (at + 2320 ≤ length (now out)) ⌝ }
-    ensures { λ r. ⌜ (r ≡ at + length (monitorsText (now (s .entry)) 16)) × (now (out .exit) ≡ put (now (out .entry)) at (monitorsText (now (s .entry)) 16)) ⌝ }
+    requires { ⌜ (length (now s) ≡ blockSize) × (at + monitorLines ≤ length (now out)) ⌝ }
+    ensures { λ r. ⌜ (r ≡ at + length (monitorsText (now (s .entry)) mostMonitors)) × (now (out .exit) ≡ put (now (out .entry)) at (monitorsText (now (s .entry)) mostMonitors)) ⌝ }
 {
     let mut next = at;
     let mut h = 0;
@@ -79,16 +70,16 @@ fn put_monitors(s: &[u8], out: &mut [u8], at: usize) -> usize
 }
 
 fn put_pair(out: &mut [u8], at: usize, row: &[u8]) -> usize
-    requires { ⌜ (length (now row) ≡ 56) × (at + 115 ≤ length (now out)) ⌝ }
+    requires { ⌜ (length (now row) ≡ pairSize) × (at + pairLine ≤ length (now out)) ⌝ }
     ensures { λ r. ⌜ (r ≡ at + length (pairText (now (row .entry)))) × (now (out .exit) ≡ put (now (out .entry)) at (pairText (now (row .entry)))) ⌝ }
 {
-    let n = at_most(row[24], State::DATA);
-    let end = 25 + n;
+    let n = octets::at_most(row[State::LENGTH_AT], State::DATA);
+    let end = State::DATA_AT + n;
     put_line(out, at, 0xA2, &row[..end])
 }
 
 fn put_pairs(s: &[u8], out: &mut [u8], at: usize, n: usize) -> usize
-    requires { ⌜ (length (now s) ≡ 4761) × (n ≤ 64) × (at + 7360 ≤ length (now out)) ⌝ }
+    requires { ⌜ (length (now s) ≡ blockSize) × (n ≤ mostPairs) × (at + pairLines ≤ length (now out)) ⌝ }
     ensures { λ r. ⌜ (r ≡ at + length (pairsText (now (s .entry)) n)) × (now (out .exit) ≡ put (now (out .entry)) at (pairsText (now (s .entry)) n)) ⌝ }
 {
     let mut next = at;
@@ -113,20 +104,20 @@ fn one_if(interval: u8) -> usize
 }
 
 fn live_in(s: &[u8]) -> usize
-    requires { ⌜ length (now s) ≡ 4761 ⌝ }
-    ensures { λ r. ⌜ (r ≡ length (liveBelow (now (s .entry)) 16)) × (r ≤ 16) ⌝ }
+    requires { ⌜ length (now s) ≡ blockSize ⌝ }
+    ensures { λ r. ⌜ (r ≡ length (liveBelow (now (s .entry)) mostMonitors)) × (r ≤ mostMonitors) ⌝ }
 {
     let mut n = 0;
     let mut h = 0;
     while h < State::MONITORS {
-        n += one_if(s[State::MONITORS_AT + State::MONITOR_ROW * h + 3]);
+        n += one_if(s[State::MONITORS_AT + State::MONITOR_ROW * h + State::INTERVAL_AT]);
         h += 1;
     }
     n
 }
 
 fn put_end(out: &mut [u8], at: usize, mons: usize, pairs: usize) -> usize
-    requires { ⌜ (at + 7 ≤ length (now out)) × (mons ≤ 16) × (pairs ≤ 64) ⌝ }
+    requires { ⌜ (at + 7 ≤ length (now out)) × (mons ≤ mostMonitors) × (pairs ≤ mostPairs) ⌝ }
     ensures { λ r. ⌜ (r ≡ at + length (endText mons pairs)) × (now (out .exit) ≡ put (now (out .entry)) at (endText mons pairs)) ⌝ }
 {
     let u = mons as u8;
@@ -136,10 +127,10 @@ fn put_end(out: &mut [u8], at: usize, mons: usize, pairs: usize) -> usize
 }
 
 fn put_image(s: &[u8], out: &mut [u8]) -> usize
-    requires { ⌜ (length (now s) ≡ 4761) × (9770 ≤ length (now out)) ⌝ }
+    requires { ⌜ (length (now s) ≡ blockSize) × (saveRoom ≤ length (now out)) ⌝ }
     ensures { λ r. ⌜ (r ≡ length (savedText (now (s .entry)))) × (now (out .exit) ≡ put (now (out .entry)) 0 (savedText (now (s .entry)))) ⌝ }
 {
-    let n = at_most(s[State::COUNT_AT], State::PAIRS);
+    let n = octets::at_most(s[State::COUNT_AT], State::PAIRS);
     let u = live_in(s);
     let a = put_head(s, out);
     let b = put_monitors(s, out, a);

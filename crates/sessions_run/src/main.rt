@@ -102,7 +102,7 @@ fn go_on(t: Tally, text: &[u8], out: &[u8], taken: usize, wrote: usize, number: 
 }
 
 // One call of replay over what is left of the journal.
-fn turn(block: &mut [u8; 4761], text: &[u8], out: &mut [u8], t: Tally) -> Tally {
+fn turn(block: &mut [u8; State::SIZE], text: &[u8], out: &mut [u8], t: Tally) -> Tally {
     let at = t.at;
     if text.len() < at {
         return broken();
@@ -116,7 +116,7 @@ fn turn(block: &mut [u8; 4761], text: &[u8], out: &mut [u8], t: Tally) -> Tally 
 }
 
 // Calls of replay until one comes to the end or is refused. No journal here has as many lines as turns are counted.
-fn replay_turns(block: &mut [u8; 4761], text: &[u8], out: &mut [u8]) -> Tally {
+fn replay_turns(block: &mut [u8; State::SIZE], text: &[u8], out: &mut [u8]) -> Tally {
     let mut t = Tally {
         digest: 0,
         count: 0,
@@ -142,7 +142,7 @@ fn show(digest: u64, count: u64, number: u8) {
 }
 
 // Saves the image, and writes the session's line.
-fn finish(block: &[u8; 4761], t: Tally) {
+fn finish(block: &[u8; State::SIZE], t: Tally) {
     let mut text = [0u8; IMAGE_ROOM];
     let saved = engine::save(block, &mut text);
     match saved {

@@ -17,47 +17,49 @@ use Rattle.model.specs.Image.{monitorIn, pairIn}
 use Rattle.model.specs.Monitors.{accepts}
 use Rattle.model.specs.Sound.{soundOf}
 use Rattle.soundness.specs.Below.{allBelow}
+use Rattle.model.specs.Layout.{blockSize, conditionAt, conditionLengthAt, countAt, dataAt, filterAt, handleAt, headSize, intervalAt, lengthAt, monitorSize, monitorsAt, mostCondition, mostData, mostMonitors, mostPairs, mostPrefix, opcodeAt, pairSize, pairsAt, positionAt, prefixAt, prefixLengthAt, samplingAt, typeAt}
 
 -- the monitor row of a handle, the pair row at a place
 unfoldable pub monitorRowAt : List ℕ → ℕ → List ℕ
-monitorRowAt s h = row 71 h (drop 40 s)
+monitorRowAt s h = row monitorSize h (drop monitorsAt s)
 
 unfoldable pub pairRowAt : List ℕ → ℕ → List ℕ
-pairRowAt s i = row 56 i (drop 1176 s)
+pairRowAt s i = row pairSize i (drop pairsAt s)
 
 -- "settings in range, filter 0 or 1", the octets behind the prefix 0
 unfoldable pub headTest : List ℕ → Bool
 headTest r =
-    leb (getD r 4 0) 1 && leb 0xFC00 (little 2 r 5) && leb (getD r 7 0) 32 && every isZero (drop (8 + getD r 7 0) r)
+    leb (getD r filterAt 0) 1 && leb 0xFC00 (little 2 r opcodeAt) && leb (getD r prefixLengthAt 0) mostPrefix
+    && every isZero (drop (prefixAt + getD r prefixLengthAt 0) r)
 
 -- the monitor that a row holds: one where its interval is not 0
 unfoldable pub monitorOfRow : List ℕ → Option Monitor
-monitorOfRow r = pick (eqb (getD r 3 0) 0) none (some (monitorIn r .1))
+monitorOfRow r = pick (eqb (getD r intervalAt 0) 0) none (some (monitorIn r .1))
 
 -- a row in use: its handle is its place, "every monitor as 0x03 would accept it", the octets behind the condition 0
 unfoldable pub heldTest : ℕ → List ℕ → Bool
 heldTest h r =
-    eqb (getD r 0 0) h && leb (getD r 6 0) 64 && every isZero (drop (7 + getD r 6 0) r) && accepts (monitorIn r .1)
+    eqb (getD r handleAt 0) h && leb (getD r conditionLengthAt 0) mostCondition && every isZero (drop (conditionAt + getD r conditionLengthAt 0) r) && accepts (monitorIn r .1)
 
 unfoldable pub monitorTest : ℕ → List ℕ → Bool
-monitorTest h r = pick (eqb (getD r 3 0) 0) (every isZero r) (heldTest h r)
+monitorTest h r = pick (eqb (getD r intervalAt 0) 0) (every isZero r) (heldTest h r)
 
 -- the monitor of a handle, where it is live
 unfoldable pub liveAt : List ℕ → ℕ → Option Monitor
-liveAt s h = pick (ltb h 16) (monitorOfRow (monitorRowAt s h)) none
+liveAt s h = pick (ltb h mostMonitors) (monitorOfRow (monitorRowAt s h)) none
 
 -- a pair's row: what soundness asks of a pair, and the octets behind its data 0
 unfoldable pub pairTest : ℕ → Option Monitor → List ℕ → Bool
 pairTest position o r =
-    soundOf position o (pairIn r) && leb (getD r 24 0) 31 && every isZero (drop (25 + getD r 24 0) r)
+    soundOf position o (pairIn r) && leb (getD r lengthAt 0) mostData && every isZero (drop (dataAt + getD r lengthAt 0) r)
 
 -- the pair at a place, with its monitor if its handle is live
 unfoldable pub placeTest : List ℕ → ℕ → Bool
-placeTest s i = pairTest (little 4 s 0) (liveAt s (getD (pairRowAt s i) 0 0)) (pairRowAt s i)
+placeTest s i = pairTest (little 4 s positionAt) (liveAt s (getD (pairRowAt s i) handleAt 0)) (pairRowAt s i)
 
 -- handle, address type and address of the pair at a place, as one number
 unfoldable pub keyAt : List ℕ → ℕ → ℕ
-keyAt s i = little 8 s (1176 + 56 * i)
+keyAt s i = little 8 s (pairsAt + pairSize * i)
 
 -- another pair than each one before it
 unfoldable pub otherTest : List ℕ → ℕ → Bool
@@ -69,14 +71,14 @@ heldPairTest s i = placeTest s i && otherTest s i
 
 -- the places behind the pairs
 unfoldable pub freeTest : List ℕ → ℕ → Bool
-freeTest s c = every isZero (take (4760 - (1176 + 56 * c)) (drop (1176 + 56 * c) s))
+freeTest s c = every isZero (take (countAt - (pairsAt + pairSize * c)) (drop (pairsAt + pairSize * c) s))
 
 -- the monitors, the pairs, and the whole block
 unfoldable pub monitorsTest : List ℕ → Bool
-monitorsTest s = allBelow (λ (h : ℕ). monitorTest h (monitorRowAt s h)) 16
+monitorsTest s = allBelow (λ (h : ℕ). monitorTest h (monitorRowAt s h)) mostMonitors
 
 unfoldable pub pairsTest : List ℕ → ℕ → Bool
-pairsTest s c = leb c 64 && freeTest s c && allBelow (heldPairTest s) c
+pairsTest s c = leb c mostPairs && freeTest s c && allBelow (heldPairTest s) c
 
 unfoldable pub soundBlock : List ℕ → Bool
-soundBlock s = eqb (length s) 4761 && headTest (take 40 s) && monitorsTest s && pairsTest s (getD s 4760 0)
+soundBlock s = eqb (length s) blockSize && headTest (take headSize s) && monitorsTest s && pairsTest s (getD s countAt 0)

@@ -24,6 +24,7 @@ use Rattle.soundness.specs.Below.{allBelow, below-more, below-fails}
 use Rattle.soundness.specs.Clauses.{monitorRowAt, headTest, heldTest, monitorTest}
 use Rattle.soundness.specs.Clauses.{monitorsTest}
 use Rattle.soundness.specs.Fields.{isGood, rangesTest, windowTest, emptyTest, fieldsTest, accepts-tests}
+use Rattle.model.specs.Layout.{blockSize, conditionAt, conditionLengthAt, eventAt, filterAt, headSize, highAt, intervalAt, lengthAt, lowAt, monitorSize, monitorsAt, mostCondition, mostData, mostMonitors, mostPrefix, opcodeAt, packetsAt, pairSize, prefixAt, prefixLengthAt, sumAt, ticksAt}
 
 -- parts of a slice: the rest, and a part before an end
 pub rest-of : {A : Type 0} (a : ℕ) (l : List A) → take (length l - a) (drop a l) ≡ drop a l
@@ -50,59 +51,59 @@ unfolding levels
 levels-down sum packets h a b = omega arith
 
 -- a monitor that passes
-pub row-accepts : (r : List ℕ) (n : ℕ) {b g : Bool} → length r ≡ 71 → n ≡ getD r 6 0 → n ≤ 64
-    → b ≡ rangesTest (getD r 1 0) (getD r 2 0) (getD r 3 0)
-    → g ≡ isGood (formOf (getD r 5 0) (take (7 + n - 7) (drop 7 r))) → (b && g) ≡ accepts (monitorIn r .1)
+pub row-accepts : (r : List ℕ) (n : ℕ) {b g : Bool} → length r ≡ monitorSize → n ≡ getD r conditionLengthAt 0 → n ≤ mostCondition
+    → b ≡ rangesTest (getD r highAt 0) (getD r lowAt 0) (getD r intervalAt 0)
+    → g ≡ isGood (formOf (getD r 5 0) (take (7 + n - 7) (drop conditionAt r))) → (b && g) ≡ accepts (monitorIn r .1)
 unfolding monitorIn
 row-accepts r n l e h p q =
-    let k : 7 + n - 7 ≡ getD r 6 0 = omega arith in
-    let c : length (take (getD r 6 0) (drop 7 r)) ≤ 64 = rw (length-take (getD r 6 0) (drop 7 r)) (omega arith) in
+    let k : 7 + n - 7 ≡ getD r conditionLengthAt 0 = omega arith in
+    let c : length (take (getD r conditionLengthAt 0) (drop conditionAt r)) ≤ mostCondition = rw (length-take (getD r conditionLengthAt 0) (drop conditionAt r)) (omega arith) in
     rw (p, q, k) (sym (accepts-tests (monitorIn r .1) c))
 
 -- a monitor row in use
 module _ (h : ℕ) (r : List ℕ) where
-  pub held-long : 64 < getD r 6 0 → false ≡ heldTest h r
+  pub held-long : mostCondition < getD r conditionLengthAt 0 → false ≡ heldTest h r
   unfolding heldTest
   held-long b =
-      sym (and-not-left (eqb (getD r 0 0) h && leb (getD r 6 0) 64 && every isZero (drop (7 + getD r 6 0) r))
+      sym (and-not-left (eqb (getD r 0 0) h && leb (getD r conditionLengthAt 0) mostCondition && every isZero (drop (conditionAt + getD r conditionLengthAt 0) r))
       (accepts (monitorIn r .1))
-      (and-not-left (eqb (getD r 0 0) h && leb (getD r 6 0) 64) (every isZero (drop (7 + getD r 6 0) r))
-      (and-not-right (eqb (getD r 0 0) h) (leb (getD r 6 0) 64) (lt-leb (getD r 6 0) 64 b))))
+      (and-not-left (eqb (getD r 0 0) h && leb (getD r conditionLengthAt 0) mostCondition) (every isZero (drop (conditionAt + getD r conditionLengthAt 0) r))
+      (and-not-right (eqb (getD r 0 0) h) (leb (getD r conditionLengthAt 0) mostCondition) (lt-leb (getD r conditionLengthAt 0) mostCondition b))))
 
-  pub held-short : (n k : ℕ) {z a : Bool} → k ≡ getD r 0 0 → n ≡ getD r 6 0 → n ≤ 64
+  pub held-short : (n k : ℕ) {z a : Bool} → k ≡ getD r 0 0 → n ≡ getD r conditionLengthAt 0 → n ≤ mostCondition
       → z ≡ every isZero (take (length r - (7 + n)) (drop (7 + n) r)) → a ≡ accepts (monitorIn r .1)
       → (eqb k h && z && a) ≡ heldTest h r
   unfolding heldTest
   held-short n k i e b p q =
-      rw (p, q, i, rest-of (7 + n) r, e, le-leb (getD r 6 0) 64 (rw (← e) b))
-      (go (eqb (getD r 0 0) h) (every isZero (drop (7 + getD r 6 0) r)) (accepts (monitorIn r .1)))
+      rw (p, q, i, rest-of (7 + n) r, e, le-leb (getD r conditionLengthAt 0) mostCondition (rw (← e) b))
+      (go (eqb (getD r 0 0) h) (every isZero (drop (conditionAt + getD r conditionLengthAt 0) r)) (accepts (monitorIn r .1)))
     where
       go : (x y w : Bool) → (x && y && w) ≡ (x && true && y && w)
       go true y w = refl
       go false y w = refl
 
-  pub monitor-empty : {b : Bool} → getD r 3 0 ≡ 0 → b ≡ every isZero r → b ≡ monitorTest h r
+  pub monitor-empty : {b : Bool} → getD r intervalAt 0 ≡ 0 → b ≡ every isZero r → b ≡ monitorTest h r
   unfolding monitorTest
-  monitor-empty e q = q ∙ sym (pick-true (every isZero r) (heldTest h r) (eq-eqb (getD r 3 0) 0 e))
+  monitor-empty e q = q ∙ sym (pick-true (every isZero r) (heldTest h r) (eq-eqb (getD r intervalAt 0) 0 e))
 
-  pub monitor-used : {b : Bool} → (getD r 3 0 ≡ 0 → ⊥) → b ≡ heldTest h r → b ≡ monitorTest h r
+  pub monitor-used : {b : Bool} → (getD r intervalAt 0 ≡ 0 → ⊥) → b ≡ heldTest h r → b ≡ monitorTest h r
   unfolding monitorTest
-  monitor-used e q = q ∙ sym (pick-false (every isZero r) (heldTest h r) (ne-eqb (getD r 3 0) 0 e))
+  monitor-used e q = q ∙ sym (pick-false (every isZero r) (heldTest h r) (ne-eqb (getD r intervalAt 0) 0 e))
 
 -- the monitors, one row after another
 module _ (s : List ℕ) where
-  part-monitor : (h : ℕ) → take (40 + 71 * h + 71 - (40 + 71 * h)) (drop (40 + 71 * h) s) ≡ monitorRowAt s h
+  part-monitor : (h : ℕ) → take (monitorsAt + monitorSize * h + monitorSize - (monitorsAt + monitorSize * h)) (drop (monitorsAt + monitorSize * h) s) ≡ monitorRowAt s h
   unfolding monitorRowAt row
   part-monitor h =
-      let k : 40 + 71 * h + 71 - (40 + 71 * h) ≡ 71 = omega arith in
-      ap (λ (j : ℕ). take j (drop (40 + 71 * h) s)) k ∙ ap (λ (x : List ℕ). take 71 x) (sym (drop-drop (71 * h) 40 s))
+      let k : monitorsAt + monitorSize * h + monitorSize - (monitorsAt + monitorSize * h) ≡ monitorSize = omega arith in
+      ap (λ (j : ℕ). take j (drop (monitorsAt + monitorSize * h) s)) k ∙ ap (λ (x : List ℕ). take monitorSize x) (sym (drop-drop (monitorSize * h) headSize s))
 
   module _ (h : ℕ) {b : Bool}
-      (q : b ≡ monitorTest h (take (40 + 71 * h + 71 - (40 + 71 * h)) (drop (40 + 71 * h) s))) where
-    pub monitors-stop : h < 16 → not b ≡ true → false ≡ monitorsTest s
+      (q : b ≡ monitorTest h (take (monitorsAt + monitorSize * h + monitorSize - (monitorsAt + monitorSize * h)) (drop (monitorsAt + monitorSize * h) s))) where
+    pub monitors-stop : h < mostMonitors → not b ≡ true → false ≡ monitorsTest s
     unfolding monitorsTest
     monitors-stop k t =
-        below-fails (λ (h : ℕ). monitorTest h (monitorRowAt s h)) 16 h k
+        below-fails (λ (h : ℕ). monitorTest h (monitorRowAt s h)) mostMonitors h k
         (sym (q ∙ ap (monitorTest h) (part-monitor h)) ∙ not-true b t)
 
     pub monitors-more : allBelow (λ (h : ℕ). monitorTest h (monitorRowAt s h)) h ≡ true → not b ≡ false
@@ -111,36 +112,36 @@ module _ (s : List ℕ) where
         below-more (λ (h : ℕ). monitorTest h (monitorRowAt s h)) h i
         (sym (q ∙ ap (monitorTest h) (part-monitor h)) ∙ not-false b t)
 
-  pub monitors-end : (h : ℕ) → allBelow (λ (h : ℕ). monitorTest h (monitorRowAt s h)) h ≡ true → h ≡ 16
+  pub monitors-end : (h : ℕ) → allBelow (λ (h : ℕ). monitorTest h (monitorRowAt s h)) h ≡ true → h ≡ mostMonitors
       → true ≡ monitorsTest s
   unfolding monitorsTest
   monitors-end h i e = sym (rw e at i)
 
 -- the settings, the filter and the octets behind the prefix
-module _ (s : List ℕ) (l : length s ≡ 4761) where
-  pub head-long : 32 < getD s 7 0 → false ≡ headTest (take 40 s)
+module _ (s : List ℕ) (l : length s ≡ blockSize) where
+  pub head-long : mostPrefix < getD s prefixLengthAt 0 → false ≡ headTest (take headSize s)
   unfolding headTest
   head-long b =
-      let r : List ℕ = take 40 s in
-      let e : getD r 7 0 ≡ getD s 7 0 = getD-take 40 s 7 0 (omega arith) in
-      sym (and-not-left (leb (getD r 4 0) 1 && leb 0xFC00 (little 2 r 5) && leb (getD r 7 0) 32)
-      (every isZero (drop (8 + getD r 7 0) r))
-      (and-not-right (leb (getD r 4 0) 1 && leb 0xFC00 (little 2 r 5)) (leb (getD r 7 0) 32)
-      (lt-leb (getD r 7 0) 32 (rw e b))))
+      let r : List ℕ = take headSize s in
+      let e : getD r prefixLengthAt 0 ≡ getD s prefixLengthAt 0 = getD-take headSize s 7 0 (omega arith) in
+      sym (and-not-left (leb (getD r filterAt 0) 1 && leb 0xFC00 (little 2 r opcodeAt) && leb (getD r prefixLengthAt 0) mostPrefix)
+      (every isZero (drop (prefixAt + getD r prefixLengthAt 0) r))
+      (and-not-right (leb (getD r filterAt 0) 1 && leb 0xFC00 (little 2 r opcodeAt)) (leb (getD r prefixLengthAt 0) mostPrefix)
+      (lt-leb (getD r prefixLengthAt 0) mostPrefix (rw e b))))
 
-  pub head-short : (n : ℕ) {z : Bool} {v : ℕ} → n ≡ getD s 7 0 → n ≤ 32
-      → z ≡ every isZero (take (40 - (8 + n)) (drop (8 + n) s)) → v ≡ numberAt 2 s 5
-      → (leb (getD s 4 0) 1 && leb 0xFC00 v && z) ≡ headTest (take 40 s)
+  pub head-short : (n : ℕ) {z : Bool} {v : ℕ} → n ≡ getD s prefixLengthAt 0 → n ≤ mostPrefix
+      → z ≡ every isZero (take (headSize - (8 + n)) (drop (8 + n) s)) → v ≡ numberAt 2 s opcodeAt
+      → (leb (getD s filterAt 0) 1 && leb 0xFC00 v && z) ≡ headTest (take headSize s)
   unfolding headTest
   head-short n {z} {v} e b p q =
-      let r : List ℕ = take 40 s in
-      let c : getD r 7 0 ≡ n = getD-take 40 s 7 0 (omega arith) ∙ sym e in
-      let f : getD r 4 0 ≡ getD s 4 0 = getD-take 40 s 4 0 (omega arith) in
-      let o : little 2 r 5 ≡ v = little-take 2 40 s 5 (omega arith) ∙ sym (number-of 2 s 5 q (omega arith)) in
+      let r : List ℕ = take headSize s in
+      let c : getD r prefixLengthAt 0 ≡ n = getD-take headSize s 7 0 (omega arith) ∙ sym e in
+      let f : getD r filterAt 0 ≡ getD s filterAt 0 = getD-take headSize s 4 0 (omega arith) in
+      let o : little 2 r opcodeAt ≡ v = little-take 2 headSize s 5 (omega arith) ∙ sym (number-of 2 s 5 q (omega arith)) in
       let d : z ≡ every isZero (drop (8 + n) r) =
-      p ∙ ap (every isZero) (part-of (8 + n) 40 s (omega arith) (omega arith)) in
-      rw (c, f, o, d, le-leb n 32 b)
-      (go (leb (getD s 4 0) 1 && leb 0xFC00 v) (every isZero (drop (8 + n) r)))
+      p ∙ ap (every isZero) (part-of (8 + n) headSize s (omega arith) (omega arith)) in
+      rw (c, f, o, d, le-leb n mostPrefix b)
+      (go (leb (getD s filterAt 0) 1 && leb 0xFC00 v) (every isZero (drop (8 + n) r)))
     where
       go : (x y : Bool) → (x && y) ≡ (x && true && y)
       go true y = refl
@@ -161,18 +162,18 @@ module _ (position sampling ticks packets sum : ℕ) where
 
 -- a pair's row by its numbers
 module _ (position interval sampling : ℕ) (r : List ℕ) where
-  pub fields-long : 31 < getD r 24 0 → false ≡ fieldsTest position interval sampling r
+  pub fields-long : mostData < getD r lengthAt 0 → false ≡ fieldsTest position interval sampling r
   unfolding fieldsTest
-  fields-long h = rw (lt-leb (getD r 24 0) 31 h)
+  fields-long h = rw (lt-leb (getD r lengthAt 0) mostData h)
 
-  pub fields-short : (n : ℕ) {z w e : Bool} {v t p u : ℕ} → length r ≡ 56 → n ≡ getD r 24 0 → n ≤ 31
+  pub fields-short : (n : ℕ) {z w e : Bool} {v t p u : ℕ} → length r ≡ pairSize → n ≡ getD r lengthAt 0 → n ≤ mostData
       → z ≡ every isZero (take (length r - (25 + n)) (drop (25 + n) r))
-      → v ≡ numberAt 2 r 8 → t ≡ ticksOf interval → p ≡ numberAt 4 r 11 → u ≡ numberAt 8 r 15
-      → w ≡ windowTest position sampling (getD r 10 0) p u → e ≡ emptyTest p u (getD r 23 0) (getD r 24 0)
-      → (leb (getD r 1 0) 1 && leb (getD r 23 0) 3 && ltb v t && w && e && z) ≡ fieldsTest position interval sampling r
+      → v ≡ numberAt 2 r 8 → t ≡ ticksOf interval → p ≡ numberAt 4 r packetsAt → u ≡ numberAt 8 r sumAt
+      → w ≡ windowTest position sampling (getD r ticksAt 0) p u → e ≡ emptyTest p u (getD r eventAt 0) (getD r lengthAt 0)
+      → (leb (getD r highAt 0) 1 && leb (getD r eventAt 0) 3 && ltb v t && w && e && z) ≡ fieldsTest position interval sampling r
   unfolding fieldsTest
   fields-short n {z} {w} {e} {v} {t} {p} {u} l k b dz dv dt dp du dw de =
       let ev : v ≡ little 2 r 8 = number-of 2 r 8 dv (omega arith) in
-      let ep : p ≡ little 4 r 11 = number-of 4 r 11 dp (omega arith) in
-      let eu : u ≡ little 8 r 15 = number-of 8 r 15 du (omega arith) in
-      rw (dz, dw, de, ev, ep, eu, dt, rest-of (25 + n) r, k, le-leb (getD r 24 0) 31 (rw (← k) b))
+      let ep : p ≡ little 4 r packetsAt = number-of 4 r 11 dp (omega arith) in
+      let eu : u ≡ little 8 r sumAt = number-of 8 r 15 du (omega arith) in
+      rw (dz, dw, de, ev, ep, eu, dt, rest-of (25 + n) r, k, le-leb (getD r lengthAt 0) mostData (rw (← k) b))

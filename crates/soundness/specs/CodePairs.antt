@@ -30,85 +30,86 @@ use Rattle.soundness.specs.Fields.{pair-tests}
 use Rattle.soundness.specs.Front.{live-row, live-none}
 use Rattle.soundness.specs.Pairs.{length-pairRowAt, octets-pairRowAt}
 use Rattle.soundness.specs.Same.{sound-block}
+use Rattle.model.specs.Layout.{blockSize, countAt, handleAt, headSize, monitorSize, monitorsAt, mostMonitors, mostPairs, pairSize, pairsAt, positionAt}
 
 -- the pair at a place
-module _ (s : List ℕ) (l : length s ≡ 4761) (i : ℕ) where
-  part-pair : take (1176 + 56 * i + 56 - (1176 + 56 * i)) (drop (1176 + 56 * i) s) ≡ pairRowAt s i
+module _ (s : List ℕ) (l : length s ≡ blockSize) (i : ℕ) where
+  part-pair : take (pairsAt + pairSize * i + pairSize - (pairsAt + pairSize * i)) (drop (pairsAt + pairSize * i) s) ≡ pairRowAt s i
   unfolding pairRowAt row
   part-pair =
-      let k : 1176 + 56 * i + 56 - (1176 + 56 * i) ≡ 56 = omega arith in
-      ap (λ (j : ℕ). take j (drop (1176 + 56 * i) s)) k
-      ∙ ap (λ (x : List ℕ). take 56 x) (sym (drop-drop (56 * i) 1176 s))
+      let k : pairsAt + pairSize * i + pairSize - (pairsAt + pairSize * i) ≡ pairSize = omega arith in
+      ap (λ (j : ℕ). take j (drop (pairsAt + pairSize * i) s)) k
+      ∙ ap (λ (x : List ℕ). take pairSize x) (sym (drop-drop (pairSize * i) pairsAt s))
 
-  handle-of : (h : ℕ) → h ≡ getD s (1176 + 56 * i) 0 → getD (pairRowAt s i) 0 0 ≡ h
+  handle-of : (h : ℕ) → h ≡ getD s (pairsAt + pairSize * i) 0 → getD (pairRowAt s i) handleAt 0 ≡ h
   unfolding pairRowAt
   handle-of h e =
-      let z : 1176 + (56 * i + 0) ≡ 1176 + 56 * i = omega arith in
-      getD-row 56 i 0 (drop 1176 s) 0 (omega arith) ∙ getD-drop 1176 s (56 * i + 0) 0 ∙ ap (λ (j : ℕ). getD s j 0) z
+      let z : pairsAt + (pairSize * i + 0) ≡ pairsAt + pairSize * i = omega arith in
+      getD-row pairSize i 0 (drop pairsAt s) 0 (omega arith) ∙ getD-drop pairsAt s (pairSize * i + 0) 0 ∙ ap (λ (j : ℕ). getD s j 0) z
       ∙ sym e
 
-  field-of : (h k : ℕ) → k < 71 → getD (monitorRowAt s h) k 0 ≡ getD s (40 + 71 * h + k) 0
+  field-of : (h k : ℕ) → k < monitorSize → getD (monitorRowAt s h) k 0 ≡ getD s (monitorsAt + monitorSize * h + k) 0
   unfolding monitorRowAt
   field-of h k b =
-      let z : 40 + (71 * h + k) ≡ 40 + 71 * h + k = omega arith in
-      getD-row 71 h k (drop 40 s) 0 b ∙ getD-drop 40 s (71 * h + k) 0 ∙ ap (λ (j : ℕ). getD s j 0) z
+      let z : monitorsAt + (monitorSize * h + k) ≡ monitorsAt + monitorSize * h + k = omega arith in
+      getD-row monitorSize h k (drop monitorsAt s) 0 b ∙ getD-drop headSize s (monitorSize * h + k) 0 ∙ ap (λ (j : ℕ). getD s j 0) z
 
-  none-fails : (o : Option Monitor) → o ≡ none → pairTest (little 4 s 0) o (pairRowAt s i) ≡ false
+  none-fails : (o : Option Monitor) → o ≡ none → pairTest (little 4 s positionAt) o (pairRowAt s i) ≡ false
   unfolding pairTest soundOf
   none-fails o e = rw e
 
-  pub pair-high : (h : ℕ) → h ≡ getD s (1176 + 56 * i) 0 → 16 ≤ h → false ≡ placeTest s i
+  pub pair-high : (h : ℕ) → h ≡ getD s (pairsAt + pairSize * i) 0 → mostMonitors ≤ h → false ≡ placeTest s i
   unfolding placeTest
   pair-high h e b =
-      let n : liveAt s (getD (pairRowAt s i) 0 0) ≡ none = ap (liveAt s) (handle-of h e) ∙ live-none s l h b in
-      sym (none-fails (liveAt s (getD (pairRowAt s i) 0 0)) n)
+      let n : liveAt s (getD (pairRowAt s i) handleAt 0) ≡ none = ap (liveAt s) (handle-of h e) ∙ live-none s l h b in
+      sym (none-fails (liveAt s (getD (pairRowAt s i) handleAt 0)) n)
 
-  pub pair-dead : (h : ℕ) → h ≡ getD s (1176 + 56 * i) 0 → h < 16 → getD s (40 + 71 * h + 3) 0 ≡ 0
+  pub pair-dead : (h : ℕ) → h ≡ getD s (pairsAt + pairSize * i) 0 → h < mostMonitors → getD s (monitorsAt + monitorSize * h + 3) 0 ≡ 0
       → false ≡ placeTest s i
   unfolding placeTest monitorOfRow
   pair-dead h e b z =
       let r : List ℕ = monitorRowAt s h in
-      let n : liveAt s (getD (pairRowAt s i) 0 0) ≡ none =
+      let n : liveAt s (getD (pairRowAt s i) handleAt 0) ≡ none =
       ap (liveAt s) (handle-of h e) ∙ live-row s l h b
       ∙ pick-true none (some (monitorIn r .1)) (eq-eqb (getD r 3 0) 0 (field-of h 3 (omega arith) ∙ z)) in
-      sym (none-fails (liveAt s (getD (pairRowAt s i) 0 0)) n)
+      sym (none-fails (liveAt s (getD (pairRowAt s i) handleAt 0)) n)
 
-  pub pair-live : (h : ℕ) {b : Bool} {p : ℕ} → i < 64 → ((k : ℕ) → getD s k 0 < 256) → h ≡ getD s (1176 + 56 * i) 0
-      → h < 16
-      → (getD s (40 + 71 * h + 3) 0 ≡ 0 → ⊥) → p ≡ numberAt 4 s 0
-      → b ≡ fieldsTest p (getD s (40 + 71 * h + 3) 0) (getD s (40 + 71 * h + 4) 0)
-      (take (1176 + 56 * i + 56 - (1176 + 56 * i)) (drop (1176 + 56 * i) s))
+  pub pair-live : (h : ℕ) {b : Bool} {p : ℕ} → i < mostPairs → ((k : ℕ) → getD s k 0 < 256) → h ≡ getD s (pairsAt + pairSize * i) 0
+      → h < mostMonitors
+      → (getD s (monitorsAt + monitorSize * h + 3) 0 ≡ 0 → ⊥) → p ≡ numberAt 4 s positionAt
+      → b ≡ fieldsTest p (getD s (monitorsAt + monitorSize * h + 3) 0) (getD s (monitorsAt + monitorSize * h + 4) 0)
+      (take (pairsAt + pairSize * i + pairSize - (pairsAt + pairSize * i)) (drop (pairsAt + pairSize * i) s))
       → b ≡ placeTest s i
   unfolding placeTest monitorOfRow monitorIn
   pair-live h {b} {p} a o e k z dp q =
       let r : List ℕ = monitorRowAt s h in
       let m : Monitor = monitorIn r .1 in
-      let ep : p ≡ little 4 s 0 = number-of 4 s 0 dp (omega arith) in
-      let u : getD s (40 + 71 * h + 3) 0 ≡ m .interval = sym (field-of h 3 (omega arith)) in
-      let v : getD s (40 + 71 * h + 4) 0 ≡ m .sampling = sym (field-of h 4 (omega arith)) in
-      let n : liveAt s (getD (pairRowAt s i) 0 0) ≡ some m =
+      let ep : p ≡ little 4 s positionAt = number-of 4 s 0 dp (omega arith) in
+      let u : getD s (monitorsAt + monitorSize * h + 3) 0 ≡ m .interval = sym (field-of h 3 (omega arith)) in
+      let v : getD s (monitorsAt + monitorSize * h + 4) 0 ≡ m .sampling = sym (field-of h 4 (omega arith)) in
+      let n : liveAt s (getD (pairRowAt s i) handleAt 0) ≡ some m =
       ap (liveAt s) (handle-of h e) ∙ live-row s l h k
       ∙ pick-false none (some m) (ne-eqb (getD r 3 0) 0 (λ (w : getD r 3 0 ≡ 0). z (u ∙ w))) in
-      let x : List ℕ = take (1176 + 56 * i + 56 - (1176 + 56 * i)) (drop (1176 + 56 * i) s) in
-      q ∙ ap (λ (j : ℕ). fieldsTest j (getD s (40 + 71 * h + 3) 0) (getD s (40 + 71 * h + 4) 0) x) ep
-      ∙ ap (λ (j : ℕ). fieldsTest (little 4 s 0) j (getD s (40 + 71 * h + 4) 0) x) u
-      ∙ ap (λ (j : ℕ). fieldsTest (little 4 s 0) (m .interval) j x) v
-      ∙ ap (fieldsTest (little 4 s 0) (m .interval) (m .sampling)) part-pair
-      ∙ sym (pair-tests (little 4 s 0) m (pairRowAt s i) (length-pairRowAt s l i a)
+      let x : List ℕ = take (pairsAt + pairSize * i + pairSize - (pairsAt + pairSize * i)) (drop (pairsAt + pairSize * i) s) in
+      q ∙ ap (λ (j : ℕ). fieldsTest j (getD s (monitorsAt + monitorSize * h + 3) 0) (getD s (monitorsAt + monitorSize * h + 4) 0) x) ep
+      ∙ ap (λ (j : ℕ). fieldsTest (little 4 s positionAt) j (getD s (monitorsAt + monitorSize * h + 4) 0) x) u
+      ∙ ap (λ (j : ℕ). fieldsTest (little 4 s positionAt) (m .interval) j x) v
+      ∙ ap (fieldsTest (little 4 s positionAt) (m .interval) (m .sampling)) part-pair
+      ∙ sym (pair-tests (little 4 s positionAt) m (pairRowAt s i) (length-pairRowAt s l i a)
       (octets-pairRowAt s l (octets-known s o) i))
-      ∙ ap (λ (x : Option Monitor). pairTest (little 4 s 0) x (pairRowAt s i)) (sym n)
+      ∙ ap (λ (x : Option Monitor). pairTest (little 4 s positionAt) x (pairRowAt s i)) (sym n)
 
 -- a pair against those before it
 abbrev pub differs : List ℕ → ℕ → ℕ → Bool
 differs s i j = not (eqb (keyAt s i) (keyAt s j))
 
-module _ (s : List ℕ) (l : length s ≡ 4761) (i : ℕ) where
-  key-of : (j : ℕ) {k : ℕ} → j < 64 → k ≡ numberAt 8 s (1176 + 56 * j) → k ≡ keyAt s j
+module _ (s : List ℕ) (l : length s ≡ blockSize) (i : ℕ) where
+  key-of : (j : ℕ) {k : ℕ} → j < mostPairs → k ≡ numberAt 8 s (pairsAt + pairSize * j) → k ≡ keyAt s j
   unfolding keyAt
-  key-of j h q = number-of 8 s (1176 + 56 * j) q (omega arith)
+  key-of j h q = number-of 8 s (pairsAt + pairSize * j) q (omega arith)
 
-  module _ (j : ℕ) {x y : ℕ} (b : i < 64) (h : j < i) (p : x ≡ numberAt 8 s (1176 + 56 * i))
-      (q : y ≡ numberAt 8 s (1176 + 56 * j)) where
+  module _ (j : ℕ) {x y : ℕ} (b : i < mostPairs) (h : j < i) (p : x ≡ numberAt 8 s (pairsAt + pairSize * i))
+      (q : y ≡ numberAt 8 s (pairsAt + pairSize * j)) where
     pub other-stop : x ≡ y → false ≡ otherTest s i
     unfolding otherTest
     other-stop e =
@@ -138,44 +139,44 @@ module _ (s : List ℕ) (i : ℕ) {a b : Bool}
   pairs-more h t = below-more (heldPairTest s) i h (sym (rw (p, q)) ∙ not-false (a && b) t)
 
 -- the count, what is behind the pairs, and the pairs
-module _ (s : List ℕ) (c : ℕ) (e : c ≡ getD s 4760 0) where
-  pub count-high : 64 < c → false ≡ pairsTest s (getD s 4760 0)
+module _ (s : List ℕ) (c : ℕ) (e : c ≡ getD s countAt 0) where
+  pub count-high : mostPairs < c → false ≡ pairsTest s (getD s countAt 0)
   unfolding pairsTest
-  count-high h = rw (← e) (rw (lt-leb c 64 h))
+  count-high h = rw (← e) (rw (lt-leb c mostPairs h))
 
-  pub count-free : {z : Bool} → c ≤ 64 → z ≡ every isZero (take (4760 - (1176 + 56 * c)) (drop (1176 + 56 * c) s))
+  pub count-free : {z : Bool} → c ≤ mostPairs → z ≡ every isZero (take (countAt - (pairsAt + pairSize * c)) (drop (pairsAt + pairSize * c) s))
       → not z ≡ true
-      → false ≡ pairsTest s (getD s 4760 0)
+      → false ≡ pairsTest s (getD s countAt 0)
   unfolding pairsTest freeTest
-  count-free {z} h q t = rw (← e) (rw (le-leb c 64 h, ← q, not-true z t))
+  count-free {z} h q t = rw (← e) (rw (le-leb c mostPairs h, ← q, not-true z t))
 
-  pub count-held : {z b : Bool} → c ≤ 64 → z ≡ every isZero (take (4760 - (1176 + 56 * c)) (drop (1176 + 56 * c) s))
+  pub count-held : {z b : Bool} → c ≤ mostPairs → z ≡ every isZero (take (countAt - (pairsAt + pairSize * c)) (drop (pairsAt + pairSize * c) s))
       → not z ≡ false
-      → b ≡ allBelow (heldPairTest s) c → b ≡ pairsTest s (getD s 4760 0)
+      → b ≡ allBelow (heldPairTest s) c → b ≡ pairsTest s (getD s countAt 0)
   unfolding pairsTest freeTest
-  count-held {z} h q t d = rw (← e) (rw (le-leb c 64 h, ← q, not-false z t) d)
+  count-held {z} h q t d = rw (← e) (rw (le-leb c mostPairs h, ← q, not-false z t) d)
 
 -- the whole block
 module _ (s : List ℕ) (o : (k : ℕ) → getD s k 0 < 256) where
   whole : {b : Bool} → b ≡ soundBlock s → b ≡ sound s
   whole q = q ∙ sound-block s (octets-known s o)
 
-  pub whole-length : (length s ≡ 4761 → ⊥) → false ≡ sound s
+  pub whole-length : (length s ≡ blockSize → ⊥) → false ≡ sound s
   unfolding soundBlock
-  whole-length h = whole (sym (rw (ne-eqb (length s) 4761 h)))
+  whole-length h = whole (sym (rw (ne-eqb (length s) blockSize h)))
 
-  pub whole-head : {b : Bool} → length s ≡ 4761 → b ≡ headTest (take 40 s) → not b ≡ true → false ≡ sound s
+  pub whole-head : {b : Bool} → length s ≡ blockSize → b ≡ headTest (take headSize s) → not b ≡ true → false ≡ sound s
   unfolding soundBlock
-  whole-head {b} h q t = whole (sym (rw (eq-eqb (length s) 4761 h, ← q, not-true b t)))
+  whole-head {b} h q t = whole (sym (rw (eq-eqb (length s) blockSize h, ← q, not-true b t)))
 
-  pub whole-monitors : {b m : Bool} → length s ≡ 4761 → b ≡ headTest (take 40 s) → not b ≡ false
+  pub whole-monitors : {b m : Bool} → length s ≡ blockSize → b ≡ headTest (take headSize s) → not b ≡ false
       → m ≡ monitorsTest s → not m ≡ true → false ≡ sound s
   unfolding soundBlock
   whole-monitors {b} {m} h q t p u =
-      whole (sym (rw (eq-eqb (length s) 4761 h, ← q, not-false b t, ← p, not-true m u)))
+      whole (sym (rw (eq-eqb (length s) blockSize h, ← q, not-false b t, ← p, not-true m u)))
 
-  pub whole-pairs : {b m p : Bool} → length s ≡ 4761 → b ≡ headTest (take 40 s) → not b ≡ false
-      → m ≡ monitorsTest s → not m ≡ false → p ≡ pairsTest s (getD s 4760 0) → p ≡ sound s
+  pub whole-pairs : {b m p : Bool} → length s ≡ blockSize → b ≡ headTest (take headSize s) → not b ≡ false
+      → m ≡ monitorsTest s → not m ≡ false → p ≡ pairsTest s (getD s countAt 0) → p ≡ sound s
   unfolding soundBlock
   whole-pairs {b} {m} h q t d u e =
-      whole (e ∙ sym (rw (eq-eqb (length s) 4761 h, ← q, not-false b t, ← d, not-false m u)))
+      whole (e ∙ sym (rw (eq-eqb (length s) blockSize h, ← q, not-false b t, ← d, not-false m u)))

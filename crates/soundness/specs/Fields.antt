@@ -17,13 +17,14 @@ use Rattle.parts.specs.Parts.{isZero}
 use Rattle.advert.specs.Condition.{wellFormed, formOf}
 use Rattle.advert.specs.declared.Form.{Form}
 use Rattle.advert.specs.declared.Form.the-variants.{Good, Malformed, NotBuilt, Unknown}
-use Rattle.model.specs.Types.{Monitor, Pair, ticksOf, mostCondition, mostData}
+use Rattle.model.specs.Types.{Monitor, Pair, ticksOf}
 use Rattle.model.specs.Level.{level, inRange, levels}
 use Rattle.model.specs.Monitors.{highAbove, faultOf, accepts, runOf, windowed, invalid, unsupported}
 use Rattle.model.specs.Image.{pairIn}
 use Rattle.model.specs.Sound.{octetsUpTo, soundWindow, soundEmpty, soundFields, soundOf}
 use Rattle.soundness.specs.Clauses.{pairTest}
 use Rattle.soundness.specs.Head.{little-lt}
+use Rattle.model.specs.Layout.{addressAt, dataAt, eventAt, highAt, lengthAt, mostCondition, mostData, packetsAt, pairSize, silentAt, sumAt, ticksAt}
 
 -- "a threshold outside −127 to 20, high not above low, interval outside 0x01 to 0x3C": none of these
 unfoldable pub rangesTest : ℕ → ℕ → ℕ → Bool
@@ -52,18 +53,18 @@ emptyTest packets sum event n = leb 1 packets || (eqb sum 0 && eqb event 0 && eq
 -- a pair's row, with its monitor's interval and sampling period
 unfoldable pub fieldsTest : ℕ → ℕ → ℕ → List ℕ → Bool
 fieldsTest position interval sampling r =
-    leb (getD r 24 0) 31
-    && (leb (getD r 1 0) 1 && leb (getD r 23 0) 3 && ltb (little 2 r 8) (ticksOf interval)
-    && windowTest position sampling (getD r 10 0) (little 4 r 11) (little 8 r 15)
-    && emptyTest (little 4 r 11) (little 8 r 15) (getD r 23 0) (getD r 24 0)
-    && every isZero (drop (25 + getD r 24 0) r))
+    leb (getD r lengthAt 0) mostData
+    && (leb (getD r highAt 0) 1 && leb (getD r eventAt 0) 3 && ltb (little 2 r silentAt) (ticksOf interval)
+    && windowTest position sampling (getD r ticksAt 0) (little 4 r packetsAt) (little 8 r sumAt)
+    && emptyTest (little 4 r packetsAt) (little 8 r sumAt) (getD r eventAt 0) (getD r lengthAt 0)
+    && every isZero (drop (dataAt + getD r lengthAt 0) r))
 
 -- 0x03 accepts a monitor whose ranges and condition pass
-pub accepts-tests : (m : Monitor) → length (m .condition) ≤ 64
+pub accepts-tests : (m : Monitor) → length (m .condition) ≤ mostCondition
     → accepts m ≡ (rangesTest (m .high) (m .low) (m .interval) && isGood (formOf (m .kind) (m .condition)))
-unfolding accepts faultOf rangesTest inRange highAbove formOf isGood mostCondition pick
+unfolding accepts faultOf rangesTest inRange highAbove formOf isGood pick
 accepts-tests m h =
-    rw (le-ltb 64 (length (m .condition)) h)
+    rw (le-ltb mostCondition (length (m .condition)) h)
     (go (leb (level (m .high)) 147) (leb (level (m .low)) 147) (ltb (level (m .low)) (level (m .high)))
     (leb 1 (m .interval))
     (leb (m .interval) 60) (leb 1 (m .kind)) (leb (m .kind) 4) (eqb (m .kind) 3)
@@ -107,11 +108,11 @@ unfolding soundEmpty emptyTest
 empty-tests q n e = rw e
 
 -- a pair's fields: the address is 6 octets and the data are octets whatever stands there
-fields-tests : (q : Pair) → length (q .address) ≡ 6 → every isOctet (q .address) ≡ true → length (q .adv) ≤ 31
+fields-tests : (q : Pair) → length (q .address) ≡ 6 → every isOctet (q .address) ≡ true → length (q .adv) ≤ mostData
     → every isOctet (q .adv) ≡ true → soundFields q ≡ (leb (q .kind) 1 && leb (q .event) 3)
-unfolding soundFields octetsUpTo mostData
+unfolding soundFields octetsUpTo
 fields-tests q a b c d =
-    rw (eq-eqb (length (q .address)) 6 a, b, le-leb (length (q .adv)) 31 c, d)
+    rw (eq-eqb (length (q .address)) 6 a, b, le-leb (length (q .adv)) mostData c, d)
     (go (leb (q .kind) 1) (leb (q .event) 3))
   where
     go : (a b : Bool) → (a && true && true && b && true) ≡ (a && b)
@@ -120,27 +121,27 @@ fields-tests q a b c d =
     go true true = refl
 
 -- a pair's row passes where its numbers do
-module _ (position : ℕ) (m : Monitor) (r : List ℕ) (l : length r ≡ 56) (o : every isOctet r ≡ true) where
-  few-tests : getD r 24 0 ≤ 31 → pairTest position (some m) r ≡ fieldsTest position (m .interval) (m .sampling) r
+module _ (position : ℕ) (m : Monitor) (r : List ℕ) (l : length r ≡ pairSize) (o : every isOctet r ≡ true) where
+  few-tests : getD r lengthAt 0 ≤ mostData → pairTest position (some m) r ≡ fieldsTest position (m .interval) (m .sampling) r
   unfolding pairTest soundOf fieldsTest pairIn runOf
   few-tests h =
       let q : Pair = pairIn r in
-      let n : ℕ = getD r 24 0 in
-      let la : length (take 6 (drop 2 r)) ≡ 6 = length-take-le 6 (drop 2 r) (rw (length-drop 2 r) (omega arith)) in
-      let ld : length (take n (drop 25 r)) ≡ n = length-take-le n (drop 25 r) (rw (length-drop 25 r) (omega arith)) in
-      let oa : every isOctet (take 6 (drop 2 r)) ≡ true =
-      every-take isOctet 6 (drop 2 r) (every-drop isOctet 2 r o) in
-      let od : every isOctet (take n (drop 25 r)) ≡ true =
-      every-take isOctet n (drop 25 r) (every-drop isOctet 25 r o) in
+      let n : ℕ = getD r lengthAt 0 in
+      let la : length (take 6 (drop addressAt r)) ≡ 6 = length-take-le 6 (drop addressAt r) (rw (length-drop 2 r) (omega arith)) in
+      let ld : length (take n (drop dataAt r)) ≡ n = length-take-le n (drop dataAt r) (rw (length-drop 25 r) (omega arith)) in
+      let oa : every isOctet (take 6 (drop addressAt r)) ≡ true =
+      every-take isOctet 6 (drop addressAt r) (every-drop isOctet 2 r o) in
+      let od : every isOctet (take n (drop dataAt r)) ≡ true =
+      every-take isOctet n (drop dataAt r) (every-drop isOctet 25 r o) in
       rw (
         fields-tests q la oa (omega arith) od,
         window-tests position m q (little-lt 8 r 15 o),
         empty-tests q n ld,
-        le-leb n 31 h,
+        le-leb n mostData h,
       )
-      (go (leb (getD r 1 0) 1) (leb (getD r 23 0) 3) (ltb (little 2 r 8) (ticksOf (m .interval)))
-      (windowTest position (m .sampling) (getD r 10 0) (little 4 r 11) (little 8 r 15))
-      (emptyTest (little 4 r 11) (little 8 r 15) (getD r 23 0) n) (every isZero (drop (25 + n) r)))
+      (go (leb (getD r highAt 0) 1) (leb (getD r eventAt 0) 3) (ltb (little 2 r silentAt) (ticksOf (m .interval)))
+      (windowTest position (m .sampling) (getD r ticksAt 0) (little 4 r packetsAt) (little 8 r sumAt))
+      (emptyTest (little 4 r packetsAt) (little 8 r sumAt) (getD r eventAt 0) n) (every isZero (drop (25 + n) r)))
     where
       go : (a b c d e f : Bool) → (a && b && c && d && e && true && f) ≡ (a && b && c && d && e && f)
       go false b c d e f = refl
@@ -150,18 +151,18 @@ module _ (position : ℕ) (m : Monitor) (r : List ℕ) (l : length r ≡ 56) (o 
       go true true true true false f = refl
       go true true true true true f = refl
 
-  many-tests : 31 < getD r 24 0 → pairTest position (some m) r ≡ false
+  many-tests : mostData < getD r lengthAt 0 → pairTest position (some m) r ≡ false
   unfolding pairTest
   many-tests h =
-      and-not-left (soundOf position (some m) (pairIn r) && leb (getD r 24 0) 31)
-      (every isZero (drop (25 + getD r 24 0) r))
-      (and-not-right (soundOf position (some m) (pairIn r)) (leb (getD r 24 0) 31) (lt-leb (getD r 24 0) 31 h))
+      and-not-left (soundOf position (some m) (pairIn r) && leb (getD r lengthAt 0) mostData)
+      (every isZero (drop (dataAt + getD r lengthAt 0) r))
+      (and-not-right (soundOf position (some m) (pairIn r)) (leb (getD r lengthAt 0) mostData) (lt-leb (getD r lengthAt 0) mostData h))
 
-  pub fields-many : 31 < getD r 24 0 → false ≡ fieldsTest position (m .interval) (m .sampling) r
+  pub fields-many : mostData < getD r lengthAt 0 → false ≡ fieldsTest position (m .interval) (m .sampling) r
   unfolding fieldsTest
-  fields-many h = rw (lt-leb (getD r 24 0) 31 h)
+  fields-many h = rw (lt-leb (getD r lengthAt 0) mostData h)
 
   pub pair-tests : pairTest position (some m) r ≡ fieldsTest position (m .interval) (m .sampling) r
   pair-tests =
-      cases-le (getD r 24 0) 31 (λ (u : getD r 24 0 ≤ 31). few-tests u)
-      (λ (u : 31 < getD r 24 0). many-tests u ∙ fields-many u)
+      cases-le (getD r lengthAt 0) mostData (λ (u : getD r lengthAt 0 ≤ mostData). few-tests u)
+      (λ (u : mostData < getD r lengthAt 0). many-tests u ∙ fields-many u)

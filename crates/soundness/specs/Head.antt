@@ -19,6 +19,7 @@ use Rattle.model.specs.Block.{padTo, held}
 use Rattle.blocks.specs.Rows.{length-headRow}
 use Rattle.soundness.specs.Clauses.{headTest}
 use Rattle.soundness.specs.Rows.{one-cut, part-cut, number-cut, pad-zeros}
+use Rattle.model.specs.Layout.{filterAt, headSize, mostPrefix, opcodeAt, positionAt, prefixAt, prefixLengthAt}
 
 -- a part of the first b elements
 pub part-take : {A : Type 0} (a n b : ℕ) (l : List A) → a + n ≤ b → b ≤ length l
@@ -46,24 +47,24 @@ little-lt (suc k) r i o =
     rw (pow-suc 256 k) (omega arith)
 
 pub record HeadFacts (r : List ℕ) : Type 0 where
-  pub filter : getD r 4 0 ≤ 1
-  pub opcode : 0xFC00 ≤ little 2 r 5
-  pub short : getD r 7 0 ≤ 32
-  pub behind : every isZero (drop (8 + getD r 7 0) r) ≡ true
+  pub filter : getD r filterAt 0 ≤ 1
+  pub opcode : 0xFC00 ≤ little 2 r opcodeAt
+  pub short : getD r prefixLengthAt 0 ≤ mostPrefix
+  pub behind : every isZero (drop (prefixAt + getD r prefixLengthAt 0) r) ≡ true
 
 pub head-facts : (r : List ℕ) → headTest r ≡ true → HeadFacts r
 unfolding headTest
 head-facts r e =
-    let a = leb (getD r 4 0) 1 in
-    let b = leb 0xFC00 (little 2 r 5) in
-    let c = leb (getD r 7 0) 32 in
-    let d = every isZero (drop (8 + getD r 7 0) r) in
+    let a = leb (getD r filterAt 0) 1 in
+    let b = leb 0xFC00 (little 2 r opcodeAt) in
+    let c = leb (getD r prefixLengthAt 0) mostPrefix in
+    let d = every isZero (drop (prefixAt + getD r prefixLengthAt 0) r) in
     let e2 = and-left (a && b && c) d e in
     let e1 = and-left (a && b) c e2 in
     record {
-      filter = leb-true (getD r 4 0) 1 (and-left a b e1);
-      opcode = leb-true 0xFC00 (little 2 r 5) (and-right a b e1);
-      short = leb-true (getD r 7 0) 32 (and-right (a && b) c e2);
+      filter = leb-true (getD r filterAt 0) 1 (and-left a b e1);
+      opcode = leb-true 0xFC00 (little 2 r opcodeAt) (and-right a b e1);
+      short = leb-true (getD r prefixLengthAt 0) mostPrefix (and-right (a && b) c e2);
       behind = and-right (a && b && c) d e;
     }
 
@@ -71,26 +72,26 @@ pub facts-head : (r : List ℕ) → HeadFacts r → headTest r ≡ true
 unfolding headTest
 facts-head r f =
     rw (
-      le-leb (getD r 4 0) 1 (f .filter),
-      le-leb 0xFC00 (little 2 r 5) (f .opcode),
-      le-leb (getD r 7 0) 32
+      le-leb (getD r filterAt 0) 1 (f .filter),
+      le-leb 0xFC00 (little 2 r opcodeAt) (f .opcode),
+      le-leb (getD r prefixLengthAt 0) mostPrefix
           (f .short),
     ) (f .behind)
 
 -- the head row, read from its own octets
 abbrev headOf : List ℕ → ℕ → List ℕ
-headOf r n = octetsOf 4 (little 4 r 0) ++ (getD r 4 0 ∷ (octetsOf 2 (little 2 r 5) ++ (n ∷ take n (drop 8 r))))
+headOf r n = octetsOf 4 (little 4 r positionAt) ++ (getD r filterAt 0 ∷ (octetsOf 2 (little 2 r opcodeAt) ++ (n ∷ take n (drop prefixAt r))))
 
-head-cuts : (r : List ℕ) → length r ≡ 40 → every isOctet r ≡ true → getD r 7 0 ≤ 32
-    → headOf r (getD r 7 0) ++ drop (8 + getD r 7 0) r ≡ r
+head-cuts : (r : List ℕ) → length r ≡ headSize → every isOctet r ≡ true → getD r prefixLengthAt 0 ≤ mostPrefix
+    → headOf r (getD r prefixLengthAt 0) ++ drop (prefixAt + getD r prefixLengthAt 0) r ≡ r
 head-cuts r l o h =
-    let n : ℕ = getD r 7 0 in
-    let p : List ℕ = octetsOf 4 (little 4 r 0) in
-    let c : List ℕ = octetsOf 2 (little 2 r 5) in
-    spread p (getD r 4 0) c n (take n (drop 8 r)) (drop (8 + n) r)
-    ∙ ap (λ (x : List ℕ). p ++ (getD r 4 0 ∷ (c ++ (n ∷ x)))) (part-cut r 8 n)
-    ∙ ap (λ (x : List ℕ). p ++ (getD r 4 0 ∷ (c ++ x))) (one-cut r 7 (omega arith))
-    ∙ ap (λ (x : List ℕ). p ++ (getD r 4 0 ∷ x)) (number-cut 2 r 5 o (omega arith))
+    let n : ℕ = getD r prefixLengthAt 0 in
+    let p : List ℕ = octetsOf 4 (little 4 r positionAt) in
+    let c : List ℕ = octetsOf 2 (little 2 r opcodeAt) in
+    spread p (getD r filterAt 0) c n (take n (drop prefixAt r)) (drop (8 + n) r)
+    ∙ ap (λ (x : List ℕ). p ++ (getD r filterAt 0 ∷ (c ++ (n ∷ x)))) (part-cut r 8 n)
+    ∙ ap (λ (x : List ℕ). p ++ (getD r filterAt 0 ∷ (c ++ x))) (one-cut r 7 (omega arith))
+    ∙ ap (λ (x : List ℕ). p ++ (getD r filterAt 0 ∷ x)) (number-cut 2 r 5 o (omega arith))
     ∙ ap (λ (x : List ℕ). p ++ x) (one-cut r 4 (omega arith))
     ∙ number-cut 4 r 0 o (omega arith)
   where
@@ -99,30 +100,30 @@ head-cuts r l o h =
     spread p f c n x y = simp append-assoc
 
 -- a head that passes is the head row of the state that the block holds
-pub head-row : (s : List ℕ) → 40 ≤ length s → every isOctet s ≡ true → headTest (take 40 s) ≡ true
-    → padTo 40 (headRow (held s)) ≡ take 40 s
+pub head-row : (s : List ℕ) → headSize ≤ length s → every isOctet s ≡ true → headTest (take headSize s) ≡ true
+    → padTo headSize (headRow (held s)) ≡ take headSize s
 unfolding held headRow
 head-row s l o e =
-    let r : List ℕ = take 40 s in
+    let r : List ℕ = take headSize s in
     let f : HeadFacts r = head-facts r e in
-    let lr : length r ≡ 40 = length-take-le 40 s l in
-    let or : every isOctet r ≡ true = every-take isOctet 40 s o in
-    let n : ℕ = getD s 7 0 in
-    let nr : getD r 7 0 ≡ n = getD-take 40 s 7 0 (omega arith) in
-    let sh : n ≤ 32 = rw nr at (f .short) in
-    let lp : length (take n (drop 8 s)) ≡ n = length-take-le n (drop 8 s) (rw (length-drop 8 s) (omega arith)) in
-    let lh : length (headRow (held s)) ≡ 8 + getD r 7 0 =
+    let lr : length r ≡ headSize = length-take-le headSize s l in
+    let or : every isOctet r ≡ true = every-take isOctet headSize s o in
+    let n : ℕ = getD s prefixLengthAt 0 in
+    let nr : getD r prefixLengthAt 0 ≡ n = getD-take headSize s 7 0 (omega arith) in
+    let sh : n ≤ mostPrefix = rw nr at (f .short) in
+    let lp : length (take n (drop prefixAt s)) ≡ n = length-take-le n (drop prefixAt s) (rw (length-drop 8 s) (omega arith)) in
+    let lh : length (headRow (held s)) ≡ prefixAt + getD r prefixLengthAt 0 =
     length-headRow (held s) ∙ ap (λ (j : ℕ). 8 + j) (lp ∙ sym nr) in
-    let x : List ℕ = take n (drop 8 s) in
-    let q : headRow (held s) ≡ headOf r (getD r 7 0) =
-    ap (λ (v : ℕ). octetsOf 4 v ++ (getD s 4 0 ∷ (octetsOf 2 (little 2 s 5) ++ (length x ∷ x))))
-    (sym (little-take 4 40 s 0 (omega arith)))
-    ∙ ap (λ (v : ℕ). octetsOf 4 (little 4 r 0) ++ (v ∷ (octetsOf 2 (little 2 s 5) ++ (length x ∷ x))))
-    (sym (getD-take 40 s 4 0 (omega arith)))
-    ∙ ap (λ (v : ℕ). octetsOf 4 (little 4 r 0) ++ (getD r 4 0 ∷ (octetsOf 2 v ++ (length x ∷ x))))
-    (sym (little-take 2 40 s 5 (omega arith)))
-    ∙ ap (λ (v : ℕ). octetsOf 4 (little 4 r 0) ++ (getD r 4 0 ∷ (octetsOf 2 (little 2 r 5) ++ (v ∷ x)))) (lp ∙ sym nr)
-    ∙ ap (λ (y : List ℕ). octetsOf 4 (little 4 r 0) ++ (getD r 4 0 ∷ (octetsOf 2 (little 2 r 5) ++ (getD r 7 0 ∷ y))))
-    (sym (part-take 8 n 40 s (omega arith) l) ∙ ap (λ (j : ℕ). take j (drop 8 r)) (sym nr)) in
-    pad-zeros 40 (8 + getD r 7 0) (headRow (held s)) r lr lh (omega (arith, f .short))
-    (ap (λ (x : List ℕ). x ++ drop (8 + getD r 7 0) r) q ∙ head-cuts r lr or (f .short)) (f .behind)
+    let x : List ℕ = take n (drop prefixAt s) in
+    let q : headRow (held s) ≡ headOf r (getD r prefixLengthAt 0) =
+    ap (λ (v : ℕ). octetsOf 4 v ++ (getD s filterAt 0 ∷ (octetsOf 2 (little 2 s opcodeAt) ++ (length x ∷ x))))
+    (sym (little-take 4 headSize s 0 (omega arith)))
+    ∙ ap (λ (v : ℕ). octetsOf 4 (little 4 r positionAt) ++ (v ∷ (octetsOf 2 (little 2 s opcodeAt) ++ (length x ∷ x))))
+    (sym (getD-take headSize s 4 0 (omega arith)))
+    ∙ ap (λ (v : ℕ). octetsOf 4 (little 4 r positionAt) ++ (getD r filterAt 0 ∷ (octetsOf 2 v ++ (length x ∷ x))))
+    (sym (little-take 2 headSize s 5 (omega arith)))
+    ∙ ap (λ (v : ℕ). octetsOf 4 (little 4 r positionAt) ++ (getD r filterAt 0 ∷ (octetsOf 2 (little 2 r opcodeAt) ++ (v ∷ x)))) (lp ∙ sym nr)
+    ∙ ap (λ (y : List ℕ). octetsOf 4 (little 4 r positionAt) ++ (getD r filterAt 0 ∷ (octetsOf 2 (little 2 r opcodeAt) ++ (getD r prefixLengthAt 0 ∷ y))))
+    (sym (part-take 8 n headSize s (omega arith) l) ∙ ap (λ (j : ℕ). take j (drop prefixAt r)) (sym nr)) in
+    pad-zeros headSize (prefixAt + getD r prefixLengthAt 0) (headRow (held s)) r lr lh (omega (arith, f .short))
+    (ap (λ (x : List ℕ). x ++ drop (prefixAt + getD r prefixLengthAt 0) r) q ∙ head-cuts r lr or (f .short)) (f .behind)

@@ -16,6 +16,7 @@ use Rattle.model.specs.Types.{watched, device}
 use Rattle.model.specs.Image.{pairIn}
 use Rattle.model.specs.Watch.{isPair}
 use Rattle.soundness.specs.Below.{test-eq}
+use Rattle.model.specs.Layout.{addressAt, handleAt, highAt}
 
 -- octets that make one number are the same
 pub value-same : (xs ys : List ℕ) → length xs ≡ length ys → every isOctet xs ≡ true → every isOctet ys ≡ true
@@ -30,9 +31,9 @@ pub row-key : (r : List ℕ) → 8 ≤ length r
 unfolding pairIn watched device
 row-key r h = rest r h (drop-cons r 0 0 (omega arith)) (drop-cons r 1 0 (omega arith))
   where
-    rest : (r : List ℕ) → 8 ≤ length r → drop 0 r ≡ getD r 0 0 ∷ drop 1 r → drop 1 r ≡ getD r 1 0 ∷ drop 2 r
-        → take 8 r ≡ getD r 0 0 ∷ getD r 1 0 ∷ take 6 (drop 2 r)
-    rest r h a b = ap (λ (l : List ℕ). take 8 l) (a ∙ ap (λ (l : List ℕ). getD r 0 0 ∷ l) b)
+    rest : (r : List ℕ) → 8 ≤ length r → drop 0 r ≡ getD r handleAt 0 ∷ drop 1 r → drop 1 r ≡ getD r highAt 0 ∷ drop addressAt r
+        → take 8 r ≡ getD r handleAt 0 ∷ getD r highAt 0 ∷ take 6 (drop addressAt r)
+    rest r h a b = ap (λ (l : List ℕ). take 8 l) (a ∙ ap (λ (l : List ℕ). getD r handleAt 0 ∷ l) b)
 
 module _ (a b : List ℕ) (la : 8 ≤ length a) (lb : 8 ≤ length b) (oa : every isOctet a ≡ true)
     (ob : every isOctet b ≡ true) where

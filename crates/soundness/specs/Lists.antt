@@ -12,13 +12,14 @@ use borrow.Author.Tests.{leb-true, le-leb, lt-ltb, eq-eqb, ne-eqb}
 use Rattle.laws.specs.Tests.{and-left, and-right, cases-le}
 use Rattle.laws.specs.Loops.{keep, only}
 use Rattle.rule.specs.Engine.{find}
-use Rattle.model.specs.Types.{Monitor, mostMonitors}
+use Rattle.model.specs.Types.{Monitor}
 use Rattle.model.specs.Image.{monitorIn}
 use Rattle.model.specs.Sound.{soundMonitor, soundMonitors}
 use Rattle.model.specs.Block.{monitorPlace, inUse}
 use Rattle.blocks.specs.Facts.{SoundMonitor, facts-monitor}
 use Rattle.blocks.specs.Tables.{from}
 use Rattle.blocks.specs.Monitors.{inUse-none, inUse-some, monitorIn-some}
+use Rattle.model.specs.Layout.{mostMonitors}
 
 -- the monitors of the handles from k on, n of them
 unfoldable pub consIf : ℕ → Option Monitor → List (ℕ × Monitor) → List (ℕ × Monitor)
@@ -88,15 +89,15 @@ module _ (o : ℕ → Option Monitor) where
       let h : suc k ≤ x .0 = leb-true (suc k) (x .0) (and-left a b e1) in
       rw (le-leb k (x .0) (omega arith), and-right a b e1, and-right (a && b) c e2) (and-right (a && b && c) d e)
 
-  pub mons-sound : (k n : ℕ) → k + n ≤ 16 → Sounds o → soundMonitors k (monsOf o k n) ≡ true
-  unfolding monsOf consIf soundMonitors mostMonitors
+  pub mons-sound : (k n : ℕ) → k + n ≤ mostMonitors → Sounds o → soundMonitors k (monsOf o k n) ≡ true
+  unfolding monsOf consIf soundMonitors
   mons-sound k zero b f = refl
   mons-sound k (suc n) b f = go (o k) refl (mons-sound (suc k) n (omega arith) f)
     where
       go : (x : Option Monitor) → o k ≡ x → soundMonitors (suc k) (monsOf o (suc k) n) ≡ true
           → soundMonitors k (consIf k x (monsOf o (suc k) n)) ≡ true
       go none q ih = weaken k (monsOf o (suc k) n) ih
-      go (some m) q ih = rw (le-leb k k (omega arith), lt-ltb k 16 (omega arith), facts-monitor m (f k m q)) ih
+      go (some m) q ih = rw (le-leb k k (omega arith), lt-ltb k mostMonitors (omega arith), facts-monitor m (f k m q)) ih
 
   -- they are read from their rows
   pub mons-read : (k n : ℕ) → Sounds o

@@ -12,15 +12,16 @@ use Rattle.laws.specs.Tests.{and-left, and-right, and-both}
 use Rattle.laws.specs.Loops.{every, every-drop, some}
 use Rattle.laws.specs.Rows.{row, rows, flat, length-row}
 use Rattle.octets.specs.Little.{little, isOctet, little-row, little-drop}
-use Rattle.model.specs.Types.{Pair, watched, mostPairs}
+use Rattle.model.specs.Types.{Pair, watched}
 use Rattle.model.specs.Image.{pairRow, pairIn}
 use Rattle.model.specs.Watch.{isPair, holds}
 use Rattle.model.specs.Sound.{apart}
-use Rattle.model.specs.Block.{pairSize, pairsAt, countAt, padTo, pairBlock, pairTable, held}
+use Rattle.model.specs.Block.{padTo, pairBlock, pairTable, held}
 use Rattle.blocks.specs.Tables.{from, length-from, take-rows}
 use Rattle.soundness.specs.Below.{rows-from, zeros-run}
 use Rattle.soundness.specs.Clauses.{pairRowAt, keyAt, freeTest}
 use Rattle.soundness.specs.Front.{row-octets}
+use Rattle.model.specs.Layout.{blockSize, countAt, handleAt, mostPairs, pairSize, pairsAt, pairsSize}
 
 -- pairs read from rows that are given by an index
 abbrev pub pairsOf : (ℕ → List ℕ) → ℕ → ℕ → List Pair
@@ -53,8 +54,8 @@ module _ (f : ℕ → List ℕ) where
       (apart-pairs (suc k) n (λ i j a b c. h i j (omega arith) b (omega arith)))
 
   -- rows of the pairs they hold
-  pub flat-pairs : (k n : ℕ) → ((i : ℕ) → k ≤ i → i < k + n → padTo 56 (pairRow (pairIn (f i))) ≡ f i)
-      → flat (map (λ (q : Pair). padTo 56 (pairRow q)) (pairsOf f k n)) ≡ flat (from f k n)
+  pub flat-pairs : (k n : ℕ) → ((i : ℕ) → k ≤ i → i < k + n → padTo pairSize (pairRow (pairIn (f i))) ≡ f i)
+      → flat (map (λ (q : Pair). padTo pairSize (pairRow q)) (pairsOf f k n)) ≡ flat (from f k n)
   unfolding flat from
   flat-pairs k zero h = refl
   flat-pairs k (suc n) h =
@@ -97,53 +98,53 @@ flat-take n (suc k) t =
     let e : n * suc k ≡ n + n * k = mul-suc n k ∙ omega arith in
     rw (flat-take n k (drop n t), e) (sym (take-add n (n * k) t))
 
-module _ (s : List ℕ) (l : length s ≡ 4761) where
-  pub length-pairRowAt : (i : ℕ) → i < 64 → length (pairRowAt s i) ≡ 56
+module _ (s : List ℕ) (l : length s ≡ blockSize) where
+  pub length-pairRowAt : (i : ℕ) → i < mostPairs → length (pairRowAt s i) ≡ pairSize
   unfolding pairRowAt
-  length-pairRowAt i b = length-row 56 i 64 (drop 1176 s) b (rw (length-drop 1176 s) (omega arith))
+  length-pairRowAt i b = length-row pairSize i mostPairs (drop pairsAt s) b (rw (length-drop pairsAt s) (omega arith))
 
   pub octets-pairRowAt : every isOctet s ≡ true → (i : ℕ) → every isOctet (pairRowAt s i) ≡ true
   unfolding pairRowAt
-  octets-pairRowAt o i = row-octets 56 i (drop 1176 s) (every-drop isOctet 1176 s o)
+  octets-pairRowAt o i = row-octets pairSize i (drop pairsAt s) (every-drop isOctet pairsAt s o)
 
   -- the key of a place is that of its row
-  pub key-row : (i : ℕ) → keyAt s i ≡ little 8 (pairRowAt s i) 0
+  pub key-row : (i : ℕ) → keyAt s i ≡ little 8 (pairRowAt s i) handleAt
   unfolding keyAt pairRowAt
   key-row i =
-      let z : 1176 + (56 * i + 0) ≡ 1176 + 56 * i = omega arith in
-      sym (little-row 8 56 i 0 (drop 1176 s) (omega arith) ∙ little-drop 8 1176 s (56 * i + 0)
+      let z : pairsAt + (pairSize * i + 0) ≡ pairsAt + pairSize * i = omega arith in
+      sym (little-row 8 pairSize i 0 (drop pairsAt s) (omega arith) ∙ little-drop 8 pairsAt s (pairSize * i + 0)
       ∙ ap (λ (j : ℕ). little 8 s j) z)
 
   -- the pairs that the block holds
-  pub pairs-held : (c : ℕ) → c ≤ 64 → getD s 4760 0 ≡ c → held s .pairs ≡ pairsOf (pairRowAt s) 0 c
-  unfolding held pairTable pairSize mostPairs pairsAt countAt pairRowAt
+  pub pairs-held : (c : ℕ) → c ≤ mostPairs → getD s countAt 0 ≡ c → held s .pairs ≡ pairsOf (pairRowAt s) 0 c
+  unfolding held pairTable pairRowAt
   pairs-held c b e =
-      ap (λ (k : ℕ). map pairIn (take k (rows 56 64 (drop 1176 s)))) e
-      ∙ ap (map pairIn) (take-rows 56 c 64 (drop 1176 s) b ∙ rows-from 56 c (drop 1176 s))
+      ap (λ (k : ℕ). map pairIn (take k (rows pairSize mostPairs (drop pairsAt s)))) e
+      ∙ ap (map pairIn) (take-rows pairSize c mostPairs (drop pairsAt s) b ∙ rows-from pairSize c (drop pairsAt s))
 
   -- and their table
-  pub block-pairs : (c : ℕ) → c ≤ 64 → ((i : ℕ) → i < c → padTo 56 (pairRow (pairIn (pairRowAt s i))) ≡ pairRowAt s i)
-      → freeTest s c ≡ true → pairBlock (pairsOf (pairRowAt s) 0 c) ≡ take 3584 (drop 1176 s)
-  unfolding pairBlock pairSize mostPairs pairRowAt freeTest
+  pub block-pairs : (c : ℕ) → c ≤ mostPairs → ((i : ℕ) → i < c → padTo pairSize (pairRow (pairIn (pairRowAt s i))) ≡ pairRowAt s i)
+      → freeTest s c ≡ true → pairBlock (pairsOf (pairRowAt s) 0 c) ≡ take pairsSize (drop pairsAt s)
+  unfolding pairBlock pairRowAt freeTest
   block-pairs c b h z =
-      let t : List ℕ = drop 1176 s in
+      let t : List ℕ = drop pairsAt s in
       let qs : List Pair = pairsOf (pairRowAt s) 0 c in
-      let lt : length t ≡ 3585 = length-drop 1176 s ∙ omega arith in
+      let lt : length t ≡ pairsSize + 1 = length-drop pairsAt s ∙ omega arith in
       let n : length qs ≡ c = length-map (from (pairRowAt s) 0 c) pairIn ∙ length-from (pairRowAt s) 0 c in
-      let a : flat (map (λ (q : Pair). padTo 56 (pairRow q)) qs) ≡ take (56 * c) t =
-      flat-pairs (pairRowAt s) 0 c (λ i x w. h i (omega arith)) ∙ ap flat (sym (rows-from 56 c t))
-      ∙ flat-take 56 c t in
-      let k : 4760 - (1176 + 56 * c) ≡ 3584 - 56 * c = omega arith in
-      let y : List ℕ = take (4760 - (1176 + 56 * c)) (drop (1176 + 56 * c) s) in
-      let ly : length y ≡ 3584 - 56 * c =
-      length-take-le (4760 - (1176 + 56 * c)) (drop (1176 + 56 * c) s)
-      (rw (length-drop (1176 + 56 * c) s) (omega arith)) ∙ k in
-      let u : 56 * (64 - length qs) ≡ length y = omega arith in
-      let v : 56 * c + (3584 - 56 * c) ≡ 3584 = omega arith in
-      ap (λ (x : List ℕ). x ++ replicate (56 * (64 - length qs)) 0) a
-      ∙ ap (λ (j : ℕ). take (56 * c) t ++ replicate j 0) u
-      ∙ ap (λ (x : List ℕ). take (56 * c) t ++ x) (sym (zeros-run y z))
-      ∙ ap (λ (j : ℕ). take (56 * c) t ++ take j (drop (1176 + 56 * c) s)) k
-      ∙ ap (λ (x : List ℕ). take (56 * c) t ++ take (3584 - 56 * c) x) (sym (drop-drop (56 * c) 1176 s))
-      ∙ sym (take-add (56 * c) (3584 - 56 * c) t)
+      let a : flat (map (λ (q : Pair). padTo pairSize (pairRow q)) qs) ≡ take (pairSize * c) t =
+      flat-pairs (pairRowAt s) 0 c (λ i x w. h i (omega arith)) ∙ ap flat (sym (rows-from pairSize c t))
+      ∙ flat-take pairSize c t in
+      let k : countAt - (pairsAt + pairSize * c) ≡ pairsSize - pairSize * c = omega arith in
+      let y : List ℕ = take (countAt - (pairsAt + pairSize * c)) (drop (pairsAt + pairSize * c) s) in
+      let ly : length y ≡ pairsSize - pairSize * c =
+      length-take-le (countAt - (pairsAt + pairSize * c)) (drop (pairsAt + pairSize * c) s)
+      (rw (length-drop (pairsAt + pairSize * c) s) (omega arith)) ∙ k in
+      let u : pairSize * (mostPairs - length qs) ≡ length y = omega arith in
+      let v : pairSize * c + (pairsSize - pairSize * c) ≡ pairsSize = omega arith in
+      ap (λ (x : List ℕ). x ++ replicate (pairSize * (mostPairs - length qs)) 0) a
+      ∙ ap (λ (j : ℕ). take (pairSize * c) t ++ replicate j 0) u
+      ∙ ap (λ (x : List ℕ). take (pairSize * c) t ++ x) (sym (zeros-run y z))
+      ∙ ap (λ (j : ℕ). take (pairSize * c) t ++ take j (drop (pairsAt + pairSize * c) s)) k
+      ∙ ap (λ (x : List ℕ). take (pairSize * c) t ++ take (pairsSize - pairSize * c) x) (sym (drop-drop (pairSize * c) pairsAt s))
+      ∙ sym (take-add (pairSize * c) (pairsSize - pairSize * c) t)
       ∙ ap (λ (j : ℕ). take j t) v

@@ -13,6 +13,7 @@ use Rattle.parts.specs.Parts.{isZero}
 use Rattle.model.specs.Image.{monitorRow, pairRow, monitorIn, pairIn}
 use Rattle.model.specs.Block.{padTo}
 use Rattle.soundness.specs.Below.{zeros-run}
+use Rattle.model.specs.Layout.{addressAt, conditionAt, conditionLengthAt, dataAt, eventAt, handleAt, highAt, intervalAt, lengthAt, lowAt, monitorSize, mostCondition, mostData, packetsAt, pairSize, samplingAt, silentAt, sumAt, ticksAt, typeAt}
 
 -- what is left at index i, with the octet, the octets or the number that stands there first
 pub one-cut : (r : List ℕ) (i : ℕ) → i < length r → getD r i 0 ∷ drop (suc i) r ≡ drop i r
@@ -44,62 +45,62 @@ pad-zeros size n f r l k h e z =
     ap (λ (j : ℕ). f ++ replicate j 0) (sym d) ∙ ap (λ (x : List ℕ). f ++ x) (sym (zeros-run (drop n r) z)) ∙ e
 
 -- a monitor's row
-pub monitor-row : (r : List ℕ) → length r ≡ 71 → getD r 6 0 ≤ 64 → every isZero (drop (7 + getD r 6 0) r) ≡ true
-    → padTo 71 (monitorRow (monitorIn r)) ≡ r
+pub monitor-row : (r : List ℕ) → length r ≡ monitorSize → getD r conditionLengthAt 0 ≤ mostCondition → every isZero (drop (conditionAt + getD r conditionLengthAt 0) r) ≡ true
+    → padTo monitorSize (monitorRow (monitorIn r)) ≡ r
 unfolding monitorRow monitorIn
 monitor-row r l h z =
-    let n : ℕ = getD r 6 0 in
-    let c : List ℕ = take n (drop 7 r) in
-    let k : length c ≡ n = length-take-le n (drop 7 r) (rw (length-drop 7 r) (omega arith)) in
-    pad-zeros 71 (7 + n) (monitorRow (monitorIn r)) r l (omega arith) (omega arith) (
-    ap (λ (j : ℕ). getD r 0 0 ∷ getD r 1 0 ∷ getD r 2 0 ∷ getD r 3 0 ∷ getD r 4 0 ∷ getD r 5 0 ∷ j ∷
+    let n : ℕ = getD r conditionLengthAt 0 in
+    let c : List ℕ = take n (drop conditionAt r) in
+    let k : length c ≡ n = length-take-le n (drop conditionAt r) (rw (length-drop 7 r) (omega arith)) in
+    pad-zeros monitorSize (7 + n) (monitorRow (monitorIn r)) r l (omega arith) (omega arith) (
+    ap (λ (j : ℕ). getD r handleAt 0 ∷ getD r highAt 0 ∷ getD r lowAt 0 ∷ getD r intervalAt 0 ∷ getD r samplingAt 0 ∷ getD r typeAt 0 ∷ j ∷
     (c ++ drop (7 + n) r)) k
-    ∙ ap (λ (x : List ℕ). getD r 0 0 ∷ getD r 1 0 ∷ getD r 2 0 ∷ getD r 3 0 ∷ getD r 4 0 ∷ getD r 5 0 ∷ n ∷ x)
+    ∙ ap (λ (x : List ℕ). getD r handleAt 0 ∷ getD r highAt 0 ∷ getD r lowAt 0 ∷ getD r intervalAt 0 ∷ getD r samplingAt 0 ∷ getD r typeAt 0 ∷ n ∷ x)
     (part-cut r 7 n)
-    ∙ ap (λ (x : List ℕ). getD r 0 0 ∷ getD r 1 0 ∷ getD r 2 0 ∷ getD r 3 0 ∷ getD r 4 0 ∷ getD r 5 0 ∷ x)
+    ∙ ap (λ (x : List ℕ). getD r handleAt 0 ∷ getD r highAt 0 ∷ getD r lowAt 0 ∷ getD r intervalAt 0 ∷ getD r samplingAt 0 ∷ getD r typeAt 0 ∷ x)
     (one-cut r 6 (omega arith))
-    ∙ ap (λ (x : List ℕ). getD r 0 0 ∷ getD r 1 0 ∷ getD r 2 0 ∷ getD r 3 0 ∷ getD r 4 0 ∷ x)
+    ∙ ap (λ (x : List ℕ). getD r handleAt 0 ∷ getD r highAt 0 ∷ getD r lowAt 0 ∷ getD r intervalAt 0 ∷ getD r samplingAt 0 ∷ x)
     (one-cut r 5 (omega arith))
-    ∙ ap (λ (x : List ℕ). getD r 0 0 ∷ getD r 1 0 ∷ getD r 2 0 ∷ getD r 3 0 ∷ x) (one-cut r 4 (omega arith))
-    ∙ ap (λ (x : List ℕ). getD r 0 0 ∷ getD r 1 0 ∷ getD r 2 0 ∷ x) (one-cut r 3 (omega arith))
-    ∙ ap (λ (x : List ℕ). getD r 0 0 ∷ getD r 1 0 ∷ x) (one-cut r 2 (omega arith))
-    ∙ ap (λ (x : List ℕ). getD r 0 0 ∷ x) (one-cut r 1 (omega arith))
+    ∙ ap (λ (x : List ℕ). getD r handleAt 0 ∷ getD r highAt 0 ∷ getD r lowAt 0 ∷ getD r intervalAt 0 ∷ x) (one-cut r 4 (omega arith))
+    ∙ ap (λ (x : List ℕ). getD r handleAt 0 ∷ getD r highAt 0 ∷ getD r lowAt 0 ∷ x) (one-cut r 3 (omega arith))
+    ∙ ap (λ (x : List ℕ). getD r handleAt 0 ∷ getD r highAt 0 ∷ x) (one-cut r 2 (omega arith))
+    ∙ ap (λ (x : List ℕ). getD r handleAt 0 ∷ x) (one-cut r 1 (omega arith))
     ∙ one-cut r 0 (omega arith)) z
 
 -- a pair's row
-pub pair-row : (r : List ℕ) → length r ≡ 56 → every isOctet r ≡ true → getD r 24 0 ≤ 31
-    → every isZero (drop (25 + getD r 24 0) r) ≡ true → padTo 56 (pairRow (pairIn r)) ≡ r
+pub pair-row : (r : List ℕ) → length r ≡ pairSize → every isOctet r ≡ true → getD r lengthAt 0 ≤ mostData
+    → every isZero (drop (dataAt + getD r lengthAt 0) r) ≡ true → padTo pairSize (pairRow (pairIn r)) ≡ r
 unfolding pairRow pairIn
 pair-row r l o h z =
-    let n : ℕ = getD r 24 0 in
-    let a : List ℕ = take 6 (drop 2 r) in
-    let s : List ℕ = octetsOf 2 (little 2 r 8) in
-    let p : List ℕ = octetsOf 4 (little 4 r 11) in
-    let u : List ℕ = octetsOf 8 (little 8 r 15) in
-    let d : List ℕ = take n (drop 25 r) in
+    let n : ℕ = getD r lengthAt 0 in
+    let a : List ℕ = take 6 (drop addressAt r) in
+    let s : List ℕ = octetsOf 2 (little 2 r silentAt) in
+    let p : List ℕ = octetsOf 4 (little 4 r packetsAt) in
+    let u : List ℕ = octetsOf 8 (little 8 r sumAt) in
+    let d : List ℕ = take n (drop dataAt r) in
     let y : List ℕ = drop (25 + n) r in
-    let la : length a ≡ 6 = length-take-le 6 (drop 2 r) (rw (length-drop 2 r) (omega arith)) in
-    let k : length d ≡ n = length-take-le n (drop 25 r) (rw (length-drop 25 r) (omega arith)) in
+    let la : length a ≡ 6 = length-take-le 6 (drop addressAt r) (rw (length-drop 2 r) (omega arith)) in
+    let k : length d ≡ n = length-take-le n (drop dataAt r) (rw (length-drop 25 r) (omega arith)) in
     let f : List ℕ = pairRow (pairIn r) in
     let lf : length f ≡ 25 + n = Rattle.blocks.specs.Rows.length-pairRow (pairIn r) la ∙ ap (λ (j : ℕ). 25 + j) k in
-    pad-zeros 56 (25 + n) f r l lf (omega arith) (
-    spread (getD r 0 0) (getD r 1 0) a s (getD r 10 0) p u (getD r 23 0) (length d) d y
-    ∙ ap (λ (j : ℕ). getD r 0 0 ∷ getD r 1 0 ∷
-    (a ++ (s ++ (getD r 10 0 ∷ (p ++ (u ++ (getD r 23 0 ∷ j ∷ (d ++ y)))))))) k
-    ∙ ap (λ (x : List ℕ). getD r 0 0 ∷ getD r 1 0 ∷
-    (a ++ (s ++ (getD r 10 0 ∷ (p ++ (u ++ (getD r 23 0 ∷ n ∷ x))))))) (part-cut r 25 n)
-    ∙ ap (λ (x : List ℕ). getD r 0 0 ∷ getD r 1 0 ∷ (a ++ (s ++ (getD r 10 0 ∷ (p ++ (u ++ (getD r 23 0 ∷ x)))))))
+    pad-zeros pairSize (25 + n) f r l lf (omega arith) (
+    spread (getD r handleAt 0) (getD r highAt 0) a s (getD r ticksAt 0) p u (getD r eventAt 0) (length d) d y
+    ∙ ap (λ (j : ℕ). getD r handleAt 0 ∷ getD r highAt 0 ∷
+    (a ++ (s ++ (getD r ticksAt 0 ∷ (p ++ (u ++ (getD r eventAt 0 ∷ j ∷ (d ++ y)))))))) k
+    ∙ ap (λ (x : List ℕ). getD r handleAt 0 ∷ getD r highAt 0 ∷
+    (a ++ (s ++ (getD r ticksAt 0 ∷ (p ++ (u ++ (getD r eventAt 0 ∷ n ∷ x))))))) (part-cut r 25 n)
+    ∙ ap (λ (x : List ℕ). getD r handleAt 0 ∷ getD r highAt 0 ∷ (a ++ (s ++ (getD r ticksAt 0 ∷ (p ++ (u ++ (getD r eventAt 0 ∷ x)))))))
     (one-cut r 24 (omega arith))
-    ∙ ap (λ (x : List ℕ). getD r 0 0 ∷ getD r 1 0 ∷ (a ++ (s ++ (getD r 10 0 ∷ (p ++ (u ++ x))))))
+    ∙ ap (λ (x : List ℕ). getD r handleAt 0 ∷ getD r highAt 0 ∷ (a ++ (s ++ (getD r ticksAt 0 ∷ (p ++ (u ++ x))))))
     (one-cut r 23 (omega arith))
-    ∙ ap (λ (x : List ℕ). getD r 0 0 ∷ getD r 1 0 ∷ (a ++ (s ++ (getD r 10 0 ∷ (p ++ x)))))
+    ∙ ap (λ (x : List ℕ). getD r handleAt 0 ∷ getD r highAt 0 ∷ (a ++ (s ++ (getD r ticksAt 0 ∷ (p ++ x)))))
     (number-cut 8 r 15 o (omega arith))
-    ∙ ap (λ (x : List ℕ). getD r 0 0 ∷ getD r 1 0 ∷ (a ++ (s ++ (getD r 10 0 ∷ x))))
+    ∙ ap (λ (x : List ℕ). getD r handleAt 0 ∷ getD r highAt 0 ∷ (a ++ (s ++ (getD r ticksAt 0 ∷ x))))
     (number-cut 4 r 11 o (omega arith))
-    ∙ ap (λ (x : List ℕ). getD r 0 0 ∷ getD r 1 0 ∷ (a ++ (s ++ x))) (one-cut r 10 (omega arith))
-    ∙ ap (λ (x : List ℕ). getD r 0 0 ∷ getD r 1 0 ∷ (a ++ x)) (number-cut 2 r 8 o (omega arith))
-    ∙ ap (λ (x : List ℕ). getD r 0 0 ∷ getD r 1 0 ∷ x) (part-cut r 2 6)
-    ∙ ap (λ (x : List ℕ). getD r 0 0 ∷ x) (one-cut r 1 (omega arith))
+    ∙ ap (λ (x : List ℕ). getD r handleAt 0 ∷ getD r highAt 0 ∷ (a ++ (s ++ x))) (one-cut r 10 (omega arith))
+    ∙ ap (λ (x : List ℕ). getD r handleAt 0 ∷ getD r highAt 0 ∷ (a ++ x)) (number-cut 2 r 8 o (omega arith))
+    ∙ ap (λ (x : List ℕ). getD r handleAt 0 ∷ getD r highAt 0 ∷ x) (part-cut r 2 6)
+    ∙ ap (λ (x : List ℕ). getD r handleAt 0 ∷ x) (one-cut r 1 (omega arith))
     ∙ one-cut r 0 (omega arith)) z
   where
     spread : (h k : ℕ) (a s : List ℕ) (t : ℕ) (p u : List ℕ) (e n : ℕ) (d y : List ℕ)

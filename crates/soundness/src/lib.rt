@@ -1,10 +1,9 @@
 // Whether a block of octets is a sound state (document 01, The image, "Sound"): in place, in bounded work, for any
-// octets. A monitor's row: handle, high, low, interval, sampling, condition type, condition length, condition (64). A
-// pair's row: handle, address type, address (6), ticks since a good packet (2, at 8), ticks in the window (at 10),
-// packets (4, at 11), sum (8, at 15), event type (at 23), n (at 24), data (31).
+// octets. The rows are laid out as `State` says.
 use advert::Form;
 use state::Seconds;
 use state::State;
+use state::Ticks;
 ghost use Prim.Native.Nat.{_≤_, _<_};
 ghost use mathlib.Core.Path.{_≡_};
 ghost use lib.ListN.{length, take, getD};
@@ -16,20 +15,7 @@ ghost use Rattle.soundness.specs.Below.{allBelow};
 ghost use Rattle.soundness.specs.Clauses.{headTest, heldTest, monitorTest, placeTest, otherTest, heldPairTest};
 ghost use Rattle.soundness.specs.Clauses.{monitorsTest, pairsTest};
 ghost use Rattle.soundness.specs.Fields.{isGood, rangesTest, windowTest, emptyTest, fieldsTest};
-
-fn wide(x: u8) -> usize
-    ensures { λ r. ⌜ (r ≡ x) × (r < 256) ⌝ }
-{
-    x as usize
-}
-
-// The level of an RSSI octet: 0 for −127 dBm, 147 for 20 dBm.
-fn level_of(rssi: u8) -> u16
-    ensures { λ r. ⌜ r ≡ level rssi ⌝ }
-{
-    let n = rssi as u16;
-    (n + 127) % 256
-}
+ghost use Rattle.model.specs.Layout.{blockSize, conditionLengthAt, countAt, headSize, monitorSize, mostCondition, mostPairs, pairSize};
 
 // The sum of the levels of so many packets, from the sum of their RSSI in two's complement.
 fn levels_of(sum: u64, packets: u32) -> u64
@@ -48,9 +34,9 @@ fn levels_of(sum: u64, packets: u32) -> u64
 fn ranges_sound(high: u8, low: u8, interval: u8) -> bool
     ensures { λ r. ⌜ r ≡ rangesTest high low interval ⌝ }
 {
-    let h = level_of(high);
-    let l = level_of(low);
-    (h <= 147) & (l <= 147) & (l < h) & (1 <= interval) & (interval <= 60)
+    let h = state::level_of(high);
+    let l = state::level_of(low);
+    (h <= State::MOST_LEVEL) & (l <= State::MOST_LEVEL) & (l < h) & (1 <= interval) & (interval <= 60)
 }
 
 fn is_good(form: Form) -> bool
@@ -66,27 +52,27 @@ fn is_good(form: Form) -> bool
 
 // Whether the monitor of a row is one that 0x03 would accept.
 fn accepted(r: &[u8], n: usize) -> bool
-    requires { ⌜ (length (now r) ≡ 71) × (n ≡ getD (now r) 6 0) × (n ≤ 64) ⌝ }
+    requires { ⌜ (length (now r) ≡ monitorSize) × (n ≡ getD (now r) conditionLengthAt 0) × (n ≤ mostCondition) ⌝ }
     ensures { λ b. ⌜ b ≡ accepts (monitorIn (now (r .entry)) .1) ⌝ }
 {
-    let ranges = ranges_sound(r[1], r[2], r[3]);
-    let e = 7 + n;
-    let form = advert::condition_form(r[5], &r[7..e]);
+    let ranges = ranges_sound(r[State::HIGH_AT], r[State::LOW_AT], r[State::INTERVAL_AT]);
+    let e = State::CONDITION_AT + n;
+    let form = advert::condition_form(r[State::TYPE_AT], &r[State::CONDITION_AT..e]);
     let good = is_good(form);
     ranges & good
 }
 
 // Whether a row in use stands at its handle's place, holds an accepted monitor, and has zeros behind its condition.
 fn held_sound(r: &[u8], place: usize) -> bool
-    requires { ⌜ length (now r) ≡ 71 ⌝ }
+    requires { ⌜ length (now r) ≡ monitorSize ⌝ }
     ensures { λ b. ⌜ b ≡ heldTest place (now (r .entry)) ⌝ }
 {
-    let h = wide(r[0]);
-    let n = wide(r[6]);
+    let h = octets::wide(r[0]);
+    let n = octets::wide(r[State::CONDITION_LENGTH_AT]);
     if State::CONDITION < n {
         return false;
     }
-    let e = 7 + n;
+    let e = State::CONDITION_AT + n;
     let behind = parts::zeros(&r[e..]);
     let accept = accepted(r, n);
     (h == place) & behind & accept
@@ -94,17 +80,17 @@ fn held_sound(r: &[u8], place: usize) -> bool
 
 // Whether a monitor row is empty, or holds what it may.
 fn monitor_sound(r: &[u8], place: usize) -> bool
-    requires { ⌜ length (now r) ≡ 71 ⌝ }
+    requires { ⌜ length (now r) ≡ monitorSize ⌝ }
     ensures { λ b. ⌜ b ≡ monitorTest place (now (r .entry)) ⌝ }
 {
-    if r[3] == 0 {
+    if r[State::INTERVAL_AT] == 0 {
         return parts::zeros(r);
     }
     held_sound(r, place)
 }
 
 fn monitors_sound(s: &[u8]) -> bool
-    requires { ⌜ length (now s) ≡ 4761 ⌝ }
+    requires { ⌜ length (now s) ≡ blockSize ⌝ }
     ensures { λ b. ⌜ b ≡ monitorsTest (now (s .entry)) ⌝ }
 {
     let mut h = 0;
@@ -121,10 +107,10 @@ fn monitors_sound(s: &[u8]) -> bool
 
 // Whether the settings and the filter are in range, with zeros behind the prefix.
 fn head_sound(s: &[u8]) -> bool
-    requires { ⌜ length (now s) ≡ 4761 ⌝ }
-    ensures { λ b. ⌜ b ≡ headTest (take 40 (now (s .entry))) ⌝ }
+    requires { ⌜ length (now s) ≡ blockSize ⌝ }
+    ensures { λ b. ⌜ b ≡ headTest (take headSize (now (s .entry))) ⌝ }
 {
-    let n = wide(s[State::PREFIX_LENGTH_AT]);
+    let n = octets::wide(s[State::PREFIX_LENGTH_AT]);
     if State::PREFIX < n {
         return false;
     }
@@ -156,48 +142,48 @@ fn empty_sound(packets: u32, sum: u64, event: u8, n: u8) -> bool
 
 // Whether a pair's row holds what it may, with its monitor's interval and sampling period.
 fn fields_sound(r: &[u8], position: u32, interval: u8, sampling: u8) -> bool
-    requires { ⌜ length (now r) ≡ 56 ⌝ }
+    requires { ⌜ length (now r) ≡ pairSize ⌝ }
     ensures { λ b. ⌜ b ≡ fieldsTest position interval sampling (now (r .entry)) ⌝ }
 {
-    let n = wide(r[24]);
+    let n = octets::wide(r[State::LENGTH_AT]);
     if State::DATA < n {
         return false;
     }
-    let a = 25 + n;
+    let a = State::DATA_AT + n;
     let behind = parts::zeros(&r[a..]);
-    let silent = octets::get16(r, 8);
-    let packets = octets::get32(r, 11);
-    let sum = octets::get64(r, 15);
-    let window = window_sound(position, sampling, r[10], packets, sum);
-    let empty = empty_sound(packets, sum, r[23], r[24]);
-    let run = Seconds(interval).ticks();
-    (r[1] <= 1) & (r[23] <= 3) & (silent < run.0) & window & empty & behind
+    let silent = Ticks(octets::get16(r, State::SILENT_AT));
+    let packets = octets::get32(r, State::PACKETS_AT);
+    let sum = octets::get64(r, State::SUM_AT);
+    let window = window_sound(position, sampling, r[State::TICKS_AT], packets, sum);
+    let empty = empty_sound(packets, sum, r[State::EVENT_AT], r[State::LENGTH_AT]);
+    let short = silent.below(Seconds(interval).ticks());
+    (r[State::KIND_AT] <= 1) & (r[State::EVENT_AT] <= 3) & short & window & empty & behind
 }
 
 // Whether the pair at a place is of a live monitor and holds what it may.
 fn pair_sound(s: &[u8], i: usize) -> bool
-    requires { ⌜ (length (now s) ≡ 4761) × (i < 64) ⌝ }
+    requires { ⌜ (length (now s) ≡ blockSize) × (i < mostPairs) ⌝ }
     ensures { λ b. ⌜ b ≡ placeTest (now (s .entry)) i ⌝ }
 {
     let a = State::PAIRS_AT + State::PAIR_ROW * i;
     let e = a + State::PAIR_ROW;
-    let h = wide(s[a]);
+    let h = octets::wide(s[a]);
     if State::MONITORS <= h {
         return false;
     }
     let m = State::MONITORS_AT + State::MONITOR_ROW * h;
-    let interval = s[m + 3];
+    let interval = s[m + State::INTERVAL_AT];
     if interval == 0 {
         return false;
     }
-    let sampling = s[m + 4];
+    let sampling = s[m + State::SAMPLING_AT];
     let position = octets::get32(s, State::POSITION_AT);
     fields_sound(&s[a..e], position, interval, sampling)
 }
 
 // Whether the pair at a place is another than each one before it.
 fn other_sound(s: &[u8], i: usize) -> bool
-    requires { ⌜ (length (now s) ≡ 4761) × (i < 64) ⌝ }
+    requires { ⌜ (length (now s) ≡ blockSize) × (i < mostPairs) ⌝ }
     ensures { λ b. ⌜ b ≡ otherTest (now (s .entry)) i ⌝ }
 {
     let key = octets::get64(s, State::PAIRS_AT + State::PAIR_ROW * i);
@@ -212,7 +198,7 @@ fn other_sound(s: &[u8], i: usize) -> bool
 }
 
 fn held_pairs_sound(s: &[u8], c: usize) -> bool
-    requires { ⌜ (length (now s) ≡ 4761) × (c ≤ 64) ⌝ }
+    requires { ⌜ (length (now s) ≡ blockSize) × (c ≤ mostPairs) ⌝ }
     ensures { λ b. ⌜ b ≡ allBelow (heldPairTest (now (s .entry))) c ⌝ }
 {
     let mut i = 0;
@@ -230,10 +216,10 @@ fn held_pairs_sound(s: &[u8], c: usize) -> bool
 
 // Whether the pairs are sound, with zeros behind them.
 fn pairs_sound(s: &[u8]) -> bool
-    requires { ⌜ length (now s) ≡ 4761 ⌝ }
-    ensures { λ b. ⌜ b ≡ pairsTest (now (s .entry)) (getD (now (s .entry)) 4760 0) ⌝ }
+    requires { ⌜ length (now s) ≡ blockSize ⌝ }
+    ensures { λ b. ⌜ b ≡ pairsTest (now (s .entry)) (getD (now (s .entry)) countAt 0) ⌝ }
 {
-    let c = wide(s[State::COUNT_AT]);
+    let c = octets::wide(s[State::COUNT_AT]);
     if State::PAIRS < c {
         return false;
     }

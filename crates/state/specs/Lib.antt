@@ -1,2 +1,3 @@
--- What starting a state answers and leaves; the table of lengths as rows of numbers.
+-- What starting a state answers and leaves; the position moved by one frame.
 pub mod Start
+pub mod Position

@@ -16,13 +16,14 @@ use Rattle.laws.specs.Loops.{every, upTo}
 use Rattle.laws.specs.Rows.{flat}
 use Rattle.octets.specs.Little.{octetsOf, isOctet, length-octets}
 use Rattle.lines.specs.declared.Refusal.the-variants.{BadSettings}
-use Rattle.model.specs.Types.{fresh, blank, mostPrefix, mostMonitors, mostPairs}
+use Rattle.model.specs.Types.{fresh, blank}
 use Rattle.model.specs.Sound.{octetsUpTo, soundSettings}
 use Rattle.model.specs.Image.{headRow}
-use Rattle.model.specs.Block.{headSize, monitorSize, pairSize, padTo, monitorPlace, monitorBlock, pairBlock, padded}
+use Rattle.model.specs.Block.{padTo, monitorPlace, monitorBlock, pairBlock, padded}
 use Rattle.model.specs.Engine.{begin}
 use Rattle.state.specs.declared.Start.{Start}
 use Rattle.state.specs.declared.Start.the-variants.{Fresh, Refused}
+use Rattle.model.specs.Layout.{blockSize, headSize, monitorSize, monitorsSize, mostMonitors, mostPairs, mostPrefix, pairSize, pairsSize}
 
 -- "9: settings out of range"
 unfoldable pub settingsOf : ℕ → List ℕ → Start
@@ -65,12 +66,12 @@ zeros-join xs a b c d e =
     ∙ ap (λ (l : List ℕ). xs ++ l) (replicate-append-replicate a (b + (c + 1)) 0)
     ∙ ap (λ (k : ℕ). xs ++ replicate k 0) e
 
-no-monitors : monitorBlock [] ≡ replicate 1136 0
-unfolding monitorBlock monitorPlace monitorSize mostMonitors upTo
+no-monitors : monitorBlock [] ≡ replicate monitorsSize 0
+unfolding monitorBlock monitorPlace upTo
 no-monitors = refl
 
-no-pairs : pairBlock [] ≡ replicate 3584 0
-unfolding pairBlock pairSize mostPairs flat
+no-pairs : pairBlock [] ≡ replicate pairsSize 0
+unfolding pairBlock flat
 no-pairs = refl
 
 -- the block of a fresh state: zeros, with its settings
@@ -78,25 +79,25 @@ front : (opcode : ℕ) (prefix : List ℕ) → headRow (fresh opcode prefix) ≡
 unfolding headRow fresh octetsOf
 front opcode prefix = refl
 
-whole : (opcode : ℕ) (prefix : List ℕ) → length prefix ≤ 32 → padded (fresh opcode prefix)
-    ≡ replicate 5 0 ++ settingsRow opcode prefix ++ replicate (4761 - (5 + length (settingsRow opcode prefix))) 0
-unfolding padded fresh padTo headSize headRow
+whole : (opcode : ℕ) (prefix : List ℕ) → length prefix ≤ mostPrefix → padded (fresh opcode prefix)
+    ≡ replicate 5 0 ++ settingsRow opcode prefix ++ replicate (blockSize - (5 + length (settingsRow opcode prefix))) 0
+unfolding padded fresh padTo headRow
 whole opcode prefix h =
     let ys : List ℕ = settingsRow opcode prefix in
     let n : length ys ≡ 3 + length prefix = length-settings opcode prefix in
     let r : headRow (fresh opcode prefix) ≡ replicate 5 0 ++ ys = front opcode prefix in
     let l : length (headRow (fresh opcode prefix)) ≡ 5 + length ys = ap (λ (x : List ℕ). length x) r ∙ omega arith in
     let b : List ℕ = headRow (fresh opcode prefix) in
-    ap (λ (x : List ℕ). padTo 40 b ++ (x ++ (pairBlock [] ++ (0 ∷ [])))) no-monitors
-    ∙ ap (λ (x : List ℕ). padTo 40 b ++ (replicate 1136 0 ++ (x ++ (0 ∷ [])))) no-pairs
-    ∙ zeros-join b (40 - length b) 1136 3584 (4761 - (5 + length ys)) (omega arith)
-    ∙ ap (λ (x : List ℕ). x ++ replicate (4761 - (5 + length ys)) 0) r
+    ap (λ (x : List ℕ). padTo headSize b ++ (x ++ (pairBlock [] ++ (0 ∷ [])))) no-monitors
+    ∙ ap (λ (x : List ℕ). padTo headSize b ++ (replicate monitorsSize 0 ++ (x ++ (0 ∷ [])))) no-pairs
+    ∙ zeros-join b (headSize - length b) monitorsSize pairsSize (blockSize - (5 + length ys)) (omega arith)
+    ∙ ap (λ (x : List ℕ). x ++ replicate (blockSize - (5 + length ys)) 0) r
 
-pub fresh-block : (opcode : ℕ) (prefix : List ℕ) → length prefix ≤ 32
-    → put (replicate 4761 0) 5 (settingsRow opcode prefix) ≡ padded (fresh opcode prefix)
+pub fresh-block : (opcode : ℕ) (prefix : List ℕ) → length prefix ≤ mostPrefix
+    → put (replicate blockSize 0) 5 (settingsRow opcode prefix) ≡ padded (fresh opcode prefix)
 fresh-block opcode prefix h =
     let n : length (settingsRow opcode prefix) ≡ 3 + length prefix = length-settings opcode prefix in
-    zeros-put 4761 5 (settingsRow opcode prefix) (omega arith) ∙ sym (whole opcode prefix h)
+    zeros-put blockSize 5 (settingsRow opcode prefix) (omega arith) ∙ sym (whole opcode prefix h)
 
 -- settings in range, and out of range
 pub octets-known : (l : List ℕ) → ((i : ℕ) → getD l i 0 < 256) → every isOctet l ≡ true
@@ -104,24 +105,24 @@ unfolding every
 octets-known [] h = refl
 octets-known (x ∷ l) h = and-both (lt-ltb x 256 (h 0)) (octets-known l (λ i. h (suc i)))
 
-pub settings-in : (opcode : ℕ) (prefix : List ℕ) → 0xFC00 ≤ opcode → opcode ≤ 0xFFFF → length prefix ≤ 32
+pub settings-in : (opcode : ℕ) (prefix : List ℕ) → 0xFC00 ≤ opcode → opcode ≤ 0xFFFF → length prefix ≤ mostPrefix
     → every isOctet prefix ≡ true → soundSettings opcode prefix ≡ true
-unfolding soundSettings octetsUpTo mostPrefix
-settings-in opcode prefix a b c d = rw (le-leb 0xFC00 opcode a, le-leb opcode 0xFFFF b, le-leb (length prefix) 32 c) d
+unfolding soundSettings octetsUpTo
+settings-in opcode prefix a b c d = rw (le-leb 0xFC00 opcode a, le-leb opcode 0xFFFF b, le-leb (length prefix) mostPrefix c) d
 
 pub settings-low : (opcode : ℕ) (prefix : List ℕ) → opcode < 0xFC00 → soundSettings opcode prefix ≡ false
 unfolding soundSettings
 settings-low opcode prefix h = rw (lt-leb 0xFC00 opcode h)
 
-pub settings-long : (opcode : ℕ) (prefix : List ℕ) → 32 < length prefix → soundSettings opcode prefix ≡ false
-unfolding soundSettings octetsUpTo mostPrefix
+pub settings-long : (opcode : ℕ) (prefix : List ℕ) → mostPrefix < length prefix → soundSettings opcode prefix ≡ false
+unfolding soundSettings octetsUpTo
 settings-long opcode prefix h =
     and-not-right (leb 0xFC00 opcode && leb opcode 0xFFFF) _
-    (and-not-left (leb (length prefix) 32) _ (lt-leb (length prefix) 32 h))
+    (and-not-left (leb (length prefix) mostPrefix) _ (lt-leb (length prefix) mostPrefix h))
 
 -- what is answered and left, either way
-pub started : (opcode : ℕ) (prefix : List ℕ) {l : List ℕ} → soundSettings opcode prefix ≡ true → length prefix ≤ 32
-    → l ≡ put (replicate 4761 0) 5 (settingsRow opcode prefix)
+pub started : (opcode : ℕ) (prefix : List ℕ) {l : List ℕ} → soundSettings opcode prefix ≡ true → length prefix ≤ mostPrefix
+    → l ≡ put (replicate blockSize 0) 5 (settingsRow opcode prefix)
     → (Fresh ≡ settingsOf opcode prefix) × (l ≡ begin opcode prefix)
 unfolding settingsOf begin
 started opcode prefix e h q = (
@@ -138,13 +139,13 @@ not-started opcode prefix e q = (
 )
 
 -- the blank state's block: the opcode's high octet is its only octet that is not 0
-pub blank-block : {l : List ℕ} → l ≡ put (replicate 4761 0) 5 (settingsRow 0xFC00 []) → l ≡ padded blank
+pub blank-block : {l : List ℕ} → l ≡ put (replicate blockSize 0) 5 (settingsRow 0xFC00 []) → l ≡ padded blank
 unfolding blank
 blank-block q = q ∙ fresh-block 0xFC00 [] (omega arith)
 
 -- opcode, prefix length and prefix, written one after another
-pub settings-put : (l : List ℕ) (opcode : ℕ) (prefix : List ℕ) {m n o : List ℕ} {a b c : Bool} → length prefix ≤ 32
-    → 40 ≤ length l
+pub settings-put : (l : List ℕ) (opcode : ℕ) (prefix : List ℕ) {m n o : List ℕ} {a b c : Bool} → length prefix ≤ mostPrefix
+    → headSize ≤ length l
     → length m ≡ length l → length n ≡ length l
     → a ≡ leb (5 + 2) (length l) → m ≡ putIf a l 5 (octetsOf 2 opcode)
     → b ≡ leb (7 + 1) (length m) → n ≡ putIf b m 7 (octetsOf 1 (length prefix))

@@ -3,12 +3,15 @@
 use lines::Refusal;
 ghost use Prim.Native.Nat.{_≤_, _<_};
 ghost use mathlib.Core.Path.{_≡_};
+ghost use lib.Dec.{ltb};
 ghost use lib.ListN.{length};
 ghost use Rattle.laws.specs.Put.{put};
 ghost use Rattle.model.specs.Types.{ticksOf, blank};
-ghost use Rattle.model.specs.Block.{padded};
+ghost use Rattle.model.specs.Level.{level, inRange};
+ghost use Rattle.model.specs.Block.{padded, advanced};
 ghost use Rattle.model.specs.Engine.{begin};
 ghost use Rattle.state.specs.Start.{settingsOf, settingsRow};
+ghost use Rattle.model.specs.Layout.{headSize, mostPrefix};
 
 // Seconds of the low interval.
 pub struct Seconds(pub u8);
@@ -24,6 +27,42 @@ impl Seconds {
         let n = self.0 as u16;
         Ticks(10 * n)
     }
+}
+
+impl Ticks {
+    // Whether these are fewer.
+    pub fn below(self, run: Ticks) -> bool
+        ensures { λ r. ⌜ r ≡ ltb (self .0) (run .0) ⌝ }
+    {
+        self.0 < run.0
+    }
+}
+
+// The level of an RSSI octet: 0 for −127 dBm, 147 for 20 dBm; levels are ordered as dBm are.
+pub fn level_of(rssi: u8) -> u8
+    ensures { λ r. ⌜ r ≡ level rssi ⌝ }
+{
+    let n = rssi as u16;
+    ((n + 127) % 256) as u8
+}
+
+// Whether an RSSI octet stands for −127 to 20 dBm.
+pub fn in_range(rssi: u8) -> bool
+    ensures { λ r. ⌜ r ≡ inRange rssi ⌝ }
+{
+    level_of(rssi) <= State::MOST_LEVEL
+}
+
+// The position one frame further. A block of under 4 octets is left as it is; behind the last number comes 0.
+pub fn advance(block: &mut [u8])
+    ensures { λ _. ⌜ now (block .exit) ≡ advanced (now (block .entry)) ⌝ }
+{
+    let position = octets::get32(block, State::POSITION_AT);
+    octets::put32(
+        block,
+        State::POSITION_AT,
+        std::num::wrapping_add_u32(position, 1),
+    );
 }
 
 // What is said of settings: in range, or why not.
@@ -55,36 +94,101 @@ impl State {
     pub const DATA: usize = 31;
 
     pub const PREFIX: usize = 32;
+    // The same limits where an octet is compared with them.
+    pub const HANDLES: u8 = State::MONITORS as u8;
+
+    pub const MOST_PAIRS: u8 = State::PAIRS as u8;
+
+    pub const MOST_DATA: u8 = State::DATA as u8;
+
+    pub const MOST_PREFIX: u8 = State::PREFIX as u8;
+    // The greatest level of an RSSI in range: 20 dBm.
+    pub const MOST_LEVEL: u8 = 147;
     // The least vendor opcode; the greatest is 0xFFFF.
     pub const LEAST_OPCODE: u16 = 0xFC00;
-    // The block; the longest answer, image and line.
-    pub const SIZE: usize = 4761;
-
+    // The longest answer, image and line.
     pub const ANSWER: usize = 2880;
 
     pub const IMAGE: usize = 9770;
 
-    pub const LINE: usize = 527;
-    // Where the fields of the block stand.
+    pub const LINE: usize = lines::LINE_ROOM;
+    // The head: position (4), filter, opcode (2), prefix length, prefix.
     pub const POSITION_AT: usize = 0;
 
-    pub const FILTER_AT: usize = 4;
+    pub const FILTER_AT: usize = State::POSITION_AT + 4;
 
-    pub const OPCODE_AT: usize = 5;
+    pub const OPCODE_AT: usize = State::FILTER_AT + 1;
 
-    pub const PREFIX_LENGTH_AT: usize = 7;
+    pub const PREFIX_LENGTH_AT: usize = State::OPCODE_AT + 2;
 
-    pub const PREFIX_AT: usize = 8;
+    pub const PREFIX_AT: usize = State::PREFIX_LENGTH_AT + 1;
 
-    pub const MONITORS_AT: usize = 40;
+    pub const HEAD: usize = State::PREFIX_AT + State::PREFIX;
+    // A monitor's row: handle, high, low, interval, sampling, type, condition length, condition.
+    pub const HIGH_AT: usize = 1;
 
-    pub const PAIRS_AT: usize = 1176;
+    pub const LOW_AT: usize = State::HIGH_AT + 1;
 
-    pub const COUNT_AT: usize = 4760;
-    // A monitor's row, a pair's row.
-    pub const MONITOR_ROW: usize = 71;
+    pub const INTERVAL_AT: usize = State::LOW_AT + 1;
 
-    pub const PAIR_ROW: usize = 56;
+    pub const SAMPLING_AT: usize = State::INTERVAL_AT + 1;
+
+    pub const TYPE_AT: usize = State::SAMPLING_AT + 1;
+
+    pub const CONDITION_LENGTH_AT: usize = State::TYPE_AT + 1;
+
+    pub const CONDITION_AT: usize = State::CONDITION_LENGTH_AT + 1;
+
+    pub const MONITOR_ROW: usize = State::CONDITION_AT + State::CONDITION;
+    // A pair's row: its key (handle, and the device: address type and address), ticks since a good packet (2), ticks in the
+    // window, packets (4), sum (8), event type, n, data.
+    pub const KIND_AT: usize = 1;
+
+    pub const ADDRESS_AT: usize = State::KIND_AT + 1;
+
+    pub const SILENT_AT: usize = State::ADDRESS_AT + 6;
+
+    pub const TICKS_AT: usize = State::SILENT_AT + 2;
+
+    pub const PACKETS_AT: usize = State::TICKS_AT + 1;
+
+    pub const SUM_AT: usize = State::PACKETS_AT + 4;
+
+    pub const EVENT_AT: usize = State::SUM_AT + 8;
+
+    pub const LENGTH_AT: usize = State::EVENT_AT + 1;
+
+    pub const DATA_AT: usize = State::LENGTH_AT + 1;
+
+    pub const PAIR_ROW: usize = State::DATA_AT + State::DATA;
+    // A pair's key and its device; its window from the ticks on.
+    pub const KEY: usize = State::SILENT_AT;
+
+    pub const DEVICE: usize = State::SILENT_AT - State::KIND_AT;
+
+    pub const WINDOW: usize = State::PAIR_ROW - State::TICKS_AT;
+    // The block: the head, the monitors' rows by handle, the pairs' rows in start order, the number of pairs.
+    pub const MONITORS_AT: usize = State::HEAD;
+
+    pub const PAIRS_AT: usize = State::MONITORS_AT + State::MONITOR_ROW * State::MONITORS;
+
+    pub const COUNT_AT: usize = State::PAIRS_AT + State::PAIR_ROW * State::PAIRS;
+
+    pub const SIZE: usize = State::COUNT_AT + 1;
+    // The first monitor's interval and sampling period; what follows the handle in a monitor's row, and from the condition on.
+    pub const INTERVALS_AT: usize = State::MONITORS_AT + State::INTERVAL_AT;
+
+    pub const PERIODS_AT: usize = State::MONITORS_AT + State::SAMPLING_AT;
+
+    pub const MONITOR_REST: usize = State::MONITOR_ROW - 1;
+
+    pub const CONDITION_ROOM: usize = State::MONITOR_ROW - State::CONDITION_AT;
+    // Rows with the octet that names a line of an image.
+    pub const HEAD_LINE: usize = State::HEAD + 1;
+
+    pub const LINE_ROW: usize = State::MONITOR_ROW + 1;
+
+    pub const PAIR_LINE: usize = State::PAIR_ROW + 1;
 
     // The fresh state with these settings; the blank one and refusal 9 where they are out of range.
     pub fn fresh(opcode: u16, prefix: &[u8]) -> Begun
@@ -123,7 +227,7 @@ impl State {
 
 // The settings written into a block.
 fn set_settings(block: &mut [u8], opcode: u16, prefix: &[u8])
-    requires { ⌜ (length (now prefix) ≤ 32) × (40 ≤ length (now block)) ⌝ }
+    requires { ⌜ (length (now prefix) ≤ mostPrefix) × (headSize ≤ length (now block)) ⌝ }
     ensures { λ _. ⌜ now (block .exit) ≡ put (now (block .entry)) 5 (settingsRow opcode (now (prefix .entry))) ⌝ }
 {
     octets::put16(block, State::OPCODE_AT, opcode);

@@ -14,11 +14,11 @@ use Rattle.octets.specs.Numbers.{numberAt}
 use Rattle.advert.specs.Condition.{formOf}
 use Rattle.advert.specs.declared.Form.{Form}
 use Rattle.advert.specs.declared.Form.the-variants.{Good, Malformed, NotBuilt, Unknown}
-use Rattle.model.specs.Types.{mostCondition}
 use Rattle.model.specs.Monitors.{faultOf, monitorOf, invalid, full, disallowed}
 use Rattle.model.specs.Commands.{table, paramsIn, readStatus}
 use Rattle.statuses.specs.Statuses.{settingsGood, conditionFault, formFault, form-fault, fault-of, addOf}
 use Rattle.statuses.specs.Statuses.{cancelOf, enableOf}
+use Rattle.model.specs.Layout.{mostCondition}
 
 -- an octet that was read is the list's element; 0 past the end
 pub octet-at : (l : List ℕ) (i : ℕ) {v : ℕ} → v ≡ numberAt 1 l i → v ≡ getD l i 0
@@ -34,13 +34,13 @@ module _ (kind : ℕ) (condition : List ℕ) {f : Form} (e : f ≡ formOf kind c
   of-form : {g : Form} → f ≡ g → formFault g (length condition) ≡ conditionFault kind condition
   of-form q = ap (λ (x : Form). formFault x (length condition)) (sym q ∙ e) ∙ form-fault kind condition
 
-  pub form-long : f ≡ Good → 64 < length condition → 7 ≡ conditionFault kind condition
-  unfolding formFault mostCondition
-  form-long q h = sym (pick-true 7 0 (lt-ltb 64 (length condition) h)) ∙ of-form q
+  pub form-long : f ≡ Good → mostCondition < length condition → 7 ≡ conditionFault kind condition
+  unfolding formFault
+  form-long q h = sym (pick-true 7 0 (lt-ltb mostCondition (length condition) h)) ∙ of-form q
 
-  pub form-good : f ≡ Good → length condition ≤ 64 → 0 ≡ conditionFault kind condition
-  unfolding formFault mostCondition
-  form-good q h = sym (pick-false 7 0 (le-ltb 64 (length condition) h)) ∙ of-form q
+  pub form-good : f ≡ Good → length condition ≤ mostCondition → 0 ≡ conditionFault kind condition
+  unfolding formFault
+  form-good q h = sym (pick-false 7 0 (le-ltb mostCondition (length condition) h)) ∙ of-form q
 
   pub form-malformed : f ≡ Malformed → 18 ≡ conditionFault kind condition
   unfolding formFault

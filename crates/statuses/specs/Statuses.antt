@@ -12,10 +12,11 @@ use Rattle.advert.specs.Condition.{wellFormed, formOf}
 use Rattle.advert.specs.declared.Form.{Form}
 use Rattle.advert.specs.declared.Form.the-variants.{Good, Malformed, NotBuilt, Unknown}
 use Rattle.rule.specs.Engine.{find, slot}
-use Rattle.model.specs.Types.{Model, Monitor, mostCondition, mostMonitors}
+use Rattle.model.specs.Types.{Model, Monitor}
 use Rattle.model.specs.Level.{level, inRange}
 use Rattle.model.specs.Monitors.{faultOf, monitorOf, highAbove, invalid, unsupported, full, disallowed}
 use Rattle.model.specs.Commands.{table, paramsIn, present, addStatus, cancelStatus, enableStatus}
+use Rattle.model.specs.Layout.{mostCondition, mostMonitors}
 
 -- "a threshold outside −127 to 20, high not above low, interval outside 0x01 to 0x3C": none of these
 unfoldable pub settingsGood : ℕ → ℕ → ℕ → Bool
@@ -88,8 +89,8 @@ addOf room l =
     pick (not (eqb (faultOf (monitorOf l)) 0)) (faultOf (monitorOf l)) (
     pick room 0 full))
 
-pub add-of : (m : Model) (l : List ℕ) → addStatus m l ≡ addOf (present (slot (m .mons) 16 0)) l
-unfolding addStatus addOf mostMonitors
+pub add-of : (m : Model) (l : List ℕ) → addStatus m l ≡ addOf (present (slot (m .mons) mostMonitors 0)) l
+unfolding addStatus addOf
 add-of m l = refl
 
 -- 04, given whether the handle is live

@@ -11,6 +11,7 @@ ghost use Rattle.model.specs.Commands.{table, paramsIn, answerIn, readStatus};
 ghost use Rattle.statuses.specs.Lookup.{Lengths};
 ghost use Rattle.statuses.specs.Statuses.{settingsGood, conditionFault, addOf, cancelOf, enableOf};
 use advert::Form;
+use state::State;
 
 // A row of the table: a sub-opcode, its parameter length counting the sub-opcode (03: the least), and the number of
 // return parameters on success (00: less the prefix).
@@ -79,26 +80,14 @@ pub fn answer_of(sub: u8) -> u8
     r.answer
 }
 
-fn level_of(o: u8) -> u16
-    ensures { λ r. ⌜ r ≡ level o ⌝ }
-{
-    (o as u16 + 127) % 256
-}
-
-fn in_range(o: u8) -> bool
-    ensures { λ r. ⌜ r ≡ inRange o ⌝ }
-{
-    level_of(o) <= 147
-}
-
 // Whether thresholds and interval are in range, and high is above low.
 fn settings_good(high: u8, low: u8, interval: u8) -> bool
     ensures { λ r. ⌜ r ≡ settingsGood high low interval ⌝ }
 {
-    let a = in_range(high);
-    let b = in_range(low);
-    let h = level_of(high);
-    let l = level_of(low);
+    let a = state::in_range(high);
+    let b = state::in_range(low);
+    let h = state::level_of(high);
+    let l = state::level_of(low);
     a & b & (l < h) & (1 <= interval) & (interval <= 0x3C)
 }
 
@@ -109,7 +98,7 @@ fn condition_status(kind: u8, condition: &[u8]) -> u8
     let form = advert::condition_form(kind, condition);
     match form {
         Form::Good => {
-            if 64 < condition.len() {
+            if State::CONDITION < condition.len() {
                 return 0x07;
             }
             0

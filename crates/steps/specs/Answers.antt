@@ -28,22 +28,24 @@ use Rattle.steps.specs.Executed.{Executed, executed}
 use Rattle.steps.specs.Starts.{Started, Starts, packet-starts}
 use Rattle.steps.specs.Sizes.{Octets, returned-short, complete-short, event-short, packet-report-short}
 use Rattle.steps.specs.Sizes.{window-report-short}
+use Rattle.model.specs.Layout.{commandMost, eventMost, reportMost}
+use Rattle.model.specs.Layout.{mostMonitors}
 
 module _ (m : Model) (s : Sound m) where
   settings : Settings (m .opcode) (m .prefix)
   settings = settings-of (m .opcode) (m .prefix) (s .settings)
 
-  pub command-short : (l : List ℕ) → Params l → Octets 48 (complete (m .opcode) (returned m l))
+  pub command-short : (l : List ℕ) → Params l → Octets commandMost (complete (m .opcode) (returned m l))
   command-short l t = complete-short (m .opcode) (returned m l) (returned-short m l settings t)
 
   -- a start event
-  start-short : (p : Packet) (q : Pair) → Sent p → Started p 16 q → Octets 44 (startEvent (m .prefix) q)
+  start-short : (p : Packet) (q : Pair) → Sent p → Started p mostMonitors q → Octets eventMost (startEvent (m .prefix) q)
   unfolding startEvent startPair
   start-short p q t w = go (w .of) (w .below) q (w .is)
     where
-      go : (h : ℕ) → h < 16 → (r : Pair) → r ≡ startPair h p → Octets 44 (startEvent (m .prefix) r)
+      go : (h : ℕ) → h < mostMonitors → (r : Pair) → r ≡ startPair h p → Octets eventMost (startEvent (m .prefix) r)
       go h b r e =
-          subst (λ x. Octets 44 (startEvent (m .prefix) x)) (sym e)
+          subst (λ x. Octets eventMost (startEvent (m .prefix) x)) (sym e)
           (event-short (m .opcode) (m .prefix) (startPair h p) 1 settings (t .kind-most) (t .address-six)
           (t .address-octets) (omega arith) (omega arith))
 
@@ -52,59 +54,58 @@ module _ (m : Model) (s : Sound m) where
   unfolding packetAnswer
   packet-short p t =
       let w : Starts m p = packet-starts m p in
-      let all : All (λ q. Octets 44 (startEvent (m .prefix) q)) (startsOf m p) =
-      all-weaken (Started p 16) (λ q. Octets 44 (startEvent (m .prefix) q)) (λ q u. start-short p q t u)
+      let all : All (λ q. Octets eventMost (startEvent (m .prefix) q)) (startsOf m p) =
+      all-weaken (Started p mostMonitors) (λ q. Octets eventMost (startEvent (m .prefix) q)) (λ q u. start-short p q t u)
       (startsOf m p) (w .starts) in
-      let events : Octets (44 * length (startsOf m p)) (each (startEvent (m .prefix)) (startsOf m p)) =
-      short-each isOctet 44 (startEvent (m .prefix)) (startsOf m p) all in
-      short-append isOctet 704 45 (each (startEvent (m .prefix)) (startsOf m p))
+      let events : Octets (eventMost * length (startsOf m p)) (each (startEvent (m .prefix)) (startsOf m p)) =
+      short-each isOctet eventMost (startEvent (m .prefix)) (startsOf m p) all in
+      short-append isOctet 704 reportMost (each (startEvent (m .prefix)) (startsOf m p))
       (when (reported m p) (packetReport p))
-      (short-more isOctet (44 * length (startsOf m p)) 704 _ (omega (arith, w .few)) events)
-      (short-when isOctet (reported m p) 45 (packetReport p) (packet-report-short p t))
+      (short-more isOctet (eventMost * length (startsOf m p)) 704 _ (omega (arith, w .few)) events)
+      (short-when isOctet (reported m p) reportMost (packetReport p) (packet-report-short p t))
 
   -- a tick, for one pair held: a stop event or a report
   pair-short : (q : Pair) → Held (m .position) (m .mons) q
-      → Octets 45 (tickOctets (m .filter) (m .prefix) (find (m .mons) (q .handle)) q)
+      → Octets reportMost (tickOctets (m .filter) (m .prefix) (find (m .mons) (q .handle)) q)
   unfolding tickOctets stopEvent
   pair-short q h =
       let f : Fields q = fields-of q (h .kept .fields) in
       let row : Row (q .handle, h .mon) = find-all Row (m .mons) (q .handle) (h .mon) (s .monitors .rows) (h .live) in
-      let stop : Octets 44 (stopEvent (m .prefix) q) =
+      let stop : Octets eventMost (stopEvent (m .prefix) q) =
       event-short (m .opcode) (m .prefix) q 0 settings (f .kind-most) (f .address-six) (f .address-octets)
       (omega (arith, row .0)) (omega arith) in
       rw (h .live)
-      (short-pick isOctet (goesOn (h .mon) q) 45 (when (windowSays (m .filter) (h .mon) q) (windowReport q))
+      (short-pick isOctet (goesOn (h .mon) q) reportMost (when (windowSays (m .filter) (h .mon) q) (windowReport q))
       (stopEvent (m .prefix) q)
-      (λ e. short-when isOctet (windowSays (m .filter) (h .mon) q) 45 (windowReport q) (window-report-short q f))
-      (λ e. short-more isOctet 44 45 _ (omega arith) stop))
+      (λ e. short-when isOctet (windowSays (m .filter) (h .mon) q) reportMost (windowReport q) (window-report-short q f))
+      (λ e. short-more isOctet eventMost reportMost _ (omega arith) stop))
 
   -- a tick: at most 64 of these
-  pub tick-short : Octets 2880 (tickAnswer m)
+  pub tick-short : Octets answerRoom (tickAnswer m)
   unfolding tickAnswer
   tick-short =
       let f : Pair → List ℕ = λ q. tickOctets (m .filter) (m .prefix) (find (m .mons) (q .handle)) q in
-      let all : All (λ q. Octets 45 (f q)) (m .pairs) =
-      all-weaken (Held (m .position) (m .mons)) (λ q. Octets 45 (f q)) pair-short (m .pairs) (s .pairs .held) in
-      short-more isOctet (45 * length (m .pairs)) 2880 _ (omega (arith, s .pairs .room))
-      (short-each isOctet 45 f (m .pairs) all)
+      let all : All (λ q. Octets reportMost (f q)) (m .pairs) =
+      all-weaken (Held (m .position) (m .mons)) (λ q. Octets reportMost (f q)) pair-short (m .pairs) (s .pairs .held) in
+      short-more isOctet (reportMost * length (m .pairs)) answerRoom _ (omega (arith, s .pairs .room))
+      (short-each isOctet reportMost f (m .pairs) all)
 
-  pub answer-short : (f : Typed) → Formed f → Octets 2880 (answerTyped m f)
+  pub answer-short : (f : Typed) → Formed f → Octets answerRoom (answerTyped m f)
   unfolding answerTyped
-  answer-short (command o l) t = short-more isOctet 48 2880 _ (omega arith) (command-short l t)
-  answer-short (packet p) t = short-more isOctet 749 2880 _ (omega arith) (packet-short p t)
+  answer-short (command o l) t = short-more isOctet commandMost answerRoom _ (omega arith) (command-short l t)
+  answer-short (packet p) t = short-more isOctet 749 answerRoom _ (omega arith) (packet-short p t)
   answer-short tick t = tick-short
-  answer-short bad t = short-nil isOctet 2880
+  answer-short bad t = short-nil isOctet answerRoom
 
 -- An executed frame writes octets, at most 2,880.
 written : (m n : Model) (b : Body) (wrote : List ℕ) → soundModel m ≡ true → every isOctet (b .payload) ≡ true
-    → act m b ≡ done n wrote → Octets 2880 wrote
+    → act m b ≡ done n wrote → Octets answerRoom wrote
 written m n b wrote s o e =
     let x : Executed m (typed b) n wrote = executed m n b wrote e in
-    subst (Octets 2880) (x .says) (answer-short m (sound-of m s) (typed b) (typed-formed b o))
+    subst (Octets answerRoom) (x .says) (answer-short m (sound-of m s) (typed b) (typed-formed b o))
 
 pub answer-fits : (m n : Model) (b : Body) (wrote : List ℕ) → soundModel m ≡ true → every isOctet (b .payload) ≡ true
     → act m b ≡ done n wrote → length wrote ≤ answerRoom
-unfolding answerRoom
 answer-fits m n b wrote s o e = written m n b wrote s o e .fits
 
 pub answer-octets : (m n : Model) (b : Body) (wrote : List ℕ) → soundModel m ≡ true

@@ -11,10 +11,11 @@ use borrow.Author.Tests.{leb-true, leb-false, ltb-true, eqb-true, le-leb, lt-ltb
 use Rattle.laws.specs.Tests.{and-left, and-right, and-both, pick-true, pick-false}
 use Rattle.laws.specs.Loops.{every}
 use Rattle.octets.specs.Little.{isOctet}
-use Rattle.model.specs.Types.{Monitor, Pair, mostPrefix, mostData}
+use Rattle.model.specs.Types.{Monitor, Pair}
 use Rattle.model.specs.Level.{levels}
 use Rattle.model.specs.Monitors.{accepts, windowed}
 use Rattle.model.specs.Sound.{octetsUpTo, soundSettings, soundMonitor, soundWindow, soundEmpty, soundFields}
+use Rattle.model.specs.Layout.{mostData, mostPrefix}
 
 -- the parts of a conjunction
 pub and-three : (a b c : Bool) → (a && b && c) ≡ true → (a ≡ true) × (b ≡ true) × (c ≡ true)
@@ -47,14 +48,14 @@ up-to-holds n l h e = and-both (le-leb (length l) n h) e
 pub record Settings (opcode : ℕ) (prefix : List ℕ) : Type 0 where
   pub opcode-least : 64512 ≤ opcode
   pub opcode-most : opcode ≤ 65535
-  pub prefix-short : length prefix ≤ 32
+  pub prefix-short : length prefix ≤ mostPrefix
   pub prefix-octets : every isOctet prefix ≡ true
 
 pub settings-of : (opcode : ℕ) (prefix : List ℕ) → soundSettings opcode prefix ≡ true → Settings opcode prefix
-unfolding soundSettings mostPrefix
+unfolding soundSettings
 settings-of opcode prefix e =
-    let r = and-three (leb 64512 opcode) (leb opcode 65535) (octetsUpTo 32 prefix) e in
-    let u = up-to 32 prefix (r .2) in
+    let r = and-three (leb 64512 opcode) (leb opcode 65535) (octetsUpTo mostPrefix prefix) e in
+    let u = up-to mostPrefix prefix (r .2) in
     record {
       opcode-least = leb-true 64512 opcode (r .0);
       opcode-most = leb-true opcode 65535 (r .1);
@@ -63,10 +64,10 @@ settings-of opcode prefix e =
     }
 
 pub settings-hold : (opcode : ℕ) (prefix : List ℕ) → Settings opcode prefix → soundSettings opcode prefix ≡ true
-unfolding soundSettings mostPrefix
+unfolding soundSettings
 settings-hold opcode prefix s =
     and-both (and-both (le-leb 64512 opcode (s .opcode-least)) (le-leb opcode 65535 (s .opcode-most)))
-    (up-to-holds 32 prefix (s .prefix-short) (s .prefix-octets))
+    (up-to-holds mostPrefix prefix (s .prefix-short) (s .prefix-octets))
 
 -- "every monitor as 0x03 would accept it", its fields octets
 pub record Stored (m : Monitor) : Type 0 where
@@ -96,16 +97,16 @@ pub record Fields (q : Pair) : Type 0 where
   pub address-six : length (q .address) ≡ 6
   pub address-octets : every isOctet (q .address) ≡ true
   pub event-most : q .event ≤ 3
-  pub adv-short : length (q .adv) ≤ 31
+  pub adv-short : length (q .adv) ≤ mostData
   pub adv-octets : every isOctet (q .adv) ≡ true
 
 pub fields-of : (q : Pair) → soundFields q ≡ true → Fields q
-unfolding soundFields mostData
+unfolding soundFields
 fields-of q e =
     let r =
     and-five (leb (q .kind) 1) (eqb (length (q .address)) 6) (every isOctet (q .address)) (leb (q .event) 3)
-    (octetsUpTo 31 (q .adv)) e in
-    let u = up-to 31 (q .adv) (r .4) in
+    (octetsUpTo mostData (q .adv)) e in
+    let u = up-to mostData (q .adv) (r .4) in
     record {
       kind-most = leb-true (q .kind) 1 (r .0);
       address-six = eqb-true (length (q .address)) 6 (r .1);
@@ -116,12 +117,12 @@ fields-of q e =
     }
 
 pub fields-hold : (q : Pair) → Fields q → soundFields q ≡ true
-unfolding soundFields mostData
+unfolding soundFields
 fields-hold q f =
     and-both (and-both (and-both (and-both
     (le-leb (q .kind) 1 (f .kind-most)) (eq-eqb (length (q .address)) 6 (f .address-six)))
     (f .address-octets)) (le-leb (q .event) 3 (f .event-most)))
-    (up-to-holds 31 (q .adv) (f .adv-short) (f .adv-octets))
+    (up-to-holds mostData (q .adv) (f .adv-short) (f .adv-octets))
 
 -- "for P in 1 to 0xFE window ticks below P, packets at most the position, sum from −127 × packets to 20 × packets"
 pub record Gathers (position : ℕ) (m : Monitor) (q : Pair) : Type 0 where

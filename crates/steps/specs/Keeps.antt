@@ -88,7 +88,7 @@ fresh-sound opcode prefix e =
 
 -- "the blank state: fresh, opcode 0xFC00, empty prefix"
 pub blank-sound : soundModel blank ≡ true
-unfolding blank soundSettings Rattle.model.specs.Sound.octetsUpTo Rattle.model.specs.Types.mostPrefix every
+unfolding blank soundSettings Rattle.model.specs.Sound.octetsUpTo every
 blank-sound = fresh-sound 64512 [] refl
 
 -- Refusal 8: a window holds at most as many packets as frames were executed, so it is never full before the last

@@ -16,7 +16,7 @@ use Rattle.rule.specs.Base.{none≢some}
 use Rattle.rule.specs.Engine.{find, slot, insert, insertAt, remove}
 use Rattle.rule.specs.Finds.{rising-insert, rising-remove, all-insert, all-remove, find-insert-other}
 use Rattle.rule.specs.Finds.{find-remove-other, slot-some, Lowest}
-use Rattle.model.specs.Types.{Model, Monitor, Pair, withLists, withFilter, mostMonitors}
+use Rattle.model.specs.Types.{Model, Monitor, Pair, withLists, withFilter}
 use Rattle.model.specs.Monitors.{faultOf, accepts, monitorOf, invalid}
 use Rattle.model.specs.Accepted.{pick-none}
 use Rattle.model.specs.Commands.{table, paramsIn, subOf, addStatus, enableStatus, status, ofOther, cancelled}
@@ -28,6 +28,7 @@ use Rattle.steps.specs.Whole.{Row, key, Held, Pairs, Monitors, Sound}
 use Rattle.steps.specs.Typed.{pick-both, at-octet}
 use Rattle.steps.specs.Moves.{by-test}
 use Rattle.steps.specs.Turns.{pairs-moved}
+use Rattle.model.specs.Layout.{mostMonitors}
 
 -- the lists of a sound state
 pub record Both (position : ℕ) (mons : List (ℕ × Monitor)) (qs : List Pair) : Type 0 where
@@ -36,13 +37,13 @@ pub record Both (position : ℕ) (mons : List (ℕ × Monitor)) (qs : List Pair)
 
 -- a monitor more: rows rise, and every live handle finds what it found
 pub inserted : (k : ℕ) (mons : List (ℕ × Monitor)) (qs : List Pair) (new : Monitor) → soundMonitor new ≡ true
-    → Both k mons qs → Both k (insertAt (slot mons 16 0) new mons) qs
-inserted k mons qs new ok s = go (slot mons 16 0) refl
+    → Both k mons qs → Both k (insertAt (slot mons mostMonitors 0) new mons) qs
+inserted k mons qs new ok s = go (slot mons mostMonitors 0) refl
   where
-    go : (o : Option ℕ) → slot mons 16 0 ≡ o → Both k (insertAt o new mons) qs
+    go : (o : Option ℕ) → slot mons mostMonitors 0 ≡ o → Both k (insertAt o new mons) qs
     go none e = s
     go (some g) e =
-        let w : Lowest mons 16 0 g = slot-some mons 16 0 g e in
+        let w : Lowest mons mostMonitors 0 g = slot-some mons mostMonitors 0 g e in
         let a : Monitors mons = s .monitors in
         let b : Pairs k mons qs = s .pairs in
         let ms : Monitors (insert g new mons) =
@@ -147,9 +148,9 @@ module _ (m : Model) (s : Sound m) where
   with-filter on h = record { filter-most = h; lists = record { monitors = s .monitors; pairs = s .pairs } }
 
   pub added-keeps : (new : Monitor) → soundMonitor new ≡ true → Commanded m (added m new)
-  unfolding added mostMonitors
+  unfolding added
   added-keeps new ok =
-      with-lists (insertAt (slot (m .mons) 16 0) new (m .mons)) (m .pairs)
+      with-lists (insertAt (slot (m .mons) mostMonitors 0) new (m .mons)) (m .pairs)
       (inserted (m .position) (m .mons) (m .pairs) new ok (same .lists))
 
   pub cancelled-keeps : (h : ℕ) → Commanded m (cancelled m h)

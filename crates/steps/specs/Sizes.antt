@@ -16,7 +16,7 @@ use Rattle.octets.specs.Little.{octetsOf, isOctet, length-octets, octets-octets
 use Rattle.rule.specs.Engine.{slot}
 use Rattle.rule.specs.Finds.{slot-some, Lowest}
 use Rattle.advert.specs.Condition.{wellFormed}
-use Rattle.model.specs.Types.{Model, Monitor, Packet, Pair, mostMonitors, mostCondition}
+use Rattle.model.specs.Types.{Model, Monitor, Packet, Pair}
 use Rattle.model.specs.Level.{mean, levels, inRange}
 use Rattle.model.specs.Monitors.{highAbove, faultOf, monitorOf}
 use Rattle.model.specs.Commands.{table, paramsIn, present, subOf, readStatus, addStatus, cancelStatus, enableStatus}
@@ -25,6 +25,7 @@ use Rattle.model.specs.Events.{complete, event, report, packetReport, windowRep
 use Rattle.steps.specs.Lists.{Short, short-nil, short-cons, short-append, short-more, short-pick}
 use Rattle.steps.specs.Facts.{Settings, Fields}
 use Rattle.steps.specs.Typed.{pick-both, at-octet, Params, Sent}
+use Rattle.model.specs.Layout.{mostCondition, mostData, mostMonitors, mostPrefix}
 
 -- at most n octets
 abbrev pub Octets : ℕ → List ℕ → Type 0
@@ -71,21 +72,21 @@ status-octet m l =
 
 -- the new handle is an octet
 pub handle-octet : (m : Model) → isOctet (newHandle m) ≡ true
-unfolding newHandle handleOr mostMonitors
-handle-octet m = go (slot (m .mons) 16 0) refl
+unfolding newHandle handleOr
+handle-octet m = go (slot (m .mons) mostMonitors 0) refl
   where
-    go : (o : Option ℕ) → slot (m .mons) 16 0 ≡ o → isOctet (handleOr o) ≡ true
+    go : (o : Option ℕ) → slot (m .mons) mostMonitors 0 ≡ o → isOctet (handleOr o) ≡ true
     go none e = refl
     go (some h) e =
-        let w : Lowest (m .mons) 16 0 h = slot-some (m .mons) 16 0 h e in octet h (omega (arith, w .below))
+        let w : Lowest (m .mons) mostMonitors 0 h = slot-some (m .mons) mostMonitors 0 h e in octet h (omega (arith, w .below))
 
 -- "Return, success", "Return, failure": 43 octets at most
 pub success-short : (m : Model) (l : List ℕ) → Settings (m .opcode) (m .prefix) → Params l → Octets 43 (success m l)
 unfolding success features subOf every
 success-short m l s t =
-    let pre : Octets 32 (m .prefix) = octets-made 32 (m .prefix) (s .prefix-short) (s .prefix-octets) in
+    let pre : Octets mostPrefix (m .prefix) = octets-made mostPrefix (m .prefix) (s .prefix-short) (s .prefix-octets) in
     let tail : Octets 33 (length (m .prefix) ∷ m .prefix) =
-    octets-cons 32 (length (m .prefix)) (m .prefix) (omega (arith, s .prefix-short)) pre in
+    octets-cons mostPrefix (length (m .prefix)) (m .prefix) (omega (arith, s .prefix-short)) pre in
     let eight : Octets 8 features = octets-made 8 features (omega arith) refl in
     let sub : isOctet (getD l 0 0) ≡ true = at-octet l 0 (t .octets) in
     short-pick isOctet (eqb (subOf l) 0) 43 _ _
@@ -128,28 +129,28 @@ pub event-short : (opcode : ℕ) (prefix : List ℕ) (q : Pair) (state : ℕ) �
     → every isOctet (q .address) ≡ true → q .handle < 256 → state ≤ 1 → Octets 44 (event prefix q state)
 unfolding event
 event-short opcode prefix q state s k n o h t =
-    let pre : Octets 32 prefix = octets-made 32 prefix (s .prefix-short) (s .prefix-octets) in
+    let pre : Octets mostPrefix prefix = octets-made mostPrefix prefix (s .prefix-short) (s .prefix-octets) in
     let adr : Octets 6 (q .address) = octets-made 6 (q .address) (omega arith) o in
     let end : Octets 2 (q .handle ∷ state ∷ []) =
     octets-cons 1 (q .handle) _ h (octets-cons 0 state [] (omega arith) (short-nil isOctet 0)) in
     octets-cons 43 255 _ (omega arith) (octets-cons 42 (10 + length prefix) _ (omega (arith, s .prefix-short))
-    (short-append isOctet 32 10 prefix _ pre (octets-cons 9 2 _ (omega arith) (octets-cons 8 (q .kind) _ (omega arith)
+    (short-append isOctet mostPrefix 10 prefix _ pre (octets-cons 9 2 _ (omega arith) (octets-cons 8 (q .kind) _ (omega arith)
     (short-append isOctet 6 2 (q .address) _ adr end)))))
 
 -- "Report: 0x3E, 12 + n, 0x02, 0x01, event type, address type, address, n, data, RSSI": 45 octets at most
 pub report-short : (event kind : ℕ) (address adv : List ℕ) (rssi : ℕ) → event ≤ 3 → kind ≤ 1 → length address ≡ 6
-    → every isOctet address ≡ true → length adv ≤ 31 → every isOctet adv ≡ true → rssi < 256
+    → every isOctet address ≡ true → length adv ≤ mostData → every isOctet adv ≡ true → rssi < 256
     → Octets 45 (report event kind address adv rssi)
 unfolding report
 report-short event kind address adv rssi e k n o a d r =
     let adr : Octets 6 address = octets-made 6 address (omega arith) o in
-    let dat : Octets 31 adv = octets-made 31 adv a d in
+    let dat : Octets mostData adv = octets-made mostData adv a d in
     let end : Octets 1 (rssi ∷ []) = octets-cons 0 rssi [] r (short-nil isOctet 0) in
     octets-cons 44 62 _ (omega arith)
     (octets-cons 43 (12 + length adv) _ (omega arith) (octets-cons 42 2 _ (omega arith)
     (octets-cons 41 1 _ (omega arith) (octets-cons 40 event _ (omega arith) (octets-cons 39 kind _ (omega arith)
     (short-append isOctet 6 33 address _ adr
-    (octets-cons 32 (length adv) _ (omega arith) (short-append isOctet 31 1 adv _ dat end))))))))
+    (octets-cons mostPrefix (length adv) _ (omega arith) (short-append isOctet mostData 1 adv _ dat end))))))))
 
 pub packet-report-short : (p : Packet) → Sent p → Octets 45 (packetReport p)
 unfolding packetReport

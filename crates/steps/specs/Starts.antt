@@ -9,10 +9,11 @@ use lib.ListN.{length, drop, length-append, length-map}
 use lib.Seq.{drop-at}
 use Rattle.rule.specs.Base.{All, all-append}
 use Rattle.rule.specs.Engine.{find}
-use Rattle.model.specs.Types.{Model, Monitor, Packet, Pair, mostMonitors}
+use Rattle.model.specs.Types.{Model, Monitor, Packet, Pair}
 use Rattle.model.specs.Watch.{packetMove, begins, startPair, turn, turns, packetPairs, startsOf}
 use Rattle.steps.specs.Lists.{all-weaken}
 use Rattle.steps.specs.Typed.{pick-both}
+use Rattle.model.specs.Layout.{mostMonitors}
 
 -- a pair at the start that the packet gives it, of a handle below n
 pub record Started (p : Packet) (n : ℕ) (q : Pair) : Type 0 where
@@ -70,19 +71,19 @@ turns-adds mons p (suc n) qs = go (find mons n) (turns-adds mons p n qs)
 
 -- the starts of a packet
 pub record Starts (m : Model) (p : Packet) : Type 0 where
-  pub few : length (startsOf m p) ≤ 16
-  pub starts : All (Started p 16) (startsOf m p)
+  pub few : length (startsOf m p) ≤ mostMonitors
+  pub starts : All (Started p mostMonitors) (startsOf m p)
 
 pub packet-starts : (m : Model) (p : Packet) → Starts m p
-unfolding startsOf packetPairs mostMonitors
+unfolding startsOf packetPairs
 packet-starts m p =
     let qs : List Pair = map (packetMove (m .mons) p) (m .pairs) in
     let n : length qs ≡ length (m .pairs) = length-map (m .pairs) (packetMove (m .mons) p) in
-    let a : Adds p 16 qs (turns (m .mons) p 16 qs) = turns-adds (m .mons) p 16 qs in
-    let e : drop (length (m .pairs)) (turns (m .mons) p 16 qs) ≡ a .news =
+    let a : Adds p mostMonitors qs (turns (m .mons) p mostMonitors qs) = turns-adds (m .mons) p mostMonitors qs in
+    let e : drop (length (m .pairs)) (turns (m .mons) p mostMonitors qs) ≡ a .news =
     ap (λ (l : List Pair). drop (length (m .pairs)) l) (a .joined) ∙ drop-at qs (a .news) (length (m .pairs)) n in
     record {
-      few = subst (λ (l : List Pair). length l ≤ 16) (sym e) (a .few);
-      starts = subst (All (Started p 16))
+      few = subst (λ (l : List Pair). length l ≤ mostMonitors) (sym e) (a .few);
+      starts = subst (All (Started p mostMonitors))
           (sym e) (a .starts);
     }

@@ -14,7 +14,7 @@ use Rattle.rule.specs.Base.{In, From, each, all-in, in-all, all-append, each-in
 use Rattle.rule.specs.Base.{each-distinct, distinct-snoc, map-append, some-inj}
 use Rattle.rule.specs.Engine.{find}
 use Rattle.rule.specs.Finds.{find-all}
-use Rattle.model.specs.Types.{Model, Monitor, Packet, Pair, deviceOf, watched, mostPairs, mostMonitors}
+use Rattle.model.specs.Types.{Model, Monitor, Packet, Pair, deviceOf, watched}
 use Rattle.model.specs.Accepted.{accepts-run}
 use Rattle.model.specs.Monitors.{runOf, matches, strong}
 use Rattle.model.specs.Watch.{atPacket, packetMove, atTick, holds, begins, startPair, turn, turns, packetPairs}
@@ -25,6 +25,7 @@ use Rattle.steps.specs.Whole.{Row, key, in-holds, Kept, Held, Pairs, Mon
 use Rattle.steps.specs.Typed.{pick-both, Sent}
 use Rattle.steps.specs.Moves.{packet-key, Ticked, ticked, tick-key, kept-later, kept-packet, kept-tick}
 use Rattle.steps.specs.Moves.{kept-start}
+use Rattle.model.specs.Layout.{mostMonitors, mostPairs}
 
 -- the run of a monitor that is held has ticks
 pub live-run : (mons : List (ℕ × Monitor)) (h : ℕ) (n : Monitor) → Monitors mons → find mons h ≡ some n → 0 < runOf n
@@ -95,19 +96,19 @@ held-packet k mons p q s t h w =
 -- What a start tells: the pair is not held, and there is room.
 pub record Begins (p : Packet) (h : ℕ) (qs : List Pair) : Type 0 where
   pub new : In (key (startPair h p)) (map key qs) → ⊥
-  pub room : length qs < 64
+  pub room : length qs < mostPairs
 
 pub begins-tells : (m : Monitor) (p : Packet) (h : ℕ) (qs : List Pair) → begins m p h qs ≡ true → Begins p h qs
-unfolding begins mostPairs startPair watched deviceOf
+unfolding begins startPair watched deviceOf
 begins-tells m p h qs e =
     let d : List ℕ = deviceOf p in
-    let a = and-right (matches m p) (strong m p && (not (holds qs h d) && ltb (length qs) 64)) e in
-    let b = and-right (strong m p) (not (holds qs h d) && ltb (length qs) 64) a in
+    let a = and-right (matches m p) (strong m p && (not (holds qs h d) && ltb (length qs) mostPairs)) e in
+    let b = and-right (strong m p) (not (holds qs h d) && ltb (length qs) mostPairs) a in
     let free : holds qs h d ≡ false =
-    not-true (holds qs h d) (and-left (not (holds qs h d)) (ltb (length qs) 64) b) in
+    not-true (holds qs h d) (and-left (not (holds qs h d)) (ltb (length qs) mostPairs) b) in
     record {
       new = λ i. false≢true (sym free ∙ in-holds qs h d i);
-      room = ltb-true (length qs) 64 (and-right (not (holds qs h d)) (ltb (length qs) 64) b);
+      room = ltb-true (length qs) mostPairs (and-right (not (holds qs h d)) (ltb (length qs) mostPairs) b);
     }
 
 -- one handle's turn

@@ -12,10 +12,11 @@ use borrow.Author.Tests.{leb-true, eqb-true, ltb-true}
 use Rattle.laws.specs.Tests.{pick, and-left, and-right}
 use Rattle.laws.specs.Loops.{every, every-take, every-drop}
 use Rattle.octets.specs.Little.{little, isOctet}
-use Rattle.model.specs.Types.{Packet, mostData}
+use Rattle.model.specs.Types.{Packet}
 use Rattle.model.specs.Level.{inRange}
 use Rattle.model.specs.Frames.{Body, Typed, command, packet, tick, bad, isCommand, isPacket, packetOf, isTick, typed}
 use Rattle.steps.specs.Facts.{and-five}
+use Rattle.model.specs.Layout.{mostData}
 
 -- a statement on a pick, from both of its arms
 pub pick-both : {A : Type 0} (P : A → Type 0) (t : Bool) (a b : A) → (t ≡ true → P a) → (t ≡ false → P b)
@@ -37,19 +38,19 @@ pub record Sent (p : Packet) : Type 0 where
   pub kind-most : p .kind ≤ 1
   pub address-six : length (p .address) ≡ 6
   pub address-octets : every isOctet (p .address) ≡ true
-  pub adv-short : length (p .adv) ≤ 31
+  pub adv-short : length (p .adv) ≤ mostData
   pub adv-octets : every isOctet (p .adv) ≡ true
   pub rssi-octet : p .rssi < 256
   pub rssi-in : inRange (p .rssi) ≡ true
 
 pub packet-sent : (l : List ℕ) → every isOctet l ≡ true → isPacket l ≡ true → Sent (packetOf l)
-unfolding isPacket packetOf mostData
+unfolding isPacket packetOf
 packet-sent l o e =
     let n : ℕ = getD l 8 0 in
     let r =
-    and-five (leb (getD l 0 0) 3) (leb (getD l 1 0) 1) (leb n 31) (eqb (length l) (10 + n))
+    and-five (leb (getD l 0 0) 3) (leb (getD l 1 0) 1) (leb n mostData) (eqb (length l) (10 + n))
     (inRange (getD l (9 + n) 0)) e in
-    let few : n ≤ 31 = leb-true n 31 (r .2) in
+    let few : n ≤ mostData = leb-true n mostData (r .2) in
     let size : length l ≡ 10 + n = eqb-true (length l) (10 + n) (r .3) in
     let two : length (drop 2 l) ≡ length l - 2 = length-drop 2 l in
     let nine : length (drop 9 l) ≡ length l - 9 = length-drop 9 l in

@@ -16,40 +16,41 @@ use Rattle.rule.specs.Base.{In, All, Distinct, pair-path}
 use Rattle.rule.specs.Engine.{find}
 use Rattle.rule.specs.Finds.{Rising}
 use Rattle.sessions.specs.Machine.{lastNumber}
-use Rattle.model.specs.Types.{Model, Monitor, Pair, watched, mostMonitors, mostPairs}
+use Rattle.model.specs.Types.{Model, Monitor, Pair, watched}
 use Rattle.model.specs.Monitors.{runOf}
 use Rattle.model.specs.Watch.{isPair, holds}
 use Rattle.model.specs.Sound.{soundMonitor, soundMonitors, soundSettings, soundWindow, soundEmpty, soundFields}
 use Rattle.model.specs.Sound.{soundOf, soundPair, apart, soundModel}
 use Rattle.steps.specs.Lists.{all-weaken, every-all, all-every}
 use Rattle.steps.specs.Facts.{and-three, and-four, and-five}
+use Rattle.model.specs.Layout.{mostMonitors, mostPairs}
 
 -- "monitors held in rising handle order, handles 0 to 15": a row, and a row of a handle from k on
 abbrev pub Row : ℕ × Monitor → Type 0
-Row x = (x .0 < 16) × (soundMonitor (x .1) ≡ true)
+Row x = (x .0 < mostMonitors) × (soundMonitor (x .1) ≡ true)
 
 abbrev pub RowFrom : ℕ → ℕ × Monitor → Type 0
 RowFrom k x = (k ≤ x .0) × Row x
 
 pub monitors-of : (k : ℕ) (l : List (ℕ × Monitor)) → soundMonitors k l ≡ true → Rising l × All (RowFrom k) l
-unfolding soundMonitors mostMonitors
+unfolding soundMonitors
 monitors-of k [] e = (tt, tt)
 monitors-of k (x ∷ l) e =
-    let r = and-four (leb k (x .0)) (ltb (x .0) 16) (soundMonitor (x .1)) (soundMonitors (suc (x .0)) l) e in
+    let r = and-four (leb k (x .0)) (ltb (x .0) mostMonitors) (soundMonitor (x .1)) (soundMonitors (suc (x .0)) l) e in
     let low : k ≤ x .0 = leb-true k (x .0) (r .0) in
     let ih = monitors-of (suc (x .0)) l (r .3) in
     let up : All (λ y. x .0 < y .0) l =
     all-weaken (RowFrom (suc (x .0))) (λ y. x .0 < y .0) (λ y a. a .0) l (ih .1) in
     let rest : All (RowFrom k) l =
     all-weaken (RowFrom (suc (x .0))) (RowFrom k) (λ y a. (omega (arith, low, a .0), a .1)) l (ih .1) in
-    ((up, ih .0), ((low, (ltb-true (x .0) 16 (r .1), r .2)), rest))
+    ((up, ih .0), ((low, (ltb-true (x .0) mostMonitors (r .1), r .2)), rest))
 
 pub monitors-hold : (k : ℕ) (l : List (ℕ × Monitor)) → Rising l → All (RowFrom k) l → soundMonitors k l ≡ true
-unfolding soundMonitors mostMonitors
+unfolding soundMonitors
 monitors-hold k [] r a = refl
 monitors-hold k (x ∷ l) r a =
     let up : All (RowFrom (suc (x .0))) l = zip l (r .0) (a .1) in
-    and-both (and-both (and-both (le-leb k (x .0) (a .0 .0)) (lt-ltb (x .0) 16 (a .0 .1 .0))) (a .0 .1 .1))
+    and-both (and-both (and-both (le-leb k (x .0) (a .0 .0)) (lt-ltb (x .0) mostMonitors (a .0 .1 .0))) (a .0 .1 .1))
     (monitors-hold (suc (x .0)) l (r .1) up)
   where
     zip : (m : List (ℕ × Monitor)) → All (λ y. x .0 < y .0) m → All (RowFrom k) m → All (RowFrom (suc (x .0))) m
@@ -147,7 +148,7 @@ held-holds m q h =
 
 -- the pairs of a sound state: "pairs distinct, at most 64, .."
 pub record Pairs (position : ℕ) (mons : List (ℕ × Monitor)) (qs : List Pair) : Type 0 where
-  pub room : length qs ≤ 64
+  pub room : length qs ≤ mostPairs
   pub once : Distinct (map key qs)
   pub held : All (Held position mons) qs
 
@@ -165,13 +166,13 @@ pub record Sound (m : Model) : Type 0 where
   pub pairs : Pairs (m .position) (m .mons) (m .pairs)
 
 pub sound-of : (m : Model) → soundModel m ≡ true → Sound m
-unfolding soundModel lastNumber mostPairs
+unfolding soundModel lastNumber
 sound-of m e =
     let a : Bool = leb (m .position) 4294967295 in
     let b : Bool = leb (m .filter) 1 in
     let c : Bool = soundSettings (m .opcode) (m .prefix) in
     let d : Bool = soundMonitors 0 (m .mons) in
-    let f : Bool = leb (length (m .pairs)) 64 in
+    let f : Bool = leb (length (m .pairs)) mostPairs in
     let r = and-three (a && b && c && d && f) (apart (m .pairs)) (every (soundPair m) (m .pairs)) e in
     let s = and-five a b c d f (r .0) in
     let w = monitors-of 0 (m .mons) (s .3) in
@@ -179,7 +180,7 @@ sound-of m e =
     let hs : All (Held (m .position) (m .mons)) (m .pairs) =
     all-weaken (λ q. soundPair m q ≡ true) (Held (m .position) (m .mons)) (held-of m) (m .pairs)
     (every-all (soundPair m) (m .pairs) (r .2)) in
-    let room : length (m .pairs) ≤ 64 = leb-true (length (m .pairs)) 64 (s .4) in
+    let room : length (m .pairs) ≤ mostPairs = leb-true (length (m .pairs)) mostPairs (s .4) in
     record {
       position-most = leb-true (m .position) 4294967295 (s .0);
       filter-most = leb-true (m .filter) 1 (s .1);
@@ -189,7 +190,7 @@ sound-of m e =
     }
 
 pub sound-holds : (m : Model) → Sound m → soundModel m ≡ true
-unfolding soundModel lastNumber mostPairs
+unfolding soundModel lastNumber
 sound-holds m s =
     let rs : All (RowFrom 0) (m .mons) =
     all-weaken Row (RowFrom 0) (λ x y. (zero-le, y)) (m .mons) (s .monitors .rows) in
@@ -198,6 +199,6 @@ sound-holds m s =
     (s .pairs .held) in
     and-both (and-both (and-both (and-both (and-both (and-both
     (le-leb (m .position) 4294967295 (s .position-most)) (le-leb (m .filter) 1 (s .filter-most))) (s .settings))
-    (monitors-hold 0 (m .mons) (s .monitors .rising) rs)) (le-leb (length (m .pairs)) 64 (s .pairs .room)))
+    (monitors-hold 0 (m .mons) (s .monitors .rising) rs)) (le-leb (length (m .pairs)) mostPairs (s .pairs .room)))
     (distinct-apart (m .pairs) (s .pairs .once)))
     (all-every (soundPair m) (m .pairs) hs)

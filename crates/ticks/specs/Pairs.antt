@@ -30,6 +30,7 @@ use Rattle.blocks.specs.Places.{pairIn-place}
 use Rattle.events.specs.Octets.{event-pair, report-device}
 use Rattle.ticks.specs.Row.{windowedBy, closesAt, goesOn, onward, tickedRow, keptRow, reportRow, saysRow}
 use Rattle.ticks.specs.Row.{toldOn, toldRow}
+use Rattle.model.specs.Layout.{dataAt, eventAt, handleAt, lengthAt, mostData, packetsAt, pairSize, silentAt, sumAt, ticksAt, windowedSize}
 
 -- the interval and the sampling of a monitor, 0 where there is none
 unfoldable pub intervalOf : Option Monitor → ℕ
@@ -46,52 +47,52 @@ and-same false = refl
 
 -- what a pair's row holds
 module _ (q : Pair) (f : Fits q) where
-  pub place-handle : getD (padTo 56 (pairRow q)) 0 0 ≡ q .handle
+  pub place-handle : getD (padTo pairSize (pairRow q)) handleAt 0 ≡ q .handle
   unfolding pairIn
   place-handle = ap (λ (p : Pair). p .handle) (pairIn-place q f)
 
-  place-silent : little 2 (padTo 56 (pairRow q)) 8 ≡ q .silent
+  place-silent : little 2 (padTo pairSize (pairRow q)) silentAt ≡ q .silent
   unfolding pairIn
   place-silent = ap (λ (p : Pair). p .silent) (pairIn-place q f)
 
-  place-ticks : getD (padTo 56 (pairRow q)) 10 0 ≡ q .ticks
+  place-ticks : getD (padTo pairSize (pairRow q)) ticksAt 0 ≡ q .ticks
   unfolding pairIn
   place-ticks = ap (λ (p : Pair). p .ticks) (pairIn-place q f)
 
-  place-packets : little 4 (padTo 56 (pairRow q)) 11 ≡ q .packets
+  place-packets : little 4 (padTo pairSize (pairRow q)) packetsAt ≡ q .packets
   unfolding pairIn
   place-packets = ap (λ (p : Pair). p .packets) (pairIn-place q f)
 
-  place-sum : little 8 (padTo 56 (pairRow q)) 15 ≡ q .sum
+  place-sum : little 8 (padTo pairSize (pairRow q)) sumAt ≡ q .sum
   unfolding pairIn
   place-sum = ap (λ (p : Pair). p .sum) (pairIn-place q f)
 
-  place-event : getD (padTo 56 (pairRow q)) 23 0 ≡ q .event
+  place-event : getD (padTo pairSize (pairRow q)) eventAt 0 ≡ q .event
   unfolding pairIn
   place-event = ap (λ (p : Pair). p .event) (pairIn-place q f)
 
-  place-adv : take (getD (padTo 56 (pairRow q)) 24 0) (drop 25 (padTo 56 (pairRow q))) ≡ q .adv
+  place-adv : take (getD (padTo pairSize (pairRow q)) lengthAt 0) (drop dataAt (padTo pairSize (pairRow q))) ≡ q .adv
   unfolding pairIn
   place-adv = ap (λ (p : Pair). p .adv) (pairIn-place q f)
 
-  place-device : take 7 (drop 1 (padTo 56 (pairRow q))) ≡ q .kind ∷ q .address
+  place-device : take 7 (drop 1 (padTo pairSize (pairRow q))) ≡ q .kind ∷ q .address
   place-device =
       ap (λ (l : List ℕ). take 7 (drop 1 l)) (place-split q (f .address-length))
       ∙ lib.Seq.take-at (q .kind ∷ q .address) _ 7 (ap suc (f .address-length))
 
-  place-count : getD (padTo 56 (pairRow q)) 24 0 ≡ length (q .adv)
+  place-count : getD (padTo pairSize (pairRow q)) lengthAt 0 ≡ length (q .adv)
   unfolding Rattle.octets.specs.Little.octetsOf
   place-count =
       ap (λ (l : List ℕ). getD l 24 0) (place-split q (f .address-length))
       ∙ getD-past (keyOf q) (timesOf q) 8 (ap (λ (n : ℕ). suc (suc n)) (f .address-length)) 16
 
   -- the row a tick further
-  place-onward : onward (padTo 56 (pairRow q)) ≡ padTo 56 (pairRow (withSilent q (q .silent + 1)))
+  place-onward : onward (padTo pairSize (pairRow q)) ≡ padTo pairSize (pairRow (withSilent q (q .silent + 1)))
   unfolding onward
   place-onward = rw place-silent (put-silent q (f .address-length) (q .silent + 1))
 
   place-ticked : (m : Monitor)
-      → tickedRow (m .sampling) (padTo 56 (pairRow q)) ≡ padTo 56
+      → tickedRow (m .sampling) (padTo pairSize (pairRow q)) ≡ padTo pairSize
       (pairRow (windowTick m (withSilent q (q .silent + 1))))
   unfolding tickedRow windowTick closesAt windowedBy closes windowed withSilent pick
   place-ticked m =
@@ -102,29 +103,29 @@ module _ (q : Pair) (f : Fits q) where
       p = withSilent q (q .silent + 1)
 
       go : (a b : Bool)
-          → pick a (pick (a && b) (put (padTo 56 (pairRow p)) 10 (replicate 46 0))
-          (put (padTo 56 (pairRow p)) 10 ((q .ticks + 1) ∷ [])))
-          (padTo 56 (pairRow p))
-          ≡ padTo 56 (pairRow (pick a (pick (a && b) (emptied p) (withTicks p (q .ticks + 1))) p))
+          → pick a (pick (a && b) (put (padTo pairSize (pairRow p)) ticksAt (replicate windowedSize 0))
+          (put (padTo pairSize (pairRow p)) ticksAt ((q .ticks + 1) ∷ [])))
+          (padTo pairSize (pairRow p))
+          ≡ padTo pairSize (pairRow (pick a (pick (a && b) (emptied p) (withTicks p (q .ticks + 1))) p))
       go true true = put-emptied p (f .address-length) (f .adv-most)
       go true false = put-ticks p (f .address-length) (q .ticks + 1)
       go false b = refl
 
   pub place-kept : (o : Option Monitor)
-      → keptRow (ticksOf (intervalOf o)) (samplingOf o) (padTo 56 (pairRow q)) ≡ flat
+      → keptRow (ticksOf (intervalOf o)) (samplingOf o) (padTo pairSize (pairRow q)) ≡ flat
       (map pairPlace (push (atTick o q) []))
   unfolding keptRow goesOn intervalOf samplingOf atTick goesOnPair runOf ticksOf when pick flat
-  place-kept none = rw (le-ltb (little 2 (padTo 56 (pairRow q)) 8 + 1) 0 zero-le)
+  place-kept none = rw (le-ltb (little 2 (padTo pairSize (pairRow q)) silentAt + 1) 0 zero-le)
   place-kept (some m) = rw place-silent (go (ltb (q .silent + 1) (10 * m .interval)))
     where
       go : (t : Bool)
-          → when t (tickedRow (m .sampling) (padTo 56 (pairRow q)))
+          → when t (tickedRow (m .sampling) (padTo pairSize (pairRow q)))
           ≡ flat (map pairPlace (push (pick t (some (windowTick m (withSilent q (q .silent + 1)))) none) []))
       go true = place-ticked m ∙ sym (append-nil _)
       go false = refl
 
   -- what is written
-  place-report : reportRow (padTo 56 (pairRow q)) ≡ windowReport q
+  place-report : reportRow (padTo pairSize (pairRow q)) ≡ windowReport q
   unfolding reportRow windowReport
   place-report =
       rw (place-event, place-device, place-adv, place-sum, place-packets)
@@ -132,18 +133,18 @@ module _ (q : Pair) (f : Fits q) where
 
   pub place-told : (o : Option Monitor) (filter : ℕ) (prefix : List ℕ)
       → toldRow (ticksOf (intervalOf o)) (samplingOf o) filter prefix
-      (padTo 56 (pairRow q)) ≡ tickOctets filter prefix o q
+      (padTo pairSize (pairRow q)) ≡ tickOctets filter prefix o q
   unfolding toldRow toldOn saysRow goesOn intervalOf samplingOf closesAt windowedBy tickOctets goesOnPair windowSays closes windowed
       runOf ticksOf stopEvent when pick
   place-told none filter prefix =
-      rw (le-ltb (little 2 (padTo 56 (pairRow q)) 8 + 1) 0 zero-le) (event-pair prefix q 0 (f .address-length))
+      rw (le-ltb (little 2 (padTo pairSize (pairRow q)) silentAt + 1) 0 zero-le) (event-pair prefix q 0 (f .address-length))
   place-told (some m) filter prefix =
       rw (
         place-silent,
         place-ticks,
         place-packets,
         place-count,
-        le-leb (length (q .adv)) 31 (f .adv-most),
+        le-leb (length (q .adv)) mostData (f .adv-most),
         and-same (leb 1 (q .packets)),
         place-report,
         event-pair prefix q 0 (f .address-length),

@@ -16,6 +16,7 @@ use Rattle.octets.specs.Little.{little, octetsOf}
 use Rattle.model.specs.Types.{ticksOf}
 use Rattle.model.specs.Level.{mean}
 use Rattle.events.specs.Octets.{eventOctets, reportOctets}
+use Rattle.model.specs.Layout.{dataAt, eventAt, handleAt, lengthAt, mostData, packetsAt, pairSize, silentAt, sumAt, ticksAt, windowedSize}
 
 -- "for sampling P from 0x01 to 0xFE"
 unfoldable pub windowedBy : ℕ → Bool
@@ -27,17 +28,17 @@ closesAt period ticks = windowedBy period && leb period (ticks + 1)
 
 -- the watch goes on over one tick more: a run is 10 × interval ticks without a good packet
 unfoldable pub goesOn : ℕ → List ℕ → Bool
-goesOn run r = ltb (little 2 r 8 + 1) run
+goesOn run r = ltb (little 2 r silentAt + 1) run
 
 -- one tick more since a good packet
 unfoldable pub onward : List ℕ → List ℕ
-onward r = put r 8 (octetsOf 2 (little 2 r 8 + 1))
+onward r = put r 8 (octetsOf 2 (little 2 r silentAt + 1))
 
 -- the row of a pair that stays: its window closed and empty, or one tick longer, or none
 unfoldable pub tickedRow : ℕ → List ℕ → List ℕ
 tickedRow period r =
-    pick (windowedBy period) (pick (closesAt period (getD r 10 0)) (put (onward r) 10 (replicate 46 0))
-    (put (onward r) 10 ((getD r 10 0 + 1) ∷ []))) (onward r)
+    pick (windowedBy period) (pick (closesAt period (getD r ticksAt 0)) (put (onward r) 10 (replicate windowedSize 0))
+    (put (onward r) 10 ((getD r ticksAt 0 + 1) ∷ []))) (onward r)
 
 -- the rows that a row leaves: itself, ticked, or nothing
 unfoldable pub keptRow : ℕ → ℕ → List ℕ → List ℕ
@@ -46,14 +47,14 @@ keptRow run period r = when (goesOn run r) (tickedRow period r)
 -- "one report: the latest of them, with RSSI the greatest whole number not above sum / count"
 unfoldable pub reportRow : List ℕ → List ℕ
 reportRow r =
-    reportOctets (getD r 23 0) (take 7 (drop 1 r)) (take (getD r 24 0) (drop 25 r))
-    (mean (little 8 r 15) (little 4 r 11))
+    reportOctets (getD r eventAt 0) (take 7 (drop 1 r)) (take (getD r lengthAt 0) (drop dataAt r))
+    (mean (little 8 r sumAt) (little 4 r packetsAt))
 
 -- "if the filter is on and the window had matching packets", of a pair that stays; a row with more data than 31
 -- octets says nothing
 unfoldable pub saysRow : Bool → ℕ → ℕ → List ℕ → Bool
 saysRow on period filter r =
-    on && (eqb filter 1 && (closesAt period (getD r 10 0) && (leb 1 (little 4 r 11) && leb (getD r 24 0) 31)))
+    on && (eqb filter 1 && (closesAt period (getD r ticksAt 0) && (leb 1 (little 4 r packetsAt) && leb (getD r lengthAt 0) mostData)))
 
 -- "if the watch ends, a stop event and no report. Otherwise .. one report"
 unfoldable pub toldOn : Bool → ℕ → ℕ → List ℕ → List ℕ → List ℕ
@@ -65,18 +66,18 @@ toldRow run period filter prefix r = toldOn (goesOn run r) period filter prefix 
 
 -- a row's run and period, from the intervals and periods by handle; 0 where there are none
 unfoldable pub runIn : List ℕ → List ℕ → ℕ
-runIn intervals r = ticksOf (getD intervals (getD r 0 0) 0)
+runIn intervals r = ticksOf (getD intervals (getD r handleAt 0) 0)
 
 unfoldable pub periodIn : List ℕ → List ℕ → ℕ
-periodIn periods r = getD periods (getD r 0 0) 0
+periodIn periods r = getD periods (getD r handleAt 0) 0
 
 -- what row j of a table leaves, and what is written for it
 unfoldable pub keptAt : List ℕ → List ℕ → List ℕ → ℕ → List ℕ
 keptAt intervals periods t j =
-    keptRow (runIn intervals (row 56 j t)) (periodIn periods (row 56 j t))
-    (row 56 j t)
+    keptRow (runIn intervals (row pairSize j t)) (periodIn periods (row pairSize j t))
+    (row pairSize j t)
 
 unfoldable pub toldAt : List ℕ → List ℕ → ℕ → List ℕ → List ℕ → ℕ → List ℕ
 toldAt intervals periods filter prefix t j =
-    toldRow (runIn intervals (row 56 j t)) (periodIn periods (row 56 j t)) filter prefix
-    (row 56 j t)
+    toldRow (runIn intervals (row pairSize j t)) (periodIn periods (row pairSize j t)) filter prefix
+    (row pairSize j t)

@@ -16,14 +16,15 @@ use Rattle.laws.specs.Loops.{each, each-take, upTo}
 use Rattle.laws.specs.Rows.{flat}
 use Rattle.rule.specs.Base.{All, push, each as moveEach}
 use Rattle.rule.specs.Engine.{find}
-use Rattle.model.specs.Types.{Monitor, Pair, mostPairs}
+use Rattle.model.specs.Types.{Monitor, Pair}
 use Rattle.model.specs.Watch.{atTick, tickOctets}
-use Rattle.model.specs.Block.{pairBlock, pairSize}
+use Rattle.model.specs.Block.{pairBlock}
 use Rattle.blocks.specs.Bounds.{Fits}
 use Rattle.blocks.specs.Pairs.{pairPlace, row-table, length-pairPlace}
 use Rattle.ticks.specs.Row.{runIn, periodIn, keptAt, toldAt}
 use Rattle.ticks.specs.Table.{Cleared}
 use Rattle.ticks.specs.Pairs.{intervalOf, samplingOf, place-handle, place-kept, place-told}
+use Rattle.model.specs.Layout.{mostMonitors, mostPairs, pairSize}
 
 -- a run over indices is a run over elements
 upTo-each : {A B : Type 0} (f : ℕ → List B) (F : A → List B) (l : List A) (d : A)
@@ -54,7 +55,7 @@ all-at [] a i d h = absurd (omega arith)
 all-at (q ∷ qs) a zero d h = a .0
 all-at (q ∷ qs) a (suc i) d h = all-at qs (a .1) i d (omega arith)
 
-length-places : (qs : List Pair) → All Fits qs → length (flat (map pairPlace qs)) ≡ 56 * length qs
+length-places : (qs : List Pair) → All Fits qs → length (flat (map pairPlace qs)) ≡ pairSize * length qs
 unfolding flat
 length-places [] a = refl
 length-places (q ∷ qs) a =
@@ -72,9 +73,9 @@ abbrev pub movePair : List (ℕ × Monitor) → Pair → Option Pair
 movePair mons q = atTick (find mons (q .handle)) q
 
 module _ (mons : List (ℕ × Monitor)) (intervals periods : List ℕ)
-    (ei : (h : ℕ) → h < 16 → getD intervals h 0 ≡ intervalOf (find mons h))
-    (ep : (h : ℕ) → h < 16 → getD periods h 0 ≡ samplingOf (find mons h)) (qs : List Pair) (a : All Fits qs)
-    (n : length qs ≤ 64) where
+    (ei : (h : ℕ) → h < mostMonitors → getD intervals h 0 ≡ intervalOf (find mons h))
+    (ep : (h : ℕ) → h < mostMonitors → getD periods h 0 ≡ samplingOf (find mons h)) (qs : List Pair) (a : All Fits qs)
+    (n : length qs ≤ mostPairs) where
   kept-at : (j : ℕ) → j < length qs
       → keptAt intervals periods (pairBlock qs) j ≡ flat (map pairPlace (push (movePair mons (getD qs j none-held)) []))
   unfolding keptAt runIn periodIn
@@ -123,33 +124,33 @@ module _ (mons : List (ℕ × Monitor)) (intervals periods : List ℕ)
       ∙ ap (each (λ q. tickOctets filter prefix (find mons (q .handle)) q)) (take-all (length qs) qs (omega arith))
 
   -- the table at the end
-  drop-table : drop (56 * length qs) (pairBlock qs) ≡ replicate (56 * (64 - length qs)) 0
-  unfolding pairBlock pairSize mostPairs
+  drop-table : drop (pairSize * length qs) (pairBlock qs) ≡ replicate (pairSize * (mostPairs - length qs)) 0
+  unfolding pairBlock
   drop-table =
-      drop-at (flat (map pairPlace qs)) (replicate (56 * (64 - length qs)) 0) (56 * length qs) (length-places qs a)
+      drop-at (flat (map pairPlace qs)) (replicate (pairSize * (mostPairs - length qs)) 0) (pairSize * length qs) (length-places qs a)
 
   pub cleared-table : (g : ℕ → List ℕ) {t out₀ out : List ℕ} {k w : ℕ} → All Fits (moveEach (movePair mons) qs)
       → Cleared (pairBlock qs) t out₀ out k w (keptAt intervals periods (pairBlock qs)) g (length qs)
       → (t ≡ pairBlock (moveEach (movePair mons) qs)) × (k ≡ length (moveEach (movePair mons) qs))
-  unfolding pairBlock pairSize mostPairs put
+  unfolding pairBlock put
   cleared-table g {t} {out₀} {out} {k} b c =
       let ps : List Pair = moveEach (movePair mons) qs in
-      let l : length (flat (map pairPlace ps)) ≡ 56 * length ps = length-places ps b in
-      let z : 56 * k ≡ length (flat (map pairPlace ps)) = c .size ∙ ap (λ (x : List ℕ). length x) kept-all in
+      let l : length (flat (map pairPlace ps)) ≡ pairSize * length ps = length-places ps b in
+      let z : pairSize * k ≡ length (flat (map pairPlace ps)) = c .size ∙ ap (λ (x : List ℕ). length x) kept-all in
       let e : k ≡ length ps = omega arith in
       let h : k ≤ length qs = c .kept-most in
-      let r : List ℕ = replicate (56 * (length qs - k)) 0 in
-      let s : length (flat (map pairPlace ps) ++ r) ≡ 56 * length qs =
+      let r : List ℕ = replicate (pairSize * (length qs - k)) 0 in
+      let s : length (flat (map pairPlace ps) ++ r) ≡ pairSize * length qs =
       length-append (flat (map pairPlace ps)) r ∙ ap (λ (x : ℕ). length (flat (map pairPlace ps)) + x)
-      (length-replicate (56 * (length qs - k)) 0) ∙ omega arith in
-      let y : 56 * (length qs - k) + 56 * (64 - length qs) ≡ 56 * (64 - length ps) = omega arith in
-      let d : drop (0 + length (flat (map pairPlace ps) ++ r)) (pairBlock qs) ≡ replicate (56 * (64 - length qs)) 0 =
+      (length-replicate (pairSize * (length qs - k)) 0) ∙ omega arith in
+      let y : pairSize * (length qs - k) + pairSize * (mostPairs - length qs) ≡ pairSize * (mostPairs - length ps) = omega arith in
+      let d : drop (0 + length (flat (map pairPlace ps) ++ r)) (pairBlock qs) ≡ replicate (pairSize * (mostPairs - length qs)) 0 =
       ap (λ (x : ℕ). drop x (pairBlock qs)) (zero-add (length (flat (map pairPlace ps) ++ r)) ∙ s) ∙ drop-table in (
         c .table ∙ ap (λ (x : List ℕ). put (pairBlock qs) 0 (x ++ r)) kept-all
             ∙ ap (λ (x : List ℕ). flat (map pairPlace ps) ++ r ++ x) d
-            ∙ append-assoc (flat (map pairPlace ps)) r (replicate (56 * (64 - length qs)) 0)
+            ∙ append-assoc (flat (map pairPlace ps)) r (replicate (pairSize * (mostPairs - length qs)) 0)
             ∙ ap (λ (x : List ℕ). flat (map pairPlace ps) ++ x)
-            (replicate-append-replicate (56 * (length qs - k)) (56 * (64 - length qs)) 0
+            (replicate-append-replicate (pairSize * (length qs - k)) (pairSize * (mostPairs - length qs)) 0
             ∙ ap (λ (x : ℕ). replicate x 0) y),
         e,
       )

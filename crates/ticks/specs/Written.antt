@@ -20,6 +20,8 @@ use Rattle.model.specs.Level.{mean, levels}
 use Rattle.events.specs.Octets.{eventOctets, reportOctets, eventFits, reportFits, length-event, length-report}
 use Rattle.ticks.specs.Row.{windowedBy, closesAt, goesOn, onward, tickedRow, keptRow, reportRow, saysRow}
 use Rattle.ticks.specs.Row.{toldOn}
+use Rattle.model.specs.Layout.{eventMost, reportMost}
+use Rattle.model.specs.Layout.{dataAt, eventAt, lengthAt, mostData, mostPrefix, packetsAt, pairSize, silentAt, sumAt, ticksAt, windowedSize}
 
 -- a put over a put of the same length
 pub put-over : (xs : List ℕ) (at : ℕ) (ys zs : List ℕ) → at ≤ length xs → length ys ≡ length zs
@@ -54,28 +56,28 @@ unfolding mean levels
 mean-octet sum packets e = rw e (omega arith)
 
 -- rows keep their length
-pub length-onward : (r : List ℕ) → length r ≡ 56 → length (onward r) ≡ 56
+pub length-onward : (r : List ℕ) → length r ≡ pairSize → length (onward r) ≡ pairSize
 unfolding onward
 length-onward r h =
-    let n : length (octetsOf 2 (little 2 r 8 + 1)) ≡ 2 = length-octets 2 (little 2 r 8 + 1) in
-    length-put r 8 (octetsOf 2 (little 2 r 8 + 1)) (omega arith) ∙ h
+    let n : length (octetsOf 2 (little 2 r silentAt + 1)) ≡ 2 = length-octets 2 (little 2 r silentAt + 1) in
+    length-put r 8 (octetsOf 2 (little 2 r silentAt + 1)) (omega arith) ∙ h
 
-pub length-ticked : (period : ℕ) (r : List ℕ) → length r ≡ 56 → length (tickedRow period r) ≡ 56
+pub length-ticked : (period : ℕ) (r : List ℕ) → length r ≡ pairSize → length (tickedRow period r) ≡ pairSize
 unfolding tickedRow pick
-length-ticked period r h = go (windowedBy period) (closesAt period (getD r 10 0))
+length-ticked period r h = go (windowedBy period) (closesAt period (getD r ticksAt 0))
   where
     go : (a b : Bool)
-        → length (pick a (pick b (put (onward r) 10 (replicate 46 0)) (put (onward r) 10 ((getD r 10 0 + 1) ∷ [])))
-        (onward r)) ≡ 56
+        → length (pick a (pick b (put (onward r) 10 (replicate windowedSize 0)) (put (onward r) 10 ((getD r ticksAt 0 + 1) ∷ [])))
+        (onward r)) ≡ pairSize
     go true true =
-        let z : length (onward r) ≡ 56 = length-onward r h in length-put (onward r) 10 (replicate 46 0) (omega arith)
+        let z : length (onward r) ≡ pairSize = length-onward r h in length-put (onward r) 10 (replicate windowedSize 0) (omega arith)
         ∙ z
     go true false =
-        let z : length (onward r) ≡ 56 = length-onward r h in
-        length-put (onward r) 10 ((getD r 10 0 + 1) ∷ []) (omega arith) ∙ z
+        let z : length (onward r) ≡ pairSize = length-onward r h in
+        length-put (onward r) 10 ((getD r ticksAt 0 + 1) ∷ []) (omega arith) ∙ z
     go false b = length-onward r h
 
-pub length-kept : (run period : ℕ) (r : List ℕ) → length r ≡ 56 → length (keptRow run period r) ≤ 56
+pub length-kept : (run period : ℕ) (r : List ℕ) → length r ≡ pairSize → length (keptRow run period r) ≤ pairSize
 unfolding keptRow
 length-kept run period r h = omega (arith, length-when (goesOn run r) (tickedRow period r), length-ticked period r h)
 
@@ -85,38 +87,38 @@ module _ (period : ℕ) (r : List ℕ) where
   unfolding tickedRow
   ticked-still e = sym (pick-false _ (onward r) e)
 
-  pub ticked-closed : windowedBy period ≡ true → closesAt period (getD r 10 0) ≡ true
-      → put (onward r) 10 (replicate 46 0) ≡ tickedRow period r
+  pub ticked-closed : windowedBy period ≡ true → closesAt period (getD r ticksAt 0) ≡ true
+      → put (onward r) 10 (replicate windowedSize 0) ≡ tickedRow period r
   unfolding tickedRow pick
   ticked-closed e f = rw (e, f)
 
-  pub ticked-longer : windowedBy period ≡ true → closesAt period (getD r 10 0) ≡ false
-      → put (onward r) 10 ((getD r 10 0 + 1) ∷ []) ≡ tickedRow period r
+  pub ticked-longer : windowedBy period ≡ true → closesAt period (getD r ticksAt 0) ≡ false
+      → put (onward r) 10 ((getD r ticksAt 0 + 1) ∷ []) ≡ tickedRow period r
   unfolding tickedRow pick
   ticked-longer e f = rw (e, f)
 
 -- what the stores and calls on a row leave
-pub onward-of : (r : List ℕ) {v : ℕ} {b : Bool} {m : List ℕ} → length r ≡ 56 → v ≡ numberAt 2 r 8
+pub onward-of : (r : List ℕ) {v : ℕ} {b : Bool} {m : List ℕ} → length r ≡ pairSize → v ≡ numberAt 2 r silentAt
     → b ≡ leb (8 + 2) (length r)
     → m ≡ putIf b r 8 (octetsOf 2 (v + 1)) → m ≡ onward r
 unfolding onward
 onward-of r {v} {b} {m} h e f q =
-    let n : v ≡ little 2 r 8 = number-of 2 r 8 e (omega arith) in
+    let n : v ≡ little 2 r silentAt = number-of 2 r 8 e (omega arith) in
     rw (← n) (put-of r 8 (octetsOf 2 (v + 1)) 2 (length r) f (omega arith) q)
 
-module _ (period : ℕ) (r : List ℕ) (h : length r ≡ 56) {m : List ℕ} (o : m ≡ onward r) where
-  pub advance-closed : {b : Bool} {l : List ℕ} → b ≡ leb (10 + 46) (length m) → l ≡ putIf b m 10 (replicate 46 0)
-      → windowedBy period ≡ true → closesAt period (getD r 10 0) ≡ true → l ≡ tickedRow period r
+module _ (period : ℕ) (r : List ℕ) (h : length r ≡ pairSize) {m : List ℕ} (o : m ≡ onward r) where
+  pub advance-closed : {b : Bool} {l : List ℕ} → b ≡ leb (10 + windowedSize) (length m) → l ≡ putIf b m 10 (replicate windowedSize 0)
+      → windowedBy period ≡ true → closesAt period (getD r ticksAt 0) ≡ true → l ≡ tickedRow period r
   advance-closed {b} {l} e q w c =
-      let n : length m ≡ 56 = rw o (length-onward r h) in
-      let p : l ≡ put m 10 (replicate 46 0) = put-of m 10 (replicate 46 0) 46 (length m) e (omega arith) q in
-      p ∙ ap (λ (x : List ℕ). put x 10 (replicate 46 0)) o ∙ ticked-closed period r w c
+      let n : length m ≡ pairSize = rw o (length-onward r h) in
+      let p : l ≡ put m 10 (replicate windowedSize 0) = put-of m 10 (replicate windowedSize 0) windowedSize (length m) e (omega arith) q in
+      p ∙ ap (λ (x : List ℕ). put x 10 (replicate windowedSize 0)) o ∙ ticked-closed period r w c
 
-  pub advance-longer : windowedBy period ≡ true → closesAt period (getD r 10 0) ≡ false
-      → set m 10 (getD r 10 0 + 1) ≡ tickedRow period r
+  pub advance-longer : windowedBy period ≡ true → closesAt period (getD r ticksAt 0) ≡ false
+      → set m 10 (getD r ticksAt 0 + 1) ≡ tickedRow period r
   advance-longer w c =
-      let n : length m ≡ 56 = rw o (length-onward r h) in
-      set-put m 10 (getD r 10 0 + 1) (omega arith) ∙ ap (λ (x : List ℕ). put x 10 ((getD r 10 0 + 1) ∷ [])) o
+      let n : length m ≡ pairSize = rw o (length-onward r h) in
+      set-put m 10 (getD r ticksAt 0 + 1) (omega arith) ∙ ap (λ (x : List ℕ). put x 10 ((getD r ticksAt 0 + 1) ∷ [])) o
       ∙ ticked-longer period r w c
 
 -- a period that was passed before closes its window
@@ -131,9 +133,9 @@ closes-past period ticks h = rw (le-leb period (ticks + 1) (omega arith)) (go (w
 pub stays-over : (silent run : ℕ) → run ≤ silent → false ≡ ltb (silent + 1) run
 stays-over silent run h = sym (le-ltb (silent + 1) run (omega arith))
 
-pub says-of : (on : Bool) (period filter : ℕ) (r : List ℕ) {c : Bool} {p : ℕ} → length r ≡ 56
-    → c ≡ closesAt period (getD r 10 0)
-    → p ≡ numberAt 4 r 11 → (on && (eqb filter 1 && (c && (leb 1 p && leb (getD r 24 0) 31))))
+pub says-of : (on : Bool) (period filter : ℕ) (r : List ℕ) {c : Bool} {p : ℕ} → length r ≡ pairSize
+    → c ≡ closesAt period (getD r ticksAt 0)
+    → p ≡ numberAt 4 r packetsAt → (on && (eqb filter 1 && (c && (leb 1 p && leb (getD r lengthAt 0) mostData))))
     ≡ saysRow on period filter r
 unfolding saysRow
 says-of on period filter r h e f = rw (e, number-of 4 r 11 f (omega arith))
@@ -150,33 +152,33 @@ period-below period e = leb-true period 254 (and-right (leb 1 period) (leb perio
 -- what a report's tests say
 pub record Says (on : Bool) (period filter : ℕ) (r : List ℕ) : Type 0 where
   pub goes : on ≡ true
-  pub packets : 1 ≤ little 4 r 11
-  pub short : getD r 24 0 ≤ 31
+  pub packets : 1 ≤ little 4 r packetsAt
+  pub short : getD r lengthAt 0 ≤ mostData
 
 pub says : (on : Bool) (period filter : ℕ) (r : List ℕ) → saysRow on period filter r ≡ true → Says on period filter r
 unfolding saysRow
 says on period filter r e =
     let a : Bool = eqb filter 1 in
-    let b : Bool = closesAt period (getD r 10 0) in
-    let c : Bool = leb 1 (little 4 r 11) in
-    let d : Bool = leb (getD r 24 0) 31 in
+    let b : Bool = closesAt period (getD r ticksAt 0) in
+    let c : Bool = leb 1 (little 4 r packetsAt) in
+    let d : Bool = leb (getD r lengthAt 0) mostData in
     let f = and-right on (a && (b && (c && d))) e in
     let g = and-right b (c && d) (and-right a (b && (c && d)) f) in
     record {
       goes = and-left on (a && (b && (c && d))) e;
-      packets = leb-true 1 (little 4 r 11) (and-left c d g);
-      short = leb-true (getD r 24 0) 31 (and-right c d g);
+      packets = leb-true 1 (little 4 r packetsAt) (and-left c d g);
+      short = leb-true (getD r lengthAt 0) mostData (and-right c d g);
     }
 
 -- a report's length
-pub length-reportRow : (r : List ℕ) → length r ≡ 56 → getD r 24 0 ≤ 31 → length (reportRow r) ≡ 14 + getD r 24 0
+pub length-reportRow : (r : List ℕ) → length r ≡ pairSize → getD r lengthAt 0 ≤ mostData → length (reportRow r) ≡ 14 + getD r lengthAt 0
 unfolding reportRow
 length-reportRow r h n =
     let d : length (take 7 (drop 1 r)) ≡ 7 = simp (length-take, length-drop) (omega arith) in
-    let a : length (take (getD r 24 0) (drop 25 r)) ≡ getD r 24 0 =
-    length-take-le (getD r 24 0) (drop 25 r) (simp length-drop (omega arith)) in
-    length-report (getD r 23 0) (take 7 (drop 1 r)) (take (getD r 24 0) (drop 25 r))
-    (mean (little 8 r 15) (little 4 r 11)) d ∙ ap (λ (k : ℕ). 14 + k) a
+    let a : length (take (getD r lengthAt 0) (drop dataAt r)) ≡ getD r lengthAt 0 =
+    length-take-le (getD r lengthAt 0) (drop dataAt r) (simp length-drop (omega arith)) in
+    length-report (getD r eventAt 0) (take 7 (drop 1 r)) (take (getD r lengthAt 0) (drop dataAt r))
+    (mean (little 8 r sumAt) (little 4 r packetsAt)) d ∙ ap (λ (k : ℕ). 14 + k) a
 
 -- what stands in the output and how many octets were written
 pub record Appended (out after : List ℕ) (at n : ℕ) (octets : List ℕ) : Type 0 where
@@ -193,32 +195,32 @@ unfolding when
 appended-some out at t l e a = rw e a
 
 -- a report of a window, where it has room
-pub window-appended : (out : List ℕ) (at : ℕ) (r : List ℕ) {m : List ℕ} {n v s p : ℕ} → length r ≡ 56 → getD r 24 0 ≤ 31
-    → at + 45 ≤ length out → p ≡ numberAt 4 r 11 → s ≡ numberAt 8 r 15 → v ≡ mean s p
+pub window-appended : (out : List ℕ) (at : ℕ) (r : List ℕ) {m : List ℕ} {n v s p : ℕ} → length r ≡ pairSize → getD r lengthAt 0 ≤ mostData
+    → at + reportMost ≤ length out → p ≡ numberAt 4 r packetsAt → s ≡ numberAt 8 r sumAt → v ≡ mean s p
     → n ≡ pick
-    (reportFits (length out) at (getD r 23 0) (take 7 (drop 1 r)) (take (25 + getD r 24 0 - 25) (drop 25 r)) v)
-    (length (reportOctets (getD r 23 0) (take 7 (drop 1 r)) (take (25 + getD r 24 0 - 25) (drop 25 r)) v)) 0
+    (reportFits (length out) at (getD r eventAt 0) (take 7 (drop 1 r)) (take (dataAt + getD r lengthAt 0 - 25) (drop dataAt r)) v)
+    (length (reportOctets (getD r eventAt 0) (take 7 (drop 1 r)) (take (dataAt + getD r lengthAt 0 - 25) (drop dataAt r)) v)) 0
     → m ≡ putIf
-    (reportFits (length out) at (getD r 23 0) (take 7 (drop 1 r)) (take (25 + getD r 24 0 - 25) (drop 25 r)) v)
-    out at (reportOctets (getD r 23 0) (take 7 (drop 1 r)) (take (25 + getD r 24 0 - 25) (drop 25 r)) v)
+    (reportFits (length out) at (getD r eventAt 0) (take 7 (drop 1 r)) (take (dataAt + getD r lengthAt 0 - 25) (drop dataAt r)) v)
+    out at (reportOctets (getD r eventAt 0) (take 7 (drop 1 r)) (take (dataAt + getD r lengthAt 0 - 25) (drop dataAt r)) v)
     → Appended out m at n (reportRow r)
 unfolding reportFits reportRow pick putIf
 window-appended out at r {m} {n} {v} {s} {p} h k b ep es ev q t =
-    let x : ℕ = getD r 24 0 in
-    let w : v ≡ mean (little 8 r 15) (little 4 r 11) =
+    let x : ℕ = getD r lengthAt 0 in
+    let w : v ≡ mean (little 8 r sumAt) (little 4 r packetsAt) =
     ev ∙ rw (number-of 8 r 15 es (omega arith), number-of 4 r 11 ep (omega arith)) in
-    let y : 25 + getD r 24 0 - 25 ≡ getD r 24 0 = omega arith in
+    let y : dataAt + getD r lengthAt 0 - 25 ≡ getD r lengthAt 0 = omega arith in
     let d : length (take 7 (drop 1 r)) ≡ 7 = simp (length-take, length-drop) (omega arith) in
-    let a : length (take (getD r 24 0) (drop 25 r)) ≡ getD r 24 0 =
-    length-take-le x (drop 25 r) (simp length-drop (omega arith)) in
-    let o : List ℕ = reportOctets (getD r 23 0) (take 7 (drop 1 r)) (take (getD r 24 0) (drop 25 r))
-    (mean (little 8 r 15) (little 4 r 11)) in
+    let a : length (take (getD r lengthAt 0) (drop dataAt r)) ≡ getD r lengthAt 0 =
+    length-take-le x (drop dataAt r) (simp length-drop (omega arith)) in
+    let o : List ℕ = reportOctets (getD r eventAt 0) (take 7 (drop 1 r)) (take (getD r lengthAt 0) (drop dataAt r))
+    (mean (little 8 r sumAt) (little 4 r packetsAt)) in
     let l : length o ≡ 14 + x = length-report _ _ _ _ d ∙ ap (λ (j : ℕ). 14 + j) a in
-    let f : reportFits (length out) at (getD r 23 0) (take 7 (drop 1 r)) (take (getD r 24 0) (drop 25 r))
-    (mean (little 8 r 15) (little 4 r 11)) ≡ true =
+    let f : reportFits (length out) at (getD r eventAt 0) (take 7 (drop 1 r)) (take (getD r lengthAt 0) (drop dataAt r))
+    (mean (little 8 r sumAt) (little 4 r packetsAt)) ≡ true =
     rw (
       eq-eqb (length (take 7 (drop 1 r))) 7 d,
-      le-leb (length (take (getD r 24 0) (drop 25 r))) 31
+      le-leb (length (take (getD r lengthAt 0) (drop dataAt r))) mostData
           (omega arith),
       le-leb (at + length o) (length out) (omega arith),
     ) in
@@ -226,8 +228,8 @@ window-appended out at r {m} {n} {v} {s} {p} h k b ep es ev q t =
 
 -- a stop event, where the watch ends
 pub stop-appended : (out : List ℕ) (at : ℕ) (prefix r : List ℕ) (on : Bool) {m : List ℕ} {n : ℕ} → on ≡ false
-    → length r ≡ 56
-    → length prefix ≤ 32 → at + length (when (not on) (eventOctets prefix r 0)) ≤ length out
+    → length r ≡ pairSize
+    → length prefix ≤ mostPrefix → at + length (when (not on) (eventOctets prefix r 0)) ≤ length out
     → n ≡ pick (eventFits (length out) at prefix r 0) (length (eventOctets prefix r 0)) 0
     → m ≡ putIf (eventFits (length out) at prefix r 0) out at (eventOctets prefix r 0)
     → Appended out m at n (when (not on) (eventOctets prefix r 0))
@@ -236,7 +238,7 @@ stop-appended out at prefix r on o h a b p q =
     let c : at + length (eventOctets prefix r 0) ≤ length out = rw o at b in
     let e : eventFits (length out) at prefix r 0 ≡ true =
     rw (
-      le-leb (length prefix) 32 a,
+      le-leb (length prefix) mostPrefix a,
       le-leb 8 (length r) (omega arith),
       le-leb (at + length (eventOctets prefix r 0))
           (length out) c,
@@ -253,38 +255,38 @@ appended-then out at a b h p q =
     }
 
 -- what a row says is 45 octets at most
-length-says : (on : Bool) (period filter : ℕ) (r : List ℕ) → length r ≡ 56
-    → length (when (saysRow on period filter r) (reportRow r)) ≤ 45
+length-says : (on : Bool) (period filter : ℕ) (r : List ℕ) → length r ≡ pairSize
+    → length (when (saysRow on period filter r) (reportRow r)) ≤ reportMost
 unfolding when
 length-says on period filter r h = go (saysRow on period filter r) refl
   where
-    go : (t : Bool) → saysRow on period filter r ≡ t → length (when t (reportRow r)) ≤ 45
+    go : (t : Bool) → saysRow on period filter r ≡ t → length (when t (reportRow r)) ≤ reportMost
     go true e = let n = says on period filter r e .short in omega (arith, length-reportRow r h n)
     go false e = omega arith
 
-pub says-most : (on : Bool) (period filter : ℕ) (r : List ℕ) {out m : List ℕ} {at n : ℕ} → length r ≡ 56
-    → Appended out m at n (when (saysRow on period filter r) (reportRow r)) → n ≤ 45
+pub says-most : (on : Bool) (period filter : ℕ) (r : List ℕ) {out m : List ℕ} {at n : ℕ} → length r ≡ pairSize
+    → Appended out m at n (when (saysRow on period filter r) (reportRow r)) → n ≤ reportMost
 says-most on period filter r h a = rw (a .count) (length-says on period filter r h)
 
-pub stop-most : (on : Bool) (prefix r : List ℕ) {out m : List ℕ} {at n : ℕ} → length r ≡ 56 → length prefix ≤ 32
-    → Appended out m at n (when (not on) (eventOctets prefix r 0)) → n ≤ 44
+pub stop-most : (on : Bool) (prefix r : List ℕ) {out m : List ℕ} {at n : ℕ} → length r ≡ pairSize → length prefix ≤ mostPrefix
+    → Appended out m at n (when (not on) (eventOctets prefix r 0)) → n ≤ eventMost
 stop-most on prefix r h p a =
     let k : length (eventOctets prefix r 0) ≡ 12 + length prefix = length-event prefix r 0 (omega arith) in
     rw (a .count) (omega (arith, length-when (not on) (eventOctets prefix r 0)))
 
-pub length-told : (on : Bool) (period filter : ℕ) (prefix r : List ℕ) → length r ≡ 56 → length prefix ≤ 32
-    → length (toldOn on period filter prefix r) ≤ 45
+pub length-told : (on : Bool) (period filter : ℕ) (prefix r : List ℕ) → length r ≡ pairSize → length prefix ≤ mostPrefix
+    → length (toldOn on period filter prefix r) ≤ reportMost
 unfolding toldOn saysRow when
 length-told true period filter prefix r h n = simp append-nil (length-says true period filter r h)
 length-told false period filter prefix r h n = omega (arith, length-event prefix r 0 (omega arith))
 
 -- room for a stop event behind a report: there is only one of them
-pub stop-room : (on : Bool) (period filter : ℕ) (prefix r : List ℕ) (at j n : ℕ) → length r ≡ 56 → length prefix ≤ 32
-    → at + 45 ≤ n
+pub stop-room : (on : Bool) (period filter : ℕ) (prefix r : List ℕ) (at j n : ℕ) → length r ≡ pairSize → length prefix ≤ mostPrefix
+    → at + reportMost ≤ n
     → j ≡ length (when (saysRow on period filter r) (reportRow r))
     → at + j + length (when (not on) (eventOctets prefix r 0)) ≤ n
 unfolding toldOn
 stop-room on period filter prefix r at j n h p b e =
-    let l : length (toldOn on period filter prefix r) ≤ 45 = length-told on period filter prefix r h p in
+    let l : length (toldOn on period filter prefix r) ≤ reportMost = length-told on period filter prefix r h p in
     let a = length-append (when (saysRow on period filter r) (reportRow r)) (when (not on) (eventOctets prefix r 0)) in
     omega arith

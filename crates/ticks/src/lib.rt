@@ -1,6 +1,9 @@
 // A tick (document 01, Watching, by history): one pass over the pairs held, in place. For each pair in start order: the ticks since a
 // good packet, the end of a watch with its stop event, the closing of a window with its report. Pairs that stay move down over those
 // that end, and the rows behind them are cleared.
+use state::Seconds;
+use state::State;
+use state::Ticks;
 ghost use Prim.Native.Nat.{_+_, _*_, _≤_, _<_};
 ghost use mathlib.Core.Path.{_≡_};
 ghost use mathlib.Core.Bool.{true, not};
@@ -10,7 +13,6 @@ ghost use Rattle.laws.specs.Put.{put};
 ghost use Rattle.laws.specs.Loops.{when};
 ghost use Rattle.laws.specs.Rows.{row};
 ghost use Rattle.octets.specs.Little.{little};
-ghost use Rattle.octets.specs.Numbers.{numberAt};
 ghost use Rattle.sessions.specs.Machine.{lastNumber};
 ghost use Rattle.model.specs.Types.{Model};
 ghost use Rattle.model.specs.Level.{mean};
@@ -23,13 +25,16 @@ ghost use Rattle.ticks.specs.Row.{windowedBy, closesAt, tickedRow, repor
 ghost use Rattle.ticks.specs.Written.{Appended};
 ghost use Rattle.ticks.specs.Table.{Turned, Passed, Cleared, columnOf};
 ghost use Rattle.ticks.specs.Refused.{Taken};
+ghost use Rattle.model.specs.Layout.{reportMost};
+ghost use Rattle.sessions.specs.Machine.{answerRoom};
+ghost use Rattle.model.specs.Layout.{blockSize, headSize, lengthAt, monitorSize, mostData, mostMonitors, mostPairs, mostPrefix, packetsAt, pairSize, pairsSize, positionAt, silentAt};
 
 // Whether a watch goes on: a tick more since a good packet is not yet the whole run.
-fn stays(silent: u16, run: u16) -> bool
-    ensures { λ r. ⌜ r ≡ ltb (silent + 1) run ⌝ }
+fn stays(silent: Ticks, run: Ticks) -> bool
+    ensures { λ r. ⌜ r ≡ ltb (silent .0 + 1) (run .0) ⌝ }
 {
-    if silent < run {
-        return silent + 1 < run;
+    if silent.0 < run.0 {
+        return silent.0 + 1 < run.0;
     }
     false
 }
@@ -64,28 +69,35 @@ fn mean_of(sum: u64, packets: u64) -> u8
 
 // Whether a pair that stays reports its window.
 fn says(r: &[u8], on: bool, period: u8, filter: u8) -> bool
-    requires { ⌜ length (now r) ≡ 56 ⌝ }
+    requires { ⌜ length (now r) ≡ pairSize ⌝ }
     ensures { λ b. ⌜ b ≡ saysRow on period filter (now (r .entry)) ⌝ }
 {
-    let packets = octets::get32(r, 11);
-    let closed = closes(period, r[10]);
-    on & ((filter == 1) & (closed & ((1 <= packets) & (r[24] <= 31))))
+    let packets = octets::get32(r, State::PACKETS_AT);
+    let closed = closes(period, r[State::TICKS_AT]);
+    on & ((filter == 1) & (closed & ((1 <= packets) & (r[State::LENGTH_AT] <= State::MOST_DATA))))
 }
 
 // Appends the report of a window.
 fn put_window(r: &[u8], out: &mut [u8], at: usize) -> usize
-    requires { ⌜ (length (now r) ≡ 56) × (1 ≤ little 4 (now r) 11) × (getD (now r) 24 0 ≤ 31) × (at + 45 ≤ length (now out)) ⌝ }
+    requires { ⌜ (length (now r) ≡ pairSize) × (1 ≤ little 4 (now r) packetsAt) × (getD (now r) lengthAt 0 ≤ mostData) × (at + reportMost ≤ length (now out)) ⌝ }
     ensures { λ n. ⌜ Appended (now (out .entry)) (now (out .exit)) at n (reportRow (now (r .entry))) ⌝ }
 {
-    let packets = octets::get32(r, 11) as u64;
-    let rssi = mean_of(octets::get64(r, 15), packets);
-    let end = 25 + r[24] as usize;
-    events::put_report(out, at, r[23], &r[1..8], &r[25..end], rssi)
+    let packets = octets::get32(r, State::PACKETS_AT) as u64;
+    let rssi = mean_of(octets::get64(r, State::SUM_AT), packets);
+    let end = State::DATA_AT + r[State::LENGTH_AT] as usize;
+    events::put_report(
+        out,
+        at,
+        r[State::EVENT_AT],
+        &r[State::KIND_AT..State::SILENT_AT],
+        &r[State::DATA_AT..end],
+        rssi,
+    )
 }
 
 // Appends the report of a window where there is one.
 fn tell_window(r: &[u8], out: &mut [u8], at: usize, on: bool, period: u8, filter: u8) -> usize
-    requires { ⌜ (length (now r) ≡ 56) × (at + 45 ≤ length (now out)) ⌝ }
+    requires { ⌜ (length (now r) ≡ pairSize) × (at + reportMost ≤ length (now out)) ⌝ }
     ensures { λ n. ⌜ Appended (now (out .entry)) (now (out .exit)) at n (when (saysRow on period filter (now (r .entry))) (reportRow (now (r .entry)))) ⌝ }
 {
     if says(r, on, period, filter) {
@@ -96,7 +108,7 @@ fn tell_window(r: &[u8], out: &mut [u8], at: usize, on: bool, period: u8, filter
 
 // Appends the stop event of a watch that ends.
 fn tell_stop(r: &[u8], out: &mut [u8], at: usize, on: bool, prefix: &[u8]) -> usize
-    requires { ⌜ (length (now r) ≡ 56) × (length (now prefix) ≤ 32) × (at + length (when (not on) (eventOctets (now prefix) (now r) 0)) ≤ length (now out)) ⌝ }
+    requires { ⌜ (length (now r) ≡ pairSize) × (length (now prefix) ≤ mostPrefix) × (at + length (when (not on) (eventOctets (now prefix) (now r) 0)) ≤ length (now out)) ⌝ }
     ensures { λ n. ⌜ Appended (now (out .entry)) (now (out .exit)) at n (when (not on) (eventOctets (now (prefix .entry)) (now (r .entry)) 0)) ⌝ }
 {
     if on {
@@ -107,20 +119,20 @@ fn tell_stop(r: &[u8], out: &mut [u8], at: usize, on: bool, prefix: &[u8]) -> us
 
 // A row one tick further: the ticks since a good packet, and its window.
 fn advance(r: &mut [u8], period: u8)
-    requires { ⌜ (length (now r) ≡ 56) × (little 2 (now r) 8 < 65535) ⌝ }
+    requires { ⌜ (length (now r) ≡ pairSize) × (little 2 (now r) silentAt < 65535) ⌝ }
     ensures { λ _. ⌜ now (r .exit) ≡ tickedRow period (now (r .entry)) ⌝ }
 {
-    let silent = octets::get16(r, 8);
-    let ticks = r[10];
-    octets::put16(r, 8, silent + 1);
+    let silent = octets::get16(r, State::SILENT_AT);
+    let ticks = r[State::TICKS_AT];
+    octets::put16(r, State::SILENT_AT, silent + 1);
     if !windowed(period) {
         return;
     }
     if closes(period, ticks) {
-        parts::fill(r, 10, 46, 0);
+        parts::fill(r, State::TICKS_AT, State::WINDOW, 0);
         return;
     }
-    r[10] = ticks + 1;
+    r[State::TICKS_AT] = ticks + 1;
 }
 
 // Appends what a tick writes for a row: the report of its window, or the stop event of its watch, or nothing.
@@ -133,7 +145,7 @@ fn tell(
     filter: u8,
     prefix: &[u8],
 ) -> usize
-    requires { ⌜ (length (now r) ≡ 56) × (length (now prefix) ≤ 32) × (at + 45 ≤ length (now out)) ⌝ }
+    requires { ⌜ (length (now r) ≡ pairSize) × (length (now prefix) ≤ mostPrefix) × (at + reportMost ≤ length (now out)) ⌝ }
     ensures { λ n. ⌜ Appended (now (out .entry)) (now (out .exit)) at n (toldOn on period filter (now (prefix .entry)) (now (r .entry))) ⌝ }
 {
     let report = tell_window(r, out, at, on, period, filter);
@@ -143,23 +155,28 @@ fn tell(
 
 // Moves a row down.
 fn move_row(t: &mut [u8], to: usize, from: usize)
-    requires { ⌜ (to ≤ from) × (from < 64) × (length (now t) ≡ 3584) ⌝ }
-    ensures { λ _. ⌜ now (t .exit) ≡ put (now (t .entry)) (56 * to) (row 56 from (now (t .entry))) ⌝ }
+    requires { ⌜ (to ≤ from) × (from < mostPairs) × (length (now t) ≡ pairsSize) ⌝ }
+    ensures { λ _. ⌜ now (t .exit) ≡ put (now (t .entry)) (pairSize * to) (row pairSize from (now (t .entry))) ⌝ }
 {
     if to == from {
         return;
     }
-    parts::shift(t, 56 * to, 56 * from, 56);
+    parts::shift(
+        t,
+        State::PAIR_ROW * to,
+        State::PAIR_ROW * from,
+        State::PAIR_ROW,
+    );
 }
 
 // A row that stays, one tick further, at its new place.
 fn keep_row(t: &mut [u8], to: usize, from: usize, period: u8)
-    requires { ⌜ (to ≤ from) × (from < 64) × (length (now t) ≡ 3584) × (little 2 (row 56 from (now t)) 8 < 65535) ⌝ }
-    ensures { λ _. ⌜ now (t .exit) ≡ put (now (t .entry)) (56 * to) (tickedRow period (row 56 from (now (t .entry)))) ⌝ }
+    requires { ⌜ (to ≤ from) × (from < mostPairs) × (length (now t) ≡ pairsSize) × (little 2 (row pairSize from (now t)) silentAt < 65535) ⌝ }
+    ensures { λ _. ⌜ now (t .exit) ≡ put (now (t .entry)) (pairSize * to) (tickedRow period (row pairSize from (now (t .entry)))) ⌝ }
 {
     move_row(t, to, from);
-    let start = 56 * to;
-    let end = start + 56;
+    let start = State::PAIR_ROW * to;
+    let end = start + State::PAIR_ROW;
     advance(&mut t[start..end], period);
 }
 
@@ -191,16 +208,16 @@ fn tick_row(
     filter: u8,
     prefix: &[u8],
 ) -> Turn
-    requires { ⌜ (i < 64) × (kept ≤ i) × (length (now t) ≡ 3584) × (at + 45 ≤ length (now out)) × (length (now prefix) ≤ 32) ⌝ }
+    requires { ⌜ (i < mostPairs) × (kept ≤ i) × (length (now t) ≡ pairsSize) × (at + reportMost ≤ length (now out)) × (length (now prefix) ≤ mostPrefix) ⌝ }
     ensures { λ r. ⌜ Turned (now (t .entry)) (now (t .exit)) (now (out .entry)) (now (out .exit)) kept at (r .kept) (r .wrote) (keptAt (now (intervals .entry)) (now (periods .entry)) (now (t .entry)) i) (toldAt (now (intervals .entry)) (now (periods .entry)) filter (now (prefix .entry)) (now (t .entry)) i) ⌝ }
 {
-    let start = 56 * i;
-    let end = start + 56;
+    let start = State::PAIR_ROW * i;
+    let end = start + State::PAIR_ROW;
     let handle = t[start] as usize;
-    let run = state::Seconds(octet_at(intervals, handle)).ticks();
+    let run = Seconds(octet_at(intervals, handle)).ticks();
     let period = octet_at(periods, handle);
-    let silent = octets::get16(t, start + 8);
-    let on = stays(silent, run.0);
+    let silent = Ticks(octets::get16(t, start + State::SILENT_AT));
+    let on = stays(silent, run);
     let wrote = at + tell(&t[start..end], out, at, on, period, filter, prefix);
     if on {
         keep_row(t, kept, i, period);
@@ -220,7 +237,7 @@ fn tick_rows(
     filter: u8,
     prefix: &[u8],
 ) -> Turn
-    requires { ⌜ (n ≤ 64) × (length (now t) ≡ 3584) × (2880 ≤ length (now out)) × (length (now prefix) ≤ 32) ⌝ }
+    requires { ⌜ (n ≤ mostPairs) × (length (now t) ≡ pairsSize) × (answerRoom ≤ length (now out)) × (length (now prefix) ≤ mostPrefix) ⌝ }
     ensures { λ r. ⌜ (r .kept ≤ n) × Passed (now (t .entry)) (now (t .exit)) (now (out .entry)) (now (out .exit)) (r .kept) (r .wrote) (keptAt (now (intervals .entry)) (now (periods .entry)) (now (t .entry))) (toldAt (now (intervals .entry)) (now (periods .entry)) filter (now (prefix .entry)) (now (t .entry))) n ⌝ }
 {
     let mut i = 0;
@@ -245,70 +262,61 @@ fn tick_pairs(
     filter: u8,
     prefix: &[u8],
 ) -> Turn
-    requires { ⌜ (n ≤ 64) × (length (now t) ≡ 3584) × (2880 ≤ length (now out)) × (length (now prefix) ≤ 32) ⌝ }
+    requires { ⌜ (n ≤ mostPairs) × (length (now t) ≡ pairsSize) × (answerRoom ≤ length (now out)) × (length (now prefix) ≤ mostPrefix) ⌝ }
     ensures { λ r. ⌜ Cleared (now (t .entry)) (now (t .exit)) (now (out .entry)) (now (out .exit)) (r .kept) (r .wrote) (keptAt (now (intervals .entry)) (now (periods .entry)) (now (t .entry))) (toldAt (now (intervals .entry)) (now (periods .entry)) filter (now (prefix .entry)) (now (t .entry))) n ⌝ }
 {
     let turn = tick_rows(t, n, out, intervals, periods, filter, prefix);
     let kept = turn.kept;
-    parts::fill(t, 56 * kept, 56 * (n - kept), 0);
+    parts::fill(t, State::PAIR_ROW * kept, State::PAIR_ROW * (n - kept), 0);
     turn
 }
 
 // One octet of every monitor's row, by handle.
-fn column(s: &[u8], at: usize) -> [u8; 16]
-    requires { ⌜ at + 71 * 15 < length (now s) ⌝ }
-    ensures { λ r. ⌜ r ≡ columnOf (now (s .entry)) at 16 ⌝ }
+fn column(s: &[u8], at: usize) -> [u8; State::MONITORS]
+    requires { ⌜ at + monitorSize * 15 < length (now s) ⌝ }
+    ensures { λ r. ⌜ r ≡ columnOf (now (s .entry)) at mostMonitors ⌝ }
 {
-    let mut r = [0u8; 16];
+    let mut r = [0u8; State::MONITORS];
     let mut h = 0;
-    while h < 16 {
-        r[h] = s[at + 71 * h];
+    while h < State::MONITORS {
+        r[h] = s[at + State::MONITOR_ROW * h];
         h += 1;
     }
     r
 }
 
 // The head of the block: position, filter, opcode, prefix length, prefix.
-fn head_of(s: &[u8]) -> [u8; 40]
-    requires { ⌜ 40 ≤ length (now s) ⌝ }
-    ensures { λ r. ⌜ r ≡ take 40 (now (s .entry)) ⌝ }
+fn head_of(s: &[u8]) -> [u8; State::HEAD]
+    requires { ⌜ headSize ≤ length (now s) ⌝ }
+    ensures { λ r. ⌜ r ≡ take headSize (now (s .entry)) ⌝ }
 {
-    let mut r = [0u8; 40];
-    parts::copy(&mut r, 0, &s[0..40]);
+    let mut r = [0u8; State::HEAD];
+    parts::copy(&mut r, 0, &s[0..State::HEAD]);
     r
 }
 
-// A number, or the most that is allowed.
-fn up_to(n: u8, most: u8) -> usize
-    ensures { λ r. ⌜ (r ≤ most) × (n ≤ most → r ≡ n) ⌝ }
-{
-    if n <= most {
-        return n as usize;
-    }
-    most as usize
-}
-
-fn tick_in(s: &mut [u8], out: &mut [u8], position: u32) -> usize
-    requires { ⌜ (length (now s) ≡ 4761) × (2880 ≤ length (now out)) × (position ≡ numberAt 4 (now s) 0) × (position < 4294967295) ⌝ }
+// A tick on a block of the right length, before the last number.
+fn tick_in(s: &mut [u8], out: &mut [u8]) -> usize
+    requires { ⌜ (length (now s) ≡ blockSize) × (answerRoom ≤ length (now out)) ⌝ }
     ensures { λ r. ⌜ ((m : Model) → soundModel m ≡ true → now (s .entry) ≡ padded m → m .position < lastNumber → Stepped m aTick (now (s .exit)) (now (out .entry)) (now (out .exit)) r) ⌝ }
 {
     let head = head_of(s);
-    let intervals = column(s, 43);
-    let periods = column(s, 44);
-    let n = up_to(s[4760], 64);
-    let filter = head[4];
-    let end = 8 + up_to(head[7], 32);
+    let intervals = column(s, State::INTERVALS_AT);
+    let periods = column(s, State::PERIODS_AT);
+    let n = octets::at_most(s[State::COUNT_AT], State::PAIRS);
+    let filter = head[State::FILTER_AT];
+    let end = State::PREFIX_AT + octets::at_most(head[State::PREFIX_LENGTH_AT], State::PREFIX);
     let turn = tick_pairs(
-        &mut s[1176..4760],
+        &mut s[State::PAIRS_AT..State::COUNT_AT],
         n,
         out,
         &intervals,
         &periods,
         filter,
-        &head[8..end],
+        &head[State::PREFIX_AT..end],
     );
-    s[4760] = turn.kept as u8;
-    octets::put32(s, 0, position + 1);
+    s[State::COUNT_AT] = turn.kept as u8;
+    state::advance(s);
     turn.wrote
 }
 
@@ -318,15 +326,14 @@ fn tick_in(s: &mut [u8], out: &mut [u8], position: u32) -> usize
 pub fn tick(s: &mut [u8], out: &mut [u8]) -> usize
     ensures { λ r. ⌜ Taken aTick (now (s .entry)) (now (s .exit)) (now (out .entry)) (now (out .exit)) r ⌝ }
 {
-    if s.len() != 4761 {
+    if s.len() != State::SIZE {
         return 0;
     }
-    if out.len() < 2880 {
+    if out.len() < State::ANSWER {
         return 0;
     }
-    let position = octets::get32(s, 0);
-    if position >= 4294967295 {
+    if octets::get32(s, State::POSITION_AT) >= 4294967295 {
         return 0;
     }
-    tick_in(s, out, position)
+    tick_in(s, out)
 }

@@ -7,7 +7,6 @@ use Rattle.bournejade.proofs.bournejade_answer_size.Lts as lts
 
 -- src/lib.rt:89:1
 returns : tie.Need-returns
-unfolding answerRoom
 returns c = refl
 
 pub bournejade-answer-size-spec : {M : Type 1} → statement M

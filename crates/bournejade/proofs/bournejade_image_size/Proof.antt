@@ -7,7 +7,6 @@ use Rattle.bournejade.proofs.bournejade_image_size.Lts as lts
 
 -- src/lib.rt:97:1
 returns : tie.Need-returns
-unfolding saveRoom
 returns c = refl
 
 pub bournejade-image-size-spec : {M : Type 1} → statement M

@@ -1,4 +1,4 @@
-use Rattle.commands.specs.Command.{answered, wrong-block, wrong-room}
+use Rattle.commands.specs.Command.{answered, position-moved, wrong-block, wrong-room}
 use native.Mathlib.Omega.{arith}
 use borrow.Author.Needs.{needs}
 use Rattle.commands.proofs.command.Statement.{statement}
@@ -29,7 +29,7 @@ returns-3 c = let a = c .before .before .before .before .before .before .before 
     .before .before .before .before .before .args in
     answered (a .params .now) (a .s .now) (a .out .now) (omega arith) (omega arith)
     (c .before .before .before .before .before .before .before .before .execute .ensures)
-    (c .before .before .advance .ensures)
+    (position-moved _ (omega arith) (c .before .before .advance .ensures))
 
 pub command-spec : {M : Type 1} → statement M
 command-spec =

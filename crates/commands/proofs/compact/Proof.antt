@@ -12,11 +12,12 @@ use lib.ListN.{length, take}
 use Prim.Native.Nat.{_≤_, _-_}
 use Rattle.commands.proofs.compact.Statement.{statement}
 use Rattle.commands.proofs.compact.Tie as tie
+use Rattle.model.specs.Layout.{pairsAt}
 
 abbrev Inv-loop : tie.InvT-loop
 Inv-loop s₀ count h k₀ i₀ s k i = (k ≤ i) × (i ≤ count) × (length s ≡ length s₀) ×
     ((qs : List Pair) → Holds s₀ qs → count ≡ length qs → (k ≡ length (keep (ofOther h) (take i qs))) ×
-    (s ≡ put s₀ 1176 (rowsOf (keep (ofOther h) (take i qs)))))
+    (s ≡ put s₀ pairsAt (rowsOf (keep (ofOther h) (take i qs)))))
 
 abbrev μ-loop : tie.MeasureT-loop
 μ-loop s₀ count h k₀ i₀ s k i = count - i

@@ -6,8 +6,11 @@ use borrow.Author.Needs.{needs}
 use Rattle.commands.proofs.forget_pairs.Statement.{statement}
 use Rattle.commands.proofs.forget_pairs.Tie as tie
 
-pair-count-requires : tie.Need-pair-count-requires
-pair-count-requires c κs = search needs
+slice-read-at-most : tie.Need-slice-read-at-most
+slice-read-at-most c = search needs
+
+at-most-requires : tie.Need-at-most-requires
+at-most-requires c κs = search needs
 
 compact-requires : tie.Need-compact-requires
 compact-requires c κs = search needs
@@ -37,18 +40,19 @@ same-length : tie.Need-same-length
 same-length c = simp length-set (c .before .s2 .given ∙ c .before .before .before .before .before .s .given)
 
 returns : tie.Need-returns
-returns c = let p = c .before .before .before .before .before .before .before .before .pair-count .ensures in
+returns c = let p = c .before .before .before .before .before .before .before .before .at-most .ensures in
     forgotten (c .before .before .before .before .before .before .before .before .before .before .before .args .h)
-    (c .before .before .before .before .before .before .before .before .pair-count .result)
+    (c .before .before .before .before .before .before .before .before .at-most .result)
     (c .before .before .before .before .before .before .before .before .before .before .before .args .s .now)
-    (omega arith) (c .before .before .before .before .before .s .given) (c .before .s2 .given) (p .1)
-    (c .before .before .before .before .before .before .compact .ensures) (c .before .before .fill .ensures) (p .0)
+    (omega arith) (c .before .before .before .before .before .s .given) (c .before .s2 .given) (p .2)
+    (c .before .before .before .before .before .before .compact .ensures) (c .before .before .fill .ensures) (p .1)
 
 pub forget-pairs-spec : {M : Type 1} → statement M
 forget-pairs-spec =
     tie.close
     (tie.spec
-    pair-count-requires
+    slice-read-at-most
+    at-most-requires
     compact-requires
     mul-fill
     add-fill

@@ -6,12 +6,13 @@ use mathlib.Core.Path.{_≡_, refl, sym, _∙_}
 use Prim.Native.Nat.{_≤_, _-_}
 use Rattle.commands.proofs.free_handle.Statement.{statement}
 use Rattle.commands.proofs.free_handle.Tie as tie
+use Rattle.model.specs.Layout.{mostMonitors}
 
 abbrev Inv-loop : tie.InvT-loop
-Inv-loop s h₀ h = (h ≤ 16) × (lowest s (16 - h) h ≡ lowest s 16 0)
+Inv-loop s h₀ h = (h ≤ mostMonitors) × (lowest s (mostMonitors - h) h ≡ lowest s mostMonitors 0)
 
 abbrev μ-loop : tie.MeasureT-loop
-μ-loop s h₀ h = 16 - h
+μ-loop s h₀ h = mostMonitors - h
 
 loop-holds : tie.Need-loop-holds Inv-loop μ-loop
 loop-holds c = (omega arith, refl)

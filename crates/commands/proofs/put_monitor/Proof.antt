@@ -6,6 +6,7 @@ use lib.ListN.{length, length-set}
 use borrow.Author.Needs.{needs}
 use Rattle.commands.proofs.put_monitor.Statement.{statement}
 use Rattle.commands.proofs.put_monitor.Tie as tie
+use Rattle.model.specs.Layout.{monitorSize, monitorsAt}
 
 mul-at : tie.Need-mul-at
 mul-at c = search needs
@@ -89,7 +90,7 @@ same-length c = let e1 : length (c .before .before .before .before .before .befo
 returns : tie.Need-returns
 returns c = let a = c .before .before .before .before .before .before .before .before .before .before .before .before
     .before .before .before .before .args in
-    row-stored (a .s .now) (a .h) (40 + 71 * a .h) (a .params .now) (omega arith) (omega arith) (omega arith)
+    row-stored (a .s .now) (a .h) (monitorsAt + monitorSize * a .h) (a .params .now) (omega arith) (omega arith) (omega arith)
     (c .before .before .before .before .before .before .before .before .before .before .before .copy .ensures)
     (c .before .before .before .before .before .before .copy2 .ensures) (c .before .before .fill .ensures)
 

@@ -1,4 +1,4 @@
-use Rattle.commands.specs.Replies.{headOf, answer-features, reply-features}
+use Rattle.commands.specs.Replies.{prefixCount, headOf, answer-features, reply-features}
 use Rattle.model.specs.Commands.{features}
 use Rattle.laws.specs.Put.{put}
 use native.Mathlib.Omega.{arith}
@@ -9,11 +9,14 @@ use borrow.Author.Needs.{needs}
 use Rattle.commands.proofs.reply_features.Statement.{statement}
 use Rattle.commands.proofs.reply_features.Tie as tie
 
-prefix-count-requires : tie.Need-prefix-count-requires
-prefix-count-requires c κs = search needs
+shared-slice-read-at-most : tie.Need-shared-slice-read-at-most
+shared-slice-read-at-most c = search needs
 
-cast-k : tie.Need-cast-k
-cast-k c = search needs
+at-most-requires : tie.Need-at-most-requires
+at-most-requires c κs = search needs
+
+cast-n : tie.Need-cast-n
+cast-n c = search needs
 
 answer-of-requires : tie.Need-answer-of-requires
 answer-of-requires c κs = search needs
@@ -59,16 +62,16 @@ same-length c = let e : length (c .before .before .copy2 .last .0) ≡ length
     .before .before .before .before .before .before .out .given
 
 returns : tie.Need-returns
-unfolding features
+unfolding features prefixCount
 returns c = let a = c .before .before .before .before .before .before .before .before .before .before .before .before
-    .before .before .before .before .before .before .args in
+    .before .before .before .before .before .before .before .args in
     let p = c .before .before .before .before .before .before .before .before .before .before .before .before .before
-    .before .before .prefix-count .ensures in
+    .before .before .at-most .ensures in
     reply-features (a .out .now) (a .opcode) (a .s .now) (omega arith) (omega arith) (p .0) (p .1)
     (c .before .before .before .before .before .before .before .before .before .before .before .before .put-head
     .ensures ∙ ap (λ (n : ℕ). put (a .out .now) 0 (headOf (a .opcode)
     (n + c .before .before .before .before .before .before .before .before .before .before .before .before .before
-    .before .before .prefix-count .result))) (answer-features
+    .before .before .at-most .result))) (answer-features
     (c .before .before .before .before .before .before .before .before .before .before .before .before .before
     .answer-of .ensures)))
     (c .before .before .before .before .before .before .before .copy .ensures) (c .before .before .copy2 .ensures)
@@ -77,8 +80,9 @@ pub reply-features-spec : {M : Type 1} → statement M
 reply-features-spec =
     tie.close
     (tie.spec
-    prefix-count-requires
-    cast-k
+    shared-slice-read-at-most
+    at-most-requires
+    cast-n
     answer-of-requires
     add-put-head
     put-head-requires

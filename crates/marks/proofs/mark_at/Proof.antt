@@ -1,3 +1,4 @@
+use Rattle.marks.specs.Fields.{clamped}
 use Prim.Native.Nat.{ℕ, _+_, _-_, _*_}
 use mathlib.Core.List.{List}
 use mathlib.Core.Path.{_≡_, refl, ap}
@@ -7,6 +8,7 @@ use borrow.Author.Needs.{needs}
 use Rattle.marks.specs.Monitors.{mark-unused, mark-unmatched, mark-matched}
 use Rattle.marks.proofs.mark_at.Statement.{statement}
 use Rattle.marks.proofs.mark_at.Tie as tie
+use Rattle.model.specs.Layout.{monitorSize, monitorsAt}
 
 mul-at : tie.Need-mul-at
 mul-at c = search needs
@@ -26,23 +28,23 @@ returns c = let a = c .before .before .before .before .args in mark-unused (a .s
 add-from : tie.Need-add-from
 add-from c = search needs
 
-add-clamp : tie.Need-add-clamp
-add-clamp c = search needs
+add-at-most : tie.Need-add-at-most
+add-at-most c = search needs
 
-shared-slice-read-clamp : tie.Need-shared-slice-read-clamp
-shared-slice-read-clamp c = search needs
+shared-slice-read-at-most : tie.Need-shared-slice-read-at-most
+shared-slice-read-at-most c = search needs
 
-clamp-requires : tie.Need-clamp-requires
-clamp-requires c κs = search needs
+at-most-requires : tie.Need-at-most-requires
+at-most-requires c κs = search needs
 
 add-to : tie.Need-add-to
 add-to c = search needs
 
-shared-slice-read-index : tie.Need-shared-slice-read-index
-shared-slice-read-index c = search needs
+shared-slice-read-wide : tie.Need-shared-slice-read-wide
+shared-slice-read-wide c = search needs
 
-index-requires : tie.Need-index-requires
-index-requires c κs = search needs
+wide-requires : tie.Need-wide-requires
+wide-requires c κs = search needs
 
 add-end : tie.Need-add-end
 add-end c = search needs
@@ -114,11 +116,11 @@ returns-2 : tie.Need-returns-2
 returns-2 c = let a = c .before .before .before .before .before .before .before .before .before .before .before .before .before .before .before .before .before .before .before .before .args in
     let s : List ℕ = a .s .now in
     let l : List ℕ = a .payload .now in
-    let n : ℕ = c .before .before .before .before .before .before .before .before .before .before .before .before .before .before .clamp .result in
-    let k : 40 + 71 * a .h + 7 + n - (40 + 71 * a .h + 7) ≡ n = omega arith in
-    let e : c .before .before .before .before .before .before .before .before .before .before .before .before .index .result ≡ getD l 8 0 = c .before .before .before .before .before .before .before .before .before .before .before .before .index .ensures .0 in
-    let j : 9 + c .before .before .before .before .before .before .before .before .before .before .before .before .index .result - 9 ≡ getD l 8 0 = omega arith in
-    mark-matched s (a .h) l n (c .before .before .before .before .before .before .before .before .before .before .before .before .before .before .before .before .if1 .left) (c .before .before .before .before .before .before .before .before .before .before .before .before .before .before .clamp .ensures) (ap (λ (i : ℕ). take i (drop (40 + 71 * a .h + 7) s)) k) refl
+    let n : ℕ = c .before .before .before .before .before .before .before .before .before .before .before .before .before .before .at-most .result in
+    let k : monitorsAt + monitorSize * a .h + 7 + n - (monitorsAt + monitorSize * a .h + 7) ≡ n = omega arith in
+    let e : c .before .before .before .before .before .before .before .before .before .before .before .before .wide .result ≡ getD l 8 0 = c .before .before .before .before .before .before .before .before .before .before .before .before .wide .ensures .0 in
+    let j : 9 + c .before .before .before .before .before .before .before .before .before .before .before .before .wide .result - 9 ≡ getD l 8 0 = omega arith in
+    mark-matched s (a .h) l n (c .before .before .before .before .before .before .before .before .before .before .before .before .before .before .before .before .if1 .left) (clamped (c .before .before .before .before .before .before .before .before .before .before .before .before .before .before .at-most .ensures)) (ap (λ (i : ℕ). take i (drop (monitorsAt + monitorSize * a .h + 7) s)) k) refl
     (ap (λ (i : ℕ). take i (drop 9 l)) j) (c .before .before .before .before .before .before .match-packet .ensures) (c .before .before .before .before .before .if2 .taken)
     (rw e at (c .row-bits .ensures))
 
@@ -126,10 +128,10 @@ returns-3 : tie.Need-returns-3
 returns-3 c = let a = c .before .before .before .before .before .before .before .before .before .before .before .before .before .before .before .args in
     let s : List ℕ = a .s .now in
     let l : List ℕ = a .payload .now in
-    let n : ℕ = c .before .before .before .before .before .before .before .before .before .clamp .result in
-    let k : 40 + 71 * a .h + 7 + n - (40 + 71 * a .h + 7) ≡ n = omega arith in
-    let j : 9 + c .before .before .before .before .before .before .before .index .result - 9 ≡ getD l 8 0 = omega (arith, c .before .before .before .before .before .before .before .index .ensures .0) in
-    mark-unmatched s (a .h) l n (c .before .before .before .before .before .before .before .before .before .before .before .if1 .left) (c .before .before .before .before .before .before .before .before .before .clamp .ensures) (ap (λ (i : ℕ). take i (drop (40 + 71 * a .h + 7) s)) k) refl
+    let n : ℕ = c .before .before .before .before .before .before .before .before .before .at-most .result in
+    let k : monitorsAt + monitorSize * a .h + 7 + n - (monitorsAt + monitorSize * a .h + 7) ≡ n = omega arith in
+    let j : 9 + c .before .before .before .before .before .before .before .wide .result - 9 ≡ getD l 8 0 = omega (arith, c .before .before .before .before .before .before .before .wide .ensures .0) in
+    mark-unmatched s (a .h) l n (c .before .before .before .before .before .before .before .before .before .before .before .if1 .left) (clamped (c .before .before .before .before .before .before .before .before .before .at-most .ensures)) (ap (λ (i : ℕ). take i (drop (monitorsAt + monitorSize * a .h + 7) s)) k) refl
     (ap (λ (i : ℕ). take i (drop 9 l)) j) (c .before .match-packet .ensures) (c .if2 .left)
 
 pub mark-at-spec : {M : Type 1} → statement M
@@ -142,12 +144,12 @@ mark-at-spec =
     shared-slice-read-if1
     returns
     add-from
-    add-clamp
-    shared-slice-read-clamp
-    clamp-requires
+    add-at-most
+    shared-slice-read-at-most
+    at-most-requires
     add-to
-    shared-slice-read-index
-    index-requires
+    shared-slice-read-wide
+    wide-requires
     add-end
     add-match-packet
     shared-slice-read-match-packet

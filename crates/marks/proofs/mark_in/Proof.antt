@@ -11,12 +11,13 @@ use Rattle.laws.specs.Loops.{upTo}
 use Rattle.laws.specs.Put.{put, put-nil}
 use Rattle.marks.proofs.mark_in.Statement.{statement}
 use Rattle.marks.proofs.mark_in.Tie as tie
+use Rattle.model.specs.Layout.{monitorSize, monitorsAt, mostMonitors}
 
 abbrev Inv-loop : tie.InvT-loop
-Inv-loop acts₀ s payload h₀ acts h = (h ≤ 16) × (length acts ≡ length acts₀) × (acts ≡ put acts₀ 0 (upTo (λ g. markRow (row 71 g (drop 40 s)) (packetOf payload) ∷ []) h))
+Inv-loop acts₀ s payload h₀ acts h = (h ≤ mostMonitors) × (length acts ≡ length acts₀) × (acts ≡ put acts₀ 0 (upTo (λ g. markRow (row monitorSize g (drop monitorsAt s)) (packetOf payload) ∷ []) h))
 
 abbrev μ-loop : tie.MeasureT-loop
-μ-loop acts₀ s payload h₀ acts h = 16 - h
+μ-loop acts₀ s payload h₀ acts h = mostMonitors - h
 
 loop-holds : tie.Need-loop-holds Inv-loop μ-loop
 unfolding upTo
@@ -38,7 +39,7 @@ loop-again : tie.Need-loop-again Inv-loop μ-loop
 loop-again c = let a = c .before .before .before .before .before .before .args in let l = c .before .before .loop in (
   omega arith,
   simp length-set (l .inv .1),
-  rw (c .mark-at .ensures) (marks-turn (λ g. markRow (row 71 g (drop 40 (a .s .now))) (packetOf (a .payload .now))) (a .acts .now) (l .h)
+  rw (c .mark-at .ensures) (marks-turn (λ g. markRow (row monitorSize g (drop monitorsAt (a .s .now))) (packetOf (a .payload .now))) (a .acts .now) (l .h)
       (omega arith) (omega arith) (l .inv .2)),
 )
 
@@ -48,7 +49,7 @@ same-length c = c .before .loop .inv .1
 returns : tie.Need-returns Inv-loop μ-loop
 unfolding marksAt
 returns c = let a = c .before .before .before .before .before .args in let l = c .before .loop in
-    let e : l .h ≡ 16 = omega arith in
+    let e : l .h ≡ mostMonitors = omega arith in
     rw e at (l .inv .2) ∙ marks-end (a .s .now) (packetOf (a .payload .now)) (a .acts .now) (omega arith)
 
 pub mark-in-spec : {M : Type 1} → statement M

@@ -10,12 +10,13 @@ use Rattle.octets.specs.Little.{octetsOf}
 use Rattle.laws.specs.Put.{put-of}
 use Rattle.packets.proofs.gather_at.Statement.{statement}
 use Rattle.packets.proofs.gather_at.Tie as tie
+use Rattle.model.specs.Layout.{mostData, windowSize}
 
-shared-slice-read-index : tie.Need-shared-slice-read-index
-shared-slice-read-index c = search needs
+shared-slice-read-wide : tie.Need-shared-slice-read-wide
+shared-slice-read-wide c = search needs
 
-index-requires : tie.Need-index-requires
-index-requires c κs = search needs
+wide-requires : tie.Need-wide-requires
+wide-requires c κs = search needs
 
 add-end : tie.Need-add-end
 add-end c = search needs
@@ -110,8 +111,8 @@ returns : tie.Need-returns
 returns c = let a = c .before .before .before .before .before .before .before .before .before .before .before .before .before .before .before .before .before .before .before .before .before .before .before .before .before .before .before .before .before .before .before .args in
     let s : List ℕ = a .s .now in
     let l : List ℕ = a .payload .now in
-    let n : ℕ = c .before .before .before .before .before .before .before .before .before .before .before .before .before .before .before .before .before .before .before .before .before .before .before .before .before .before .before .index .result in
-    let e : n ≡ getD l 8 0 = c .before .before .before .before .before .before .before .before .before .before .before .before .before .before .before .before .before .before .before .before .before .before .before .before .before .before .before .index .ensures .0 in
+    let n : ℕ = c .before .before .before .before .before .before .before .before .before .before .before .before .before .before .before .before .before .before .before .before .before .before .before .before .before .before .before .wide .result in
+    let e : n ≡ getD l 8 0 = c .before .before .before .before .before .before .before .before .before .before .before .before .before .before .before .before .before .before .before .before .before .before .before .before .before .before .before .wide .ensures .0 in
     let f : 9 + n - 9 ≡ getD l 8 0 = omega arith in
     let d : List ℕ = take (9 + n - 9) (drop 9 l) in
     let b : List ℕ = set (set (c .before .before .before .before .before .before .before .before .before .before .before .before .before .put64 .last .0) (a .at + 12) (getD l 0 0)) (a .at + 13) (getD l 8 0) in
@@ -120,8 +121,8 @@ returns c = let a = c .before .before .before .before .before .before .before .b
     let j : length b ≡ length (c .before .before .before .before .before .before .before .before .before .before .before .before .before .put64 .last .0) = simp length-set in
     let k3 : length (c .before .before .before .before .before .before .copy .last .0) ≡ length b = c .before .before .before .before .before .before .copy .kept .0 in
     let g : length l ≡ 10 + getD l 8 0 = c .before .before .before .before .before .before .before .before .before .before .before .before .before .before .before .before .before .before .before .before .before .before .before .before .before .before .before .before .before .before .before .pre .1 .0 in
-    let g2 : getD l 8 0 ≤ 31 = c .before .before .before .before .before .before .before .before .before .before .before .before .before .before .before .before .before .before .before .before .before .before .before .before .before .before .before .before .before .before .before .pre .1 .1 in
-    let g3 : a .at + 45 ≤ length s = c .before .before .before .before .before .before .before .before .before .before .before .before .before .before .before .before .before .before .before .before .before .before .before .before .before .before .before .before .before .before .before .pre .0 in
+    let g2 : getD l 8 0 ≤ mostData = c .before .before .before .before .before .before .before .before .before .before .before .before .before .before .before .before .before .before .before .before .before .before .before .before .before .before .before .before .before .before .before .pre .1 .1 in
+    let g3 : a .at + windowSize ≤ length s = c .before .before .before .before .before .before .before .before .before .before .before .before .before .before .before .before .before .before .before .before .before .before .before .before .before .before .before .before .before .before .before .pre .0 in
     let k9 : length (drop 9 l) ≡ length l - 9 = lib.ListN.length-drop 9 l in
     let ld : length d ≡ 9 + n - 9 = lib.Seq.length-take-le (9 + n - 9) (drop 9 l) (omega arith) in
     window-written s l (a .at) n (omega arith) (c .before .before .before .before .before .before .before .before .before .before .before .before .before .before .before .before .before .before .before .before .before .before .before .before .before .before .before .before .before .before .before .pre .1) e
@@ -132,14 +133,14 @@ returns c = let a = c .before .before .before .before .before .before .before .b
     (put-of (c .before .before .before .before .before .before .before .before .before .before .before .before .before .before .before .before .before .before .before .before .put32 .last .0) (a .at + 4) (octetsOf 8 (c .before .before .before .before .before .before .before .before .before .before .before .before .before .before .wrapping-add-u64 .result)) 8 (length (c .before .before .before .before .before .before .before .before .before .before .before .before .before .before .before .before .before .before .before .before .put32 .last .0)) (c .before .before .before .before .before .before .before .before .before .before .before .before .before .put64 .ensures .0) (omega arith) (c .before .before .before .before .before .before .before .before .before .before .before .before .before .put64 .ensures .1))
     (ap (λ (i : ℕ). take i (drop 9 l)) f)
     (put-of b (a .at + 14) d (length d) (length b) (c .before .before .before .before .before .before .copy .ensures .0) (omega arith) (c .before .before .before .before .before .before .copy .ensures .1))
-    (put-of (c .before .before .before .before .before .before .copy .last .0) (a .at + 14 + n) (replicate (31 - n) 0) (31 - n) (length (c .before .before .before .before .before .before .copy .last .0)) (c .before .before .fill .ensures .0) (omega arith) (c .before .before .fill .ensures .1))
+    (put-of (c .before .before .before .before .before .before .copy .last .0) (a .at + 14 + n) (replicate (mostData - n) 0) (mostData - n) (length (c .before .before .before .before .before .before .copy .last .0)) (c .before .before .fill .ensures .0) (omega arith) (c .before .before .fill .ensures .1))
 
 pub gather-at-spec : {M : Type 1} → statement M
 gather-at-spec =
     tie.close
     (tie.spec
-    shared-slice-read-index
-    index-requires
+    shared-slice-read-wide
+    wide-requires
     add-end
     get32-requires
     add-get64

@@ -9,6 +9,7 @@ use Rattle.model.specs.Types.{Model, Packet, deviceOf}
 use Rattle.octets.specs.Numbers.{number-of}
 use Rattle.packets.proofs.is_held.Statement.{statement}
 use Rattle.packets.proofs.is_held.Tie as tie
+use Rattle.model.specs.Layout.{pairSize, pairsAt}
 
 abbrev Inv-loop : tie.InvT-loop
 Inv-loop s n key i₀ i = (i ≤ n) × ((m : Model) (p : Packet) (h : ℕ) → Holding m s n → Sought p h key → holds (m .pairs) h (deviceOf p) ≡ holds (drop i (m .pairs)) h (deviceOf p))
@@ -31,7 +32,7 @@ get64-requires c κs = search needs
 returns : tie.Need-returns Inv-loop μ-loop
 returns c = let a = c .before .before .before .before .before .args in let l = c .before .before .before .loop in λ m p h w x.
     search-hit m (a .s .now) (a .n) p h (a .key) (l .i) w x (l .inv .1 m p h w x) (c .before .get64 .result) (omega arith)
-    (number-of 8 (a .s .now) (1176 + 56 * l .i) (c .before .get64 .ensures) (omega arith)) (c .if1 .taken)
+    (number-of 8 (a .s .now) (pairsAt + pairSize * l .i) (c .before .get64 .ensures) (omega arith)) (c .if1 .taken)
 
 add-i : tie.Need-add-i Inv-loop μ-loop
 add-i c = omega arith
@@ -44,7 +45,7 @@ loop-again c = let a = c .before .before .before .before .before .args in let l 
   omega arith,
   λ m p h w x.
       search-miss m (a .s .now) (a .n) p h (a .key) (l .i) w x (l .inv .1 m p h w x) (c .before .get64 .result) (omega arith)
-      (number-of 8 (a .s .now) (1176 + 56 * l .i) (c .before .get64 .ensures) (omega arith)) (c .if1 .left),
+      (number-of 8 (a .s .now) (pairsAt + pairSize * l .i) (c .before .get64 .ensures) (omega arith)) (c .if1 .left),
 )
 
 returns-2 : tie.Need-returns-2 Inv-loop μ-loop

@@ -9,12 +9,13 @@ use Rattle.steps.specs.Typed.{Sent}
 use Rattle.model.specs.Types.{Model, Packet}
 use Rattle.packets.proofs.is_wanted.Statement.{statement}
 use Rattle.packets.proofs.is_wanted.Tie as tie
+use Rattle.model.specs.Layout.{mostMonitors}
 
 abbrev Inv-loop : tie.InvT-loop
-Inv-loop s n acts dev h₀ h = (h ≤ 16) × ((m : Model) (p : Packet) → Holding m s n → Sent p → dev ≡ deviceNumber p → anyFrom (wantsAt acts (m .pairs) p) 0 16 ≡ anyFrom (wantsAt acts (m .pairs) p) h (16 - h))
+Inv-loop s n acts dev h₀ h = (h ≤ mostMonitors) × ((m : Model) (p : Packet) → Holding m s n → Sent p → dev ≡ deviceNumber p → anyFrom (wantsAt acts (m .pairs) p) 0 mostMonitors ≡ anyFrom (wantsAt acts (m .pairs) p) h (mostMonitors - h))
 
 abbrev μ-loop : tie.MeasureT-loop
-μ-loop s n acts dev h₀ h = 16 - h
+μ-loop s n acts dev h₀ h = mostMonitors - h
 
 loop-holds : tie.Need-loop-holds Inv-loop μ-loop
 loop-holds c = (omega arith, λ m p w x d. refl)

@@ -7,6 +7,7 @@ use Rattle.model.specs.Frames.{packetOf}
 use Rattle.octets.specs.Numbers.{number-of}
 use Rattle.packets.proofs.move_row.Statement.{statement}
 use Rattle.packets.proofs.move_row.Tie as tie
+use Rattle.model.specs.Layout.{pairSize, pairsAt}
 
 mul-get64 : tie.Need-mul-get64
 mul-get64 c = search needs
@@ -23,7 +24,7 @@ same-length c = search needs
 returns : tie.Need-returns
 returns c = let a = c .before .before .before .before .before .before .args in λ m w g r.
     row-other m (a .s .now) (a .i) (packetOf (a .payload .now)) (a .acts .now) (a .dev) (c .before .get64 .result) w g
-    (number-of 8 (a .s .now) (1176 + 56 * a .i) (c .before .get64 .ensures) (omega arith)) (c .if1 .taken)
+    (number-of 8 (a .s .now) (pairsAt + pairSize * a .i) (c .before .get64 .ensures) (omega arith)) (c .if1 .taken)
 
 shared-slice-read-change-row : tie.Need-shared-slice-read-change-row
 shared-slice-read-change-row c = search needs
@@ -37,7 +38,7 @@ same-length-2 c = search needs
 returns-2 : tie.Need-returns-2
 returns-2 c = let a = c .before .before .before .before .before .before .before .before .before .before .before .before .args in λ m w g r.
     row-own m (a .s .now) (a .i) (packetOf (a .payload .now)) (a .acts .now) (a .dev) (c .before .before .before .before .before .before .before .get64 .result) w g
-    (number-of 8 (a .s .now) (1176 + 56 * a .i) (c .before .before .before .before .before .before .before .get64 .ensures) (omega arith)) _ (c .before .before .before .before .before .before .if1 .left) refl
+    (number-of 8 (a .s .now) (pairsAt + pairSize * a .i) (c .before .before .before .before .before .before .before .get64 .ensures) (omega arith)) _ (c .before .before .before .before .before .before .if1 .left) refl
     (c .before .before .change-row .ensures m w (g .sent) r)
 
 same-length-3 : tie.Need-same-length-3
@@ -48,7 +49,7 @@ returns-3 c = let a = c .before .before .before .before .before .before .before 
     absurd (omega (
       arith,
       handle-low m (a .s .now) (a .i) (packetOf (a .payload .now)) (a .acts .now) (a .dev) (c .before .before .get64 .result) w g
-          (number-of 8 (a .s .now) (1176 + 56 * a .i) (c .before .before .get64 .ensures) (omega arith)),
+          (number-of 8 (a .s .now) (pairsAt + pairSize * a .i) (c .before .before .get64 .ensures) (omega arith)),
       c .if2 .left,
     ))
 

@@ -8,6 +8,7 @@ use Rattle.octets.specs.Little.{octetsOf}
 use Rattle.laws.specs.Put.{put, put-of, set-put}
 use Rattle.packets.proofs.push_row.Statement.{statement}
 use Rattle.packets.proofs.push_row.Tie as tie
+use Rattle.model.specs.Layout.{countAt, pairSize, pairsAt}
 
 mul-put64 : tie.Need-mul-put64
 mul-put64 c = search needs
@@ -33,9 +34,9 @@ same-length c = search needs
 returns : tie.Need-returns
 returns c = let a = c .before .before .before .before .before .args in
     let k : length (c .before .before .put64 .last .0) ≡ length (a .s .now) = c .before .before .put64 .kept .0 in
-    set-put (c .before .before .put64 .last .0) 4760 (a .n + 1) (omega arith)
-    ∙ ap (λ (l : List ℕ). put l 4760 ((a .n + 1) ∷ []))
-    (put-of (a .s .now) (1176 + 56 * a .n) (octetsOf 8 (a .key)) 8 (length (a .s .now)) (c .before .before .put64 .ensures .0) (omega arith) (c .before .before .put64 .ensures .1))
+    set-put (c .before .before .put64 .last .0) countAt (a .n + 1) (omega arith)
+    ∙ ap (λ (l : List ℕ). put l countAt ((a .n + 1) ∷ []))
+    (put-of (a .s .now) (pairsAt + pairSize * a .n) (octetsOf 8 (a .key)) 8 (length (a .s .now)) (c .before .before .put64 .ensures .0) (omega arith) (c .before .before .put64 .ensures .1))
 
 pub push-row-spec : {M : Type 1} → statement M
 push-row-spec =

@@ -1,3 +1,4 @@
+use Rattle.marks.specs.Fields.{clamped}
 use Prim.Native.Nat.{ℕ, _+_, _-_, _*_, _≤_}
 use mathlib.Core.List.{List}
 use mathlib.Core.Path.{_≡_, ap}
@@ -7,12 +8,13 @@ use borrow.Author.Needs.{needs}
 use Rattle.packets.specs.Answers.{event-most, start-wrote}
 use Rattle.packets.proofs.put_start.Statement.{statement}
 use Rattle.packets.proofs.put_start.Tie as tie
+use Rattle.model.specs.Layout.{mostPrefix, pairSize, pairsAt, prefixAt}
 
-shared-slice-read-clamp : tie.Need-shared-slice-read-clamp
-shared-slice-read-clamp c = search needs
+shared-slice-read-at-most : tie.Need-shared-slice-read-at-most
+shared-slice-read-at-most c = search needs
 
-clamp-requires : tie.Need-clamp-requires
-clamp-requires c κs = search needs
+at-most-requires : tie.Need-at-most-requires
+at-most-requires c κs = search needs
 
 add-end : tie.Need-add-end
 add-end c = search needs
@@ -53,26 +55,26 @@ same-length c = search needs
 returns : tie.Need-returns
 returns c = let a = c .before .before .before .before .before .before .before .before .before .before .args in
     let s : List ℕ = a .s .now in
-    let n : ℕ = c .before .before .before .before .before .before .clamp .result in
+    let n : ℕ = c .before .before .before .before .before .before .at-most .result in
     let e : 8 + n - 8 ≡ n = omega arith in
-    let f : 1176 + 56 * a .i + 8 - (1176 + 56 * a .i) ≡ 8 = omega arith in
-    let b : n ≤ 32 = c .before .before .before .before .before .before .clamp .ensures .most in
-    let pre : List ℕ = take (8 + n - 8) (drop 8 s) in
-    let r8 : List ℕ = take (1176 + 56 * a .i + 8 - (1176 + 56 * a .i)) (drop (1176 + 56 * a .i) s) in
-    let lp : length pre ≤ 32 = simp (length-take, length-drop) (omega arith) in
+    let f : pairsAt + pairSize * a .i + 8 - (pairsAt + pairSize * a .i) ≡ 8 = omega arith in
+    let b : n ≤ mostPrefix = c .before .before .before .before .before .before .at-most .ensures .1 in
+    let pre : List ℕ = take (8 + n - 8) (drop prefixAt s) in
+    let r8 : List ℕ = take (pairsAt + pairSize * a .i + 8 - (pairsAt + pairSize * a .i)) (drop (pairsAt + pairSize * a .i) s) in
+    let lp : length pre ≤ mostPrefix = simp (length-take, length-drop) (omega arith) in
     let lr : 8 ≤ length r8 = simp (length-take, length-drop) (omega arith) in (
       event-most (a .out .now) (a .at) pre r8 lp lr (c .before .before .put-event .ensures .0),
       λ m w h.
-          start-wrote m s (a .i) w (a .out .now) (a .at) n (c .before .before .before .before .before .before .clamp .ensures) h (omega arith) (omega arith)
-          (ap (λ (k : ℕ). take k (drop 8 s)) e) (ap (λ (k : ℕ). take k (drop (1176 + 56 * a .i) s)) f) (c .before .before .put-event .ensures),
+          start-wrote m s (a .i) w (a .out .now) (a .at) n (clamped (c .before .before .before .before .before .before .at-most .ensures)) h (omega arith) (omega arith)
+          (ap (λ (k : ℕ). take k (drop prefixAt s)) e) (ap (λ (k : ℕ). take k (drop (pairsAt + pairSize * a .i) s)) f) (c .before .before .put-event .ensures),
     )
 
 pub put-start-spec : {M : Type 1} → statement M
 put-start-spec =
     tie.close
     (tie.spec
-    shared-slice-read-clamp
-    clamp-requires
+    shared-slice-read-at-most
+    at-most-requires
     add-end
     mul-from
     add-from

@@ -10,9 +10,10 @@ use Rattle.model.specs.Types.{Model}
 use Rattle.laws.specs.Loops.{each}
 use Rattle.packets.proofs.put_starts.Statement.{statement}
 use Rattle.packets.proofs.put_starts.Tie as tie
+use Rattle.model.specs.Layout.{eventMost}
 
 abbrev Inv-loop : tie.InvT-loop
-Inv-loop s from count out₀ w₀ j₀ out w j = (j ≤ count) × (w ≤ 44 * j) × (length out ≡ length out₀) × ((m : Model) → Holding m s (from + count) → Wrote out₀ 0 (each (startEvent (m .prefix)) (take j (drop from (m .pairs)))) out w)
+Inv-loop s from count out₀ w₀ j₀ out w j = (j ≤ count) × (w ≤ eventMost * j) × (length out ≡ length out₀) × ((m : Model) → Holding m s (from + count) → Wrote out₀ 0 (each (startEvent (m .prefix)) (take j (drop from (m .pairs)))) out w)
 
 abbrev μ-loop : tie.MeasureT-loop
 μ-loop s from count out₀ w₀ j₀ out w j = count - j

@@ -9,12 +9,13 @@ use Rattle.model.specs.Events.{packetReport}
 use Rattle.model.specs.Frames.{packetOf}
 use Rattle.packets.proofs.put_told.Statement.{statement}
 use Rattle.packets.proofs.put_told.Tie as tie
+use Rattle.model.specs.Layout.{mostData}
 
-shared-slice-read-index : tie.Need-shared-slice-read-index
-shared-slice-read-index c = search needs
+shared-slice-read-wide : tie.Need-shared-slice-read-wide
+shared-slice-read-wide c = search needs
 
-index-requires : tie.Need-index-requires
-index-requires c κs = search needs
+wide-requires : tie.Need-wide-requires
+wide-requires c κs = search needs
 
 add-end : tie.Need-add-end
 add-end c = search needs
@@ -52,13 +53,13 @@ same-length c = search needs
 returns : tie.Need-returns
 returns c = let a = c .before .before .before .before .before .before .before .before .before .before .before .before .before .args in
     let l : List ℕ = a .payload .now in
-    let e : c .before .before .before .before .before .before .before .before .index .result ≡ getD l 8 0 = c .before .before .before .before .before .before .before .before .index .ensures .0 in
+    let e : c .before .before .before .before .before .before .before .before .wide .result ≡ getD l 8 0 = c .before .before .before .before .before .before .before .before .wide .ensures .0 in
     let f : 9 + getD l 8 0 - 9 ≡ getD l 8 0 = omega arith in
     let g : length l ≡ 10 + getD l 8 0 = c .before .before .before .before .before .before .before .before .before .before .before .before .before .pre .1 .0 in
-    let b : getD l 8 0 ≤ 31 = c .before .before .before .before .before .before .before .before .before .before .before .before .before .pre .1 .1 in
+    let b : getD l 8 0 ≤ mostData = c .before .before .before .before .before .before .before .before .before .before .before .before .before .pre .1 .1 in
     let x = rw e at (c .before .before .put-report .ensures) in
     let ld : length (take 7 (drop 1 l)) ≡ 7 = simp (length-take, length-drop) (omega arith) in
-    let la : length (take (9 + getD l 8 0 - 9) (drop 9 l)) ≤ 31 = simp (length-take, length-drop) (omega arith) in (
+    let la : length (take (9 + getD l 8 0 - 9) (drop 9 l)) ≤ mostData = simp (length-take, length-drop) (omega arith) in (
       report-most (a .out .now) (a .at) (getD l 0 0) (take 7 (drop 1 l)) (take (9 + getD l 8 0 - 9) (drop 9 l)) (getD l (9 + getD l 8 0) 0) ld la (x .0),
       told-wrote (a .out .now) (a .at) (packetReport (packetOf l)) (c .before .before .before .before .before .before .before .before .before .before .if1 .taken)
           (report-wrote (a .out .now) (a .at) l (c .before .before .before .before .before .before .before .before .before .before .before .before .before .pre .1) (omega arith) refl (ap (λ (k : ℕ). take k (drop 9 l)) f) x),
@@ -71,8 +72,8 @@ pub put-told-spec : {M : Type 1} → statement M
 put-told-spec =
     tie.close
     (tie.spec
-    shared-slice-read-index
-    index-requires
+    shared-slice-read-wide
+    wide-requires
     add-end
     shared-slice-read-put-report
     sub-put-report

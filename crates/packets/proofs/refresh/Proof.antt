@@ -7,6 +7,7 @@ use Rattle.octets.specs.Little.{octetsOf}
 use Rattle.laws.specs.Put.{put-of}
 use Rattle.packets.proofs.refresh.Statement.{statement}
 use Rattle.packets.proofs.refresh.Tie as tie
+use Rattle.model.specs.Layout.{pairSize, pairsAt}
 
 mul-put16 : tie.Need-mul-put16
 mul-put16 c = search needs
@@ -25,7 +26,7 @@ same-length c = search needs
 
 returns : tie.Need-returns
 returns c = let a = c .before .before .before .before .before .before .args in λ m w. refresh-done m (a .s .now) (a .i) (a .a) w (omega arith)
-    (put-of (a .s .now) (1176 + 56 * a .i + 8) (octetsOf 2 0) 2 (length (a .s .now)) (c .before .before .put16 .ensures .0) (omega arith) (c .before .before .put16 .ensures .1))
+    (put-of (a .s .now) (pairsAt + pairSize * a .i + 8) (octetsOf 2 0) 2 (length (a .s .now)) (c .before .before .put16 .ensures .0) (omega arith) (c .before .before .put16 .ensures .1))
 
 returns-2 : tie.Need-returns-2
 returns-2 c = let a = c .before .before .args in λ m w. refresh-left m (a .s .now) (a .i) (a .a) w (c .if1 .left)

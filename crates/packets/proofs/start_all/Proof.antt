@@ -9,12 +9,13 @@ use Rattle.model.specs.Watch.{turns}
 use Rattle.model.specs.Types.{Model, Packet}
 use Rattle.packets.proofs.start_all.Statement.{statement}
 use Rattle.packets.proofs.start_all.Tie as tie
+use Rattle.model.specs.Layout.{mostMonitors, mostPairs}
 
 abbrev Inv-loop : tie.InvT-loop
-Inv-loop s₀ n acts dev k₀ h₀ s k h = (h ≤ 16) × (n ≤ k) × (k ≤ 64) × (length s ≡ length s₀) × ((m : Model) (p : Packet) → Holding m s₀ n → Given (m .mons) p acts dev → Turned m (turns (m .mons) p h (m .pairs)) s k)
+Inv-loop s₀ n acts dev k₀ h₀ s k h = (h ≤ mostMonitors) × (n ≤ k) × (k ≤ mostPairs) × (length s ≡ length s₀) × ((m : Model) (p : Packet) → Holding m s₀ n → Given (m .mons) p acts dev → Turned m (turns (m .mons) p h (m .pairs)) s k)
 
 abbrev μ-loop : tie.MeasureT-loop
-μ-loop s₀ n acts dev k₀ h₀ s k h = 16 - h
+μ-loop s₀ n acts dev k₀ h₀ s k h = mostMonitors - h
 
 loop-holds : tie.Need-loop-holds Inv-loop μ-loop
 loop-holds c = let a = c .before .before .args in (omega arith, omega arith, omega arith, refl, λ m p w g. turns-none m p (w .measured) (g .sent) (a .s .now) (a .n) (w .block) (w .count))
@@ -47,7 +48,7 @@ same-length c = c .before .loop .inv .3
 
 returns : tie.Need-returns Inv-loop μ-loop
 returns c = let a = c .before .before .before .before .args in let l = c .before .loop in
-    let e : l .h ≡ 16 = omega arith in
+    let e : l .h ≡ mostMonitors = omega arith in
     (l .inv .1, l .inv .2, λ m p w g. rw e at (l .inv .4 m p w g))
 
 pub start-all-spec : {M : Type 1} → statement M

@@ -1,3 +1,4 @@
+use Rattle.marks.specs.Fields.{clamped}
 use Prim.Native.Nat.{ℕ, _+_, _/_}
 use mathlib.Core.List.{List}
 use mathlib.Core.Path.{_≡_, refl, ap, _∙_}
@@ -20,11 +21,11 @@ mark-all-requires c κs = search needs
 get64-requires : tie.Need-get64-requires
 get64-requires c κs = search needs
 
-slice-read-clamp : tie.Need-slice-read-clamp
-slice-read-clamp c = search needs
+slice-read-at-most : tie.Need-slice-read-at-most
+slice-read-at-most c = search needs
 
-clamp-requires : tie.Need-clamp-requires
-clamp-requires c κs = search needs
+at-most-requires : tie.Need-at-most-requires
+at-most-requires c κs = search needs
 
 slice-aggregate-move-rows : tie.Need-slice-aggregate-move-rows
 slice-aggregate-move-rows c = search needs
@@ -55,9 +56,7 @@ put-told-requires c κs = let k : length (c .before .before .before .put-starts 
     (omega (arith, c .before .before .before .put-starts .ensures .0, c .before .before .before .before .before .before .before .before .before .before .before .before .before .before .before .before .before .before .before .before .before .before .before .before .before .before .before .before .before .pre .1), c .before .before .before .before .before .before .before .before .before .before .before .before .before .before .before .before .before .before .before .before .before .before .before .before .before .before .before .before .before .pre .2)
 
 advance-requires : tie.Need-advance-requires
-advance-requires c κs = let k : length (c .before .before .before .before .before .before .before .before .before .before .before .before .before .before .before .start-all .last .0) ≡ length (c .before .before .before .before .before .before .before .before .before .before .before .before .before .before .before .before .before .before .before .before .move-rows .last .0) = c .before .before .before .before .before .before .before .before .before .before .before .before .before .before .before .start-all .kept .0 in
-    let j : length (c .before .before .before .before .before .before .before .before .before .before .before .before .before .before .before .before .before .before .before .before .move-rows .last .0) ≡ length (c .before .before .before .before .before .before .before .before .before .before .before .before .before .before .before .before .before .before .before .before .before .before .before .before .before .before .before .before .before .before .before .before .before .args .s .now) = c .before .before .before .before .before .before .before .before .before .before .before .before .before .before .before .before .before .before .before .before .move-rows .kept .0 in
-    k ∙ j ∙ c .before .before .before .before .before .before .before .before .before .before .before .before .before .before .before .before .before .before .before .before .before .before .before .before .before .before .before .before .before .before .before .before .before .pre .0
+advance-requires c κs = search needs
 
 add-result : tie.Need-add-result
 add-result c = omega (arith, c .before .before .before .before .before .before .before .before .before .before .put-starts .ensures .0, c .before .before .before .before .before .before .put-told .ensures .0)
@@ -74,14 +73,14 @@ returns c = let a = c .before .before .before .before .before .before .before .b
     let l : List ℕ = a .payload .now in
     let acts : List ℕ = c .before .before .before .before .before .before .before .before .before .before .before .before .before .before .before .before .before .before .before .before .before .before .before .before .before .before .before .before .before .before .mark-all .last .0 in
     let dev : ℕ = c .before .before .before .before .before .before .before .before .before .before .before .before .before .before .before .before .before .before .before .before .before .before .before .before .before .before .before .before .get64 .result / 256 in
-    let n : ℕ = c .before .before .before .before .before .before .before .before .before .before .before .before .before .before .before .before .before .before .before .before .before .before .before .before .before .before .clamp .result in
+    let n : ℕ = c .before .before .before .before .before .before .before .before .before .before .before .before .before .before .before .before .before .before .before .before .before .before .before .before .before .before .at-most .result in
     let f : length l ≡ 10 + getD l 8 0 = c .before .before .before .before .before .before .before .before .before .before .before .before .before .before .before .before .before .before .before .before .before .before .before .before .before .before .before .before .before .before .before .before .before .before .before .before .pre .2 .0 in (
       omega (arith, c .before .before .before .before .before .before .before .before .before .before .put-starts .ensures .0, c .before .before .before .before .before .before .put-told .ensures .0),
       λ m e b h k.
           let g : Begun m s l acts dev n =
           begun m s l acts dev n e b h (λ i. omega (arith, c .before .before .before .before .before .before .before .before .before .before .before .before .before .before .before .before .before .before .before .before .before .before .before .before .before .before .before .before .before .before .before .before .before .before .shared-slice-known .given i)) k
           (marked-of _ s l refl (c .before .before .before .before .before .before .before .before .before .before .before .before .before .before .before .before .before .before .before .before .before .before .before .before .before .before .before .before .before .before .before .before .before .before .before .before .pre .0) (c .before .before .before .before .before .before .before .before .before .before .before .before .before .before .before .before .before .before .before .before .before .before .before .before .before .before .before .before .before .before .before .before .before .before .before .before .pre .2) (c .before .before .before .before .before .before .before .before .before .before .before .before .before .before .before .before .before .before .before .before .before .before .before .before .before .before .before .before .before .before .mark-all .ensures))
-          (ap (λ (x : ℕ). x / 256) (number-of 8 l 0 (c .before .before .before .before .before .before .before .before .before .before .before .before .before .before .before .before .before .before .before .before .before .before .before .before .before .before .before .before .get64 .ensures) (omega arith))) (c .before .before .before .before .before .before .before .before .before .before .before .before .before .before .before .before .before .before .before .before .before .before .before .before .before .before .clamp .ensures) in
+          (ap (λ (x : ℕ). x / 256) (number-of 8 l 0 (c .before .before .before .before .before .before .before .before .before .before .before .before .before .before .before .before .before .before .before .before .before .before .before .before .before .before .before .before .get64 .ensures) (omega arith))) (clamped (c .before .before .before .before .before .before .before .before .before .before .before .before .before .before .before .before .before .before .before .before .before .before .before .before .before .before .at-most .ensures)) in
           let p = packetOf l in
           let w = moves-holding m s l acts dev n g (c .before .before .before .before .before .before .before .before .before .before .before .before .before .before .before .before .before .before .before .before .before .before .before .move-rows .ensures m g) in
           let t = starts-holding m s l acts dev n g (c .before .before .before .before .before .before .before .before .before .before .before .before .before .before .before .before .before .before .start-all .ensures .2 (afterMoves m p) p w (moves-given m s l acts dev n g)) in
@@ -97,8 +96,8 @@ step-spec =
     slice-aggregate-mark-all
     mark-all-requires
     get64-requires
-    slice-read-clamp
-    clamp-requires
+    slice-read-at-most
+    at-most-requires
     slice-aggregate-move-rows
     move-rows-requires
     slice-aggregate-start-all

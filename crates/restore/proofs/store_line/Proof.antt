@@ -10,6 +10,7 @@ use Rattle.restore.proofs.store_line.Lts as lts
 use Rattle.parts.proofs.copy.Reads as copy-reads
 use Rattle.restore.proofs.store_monitor.Reads as store-monitor-reads
 use Rattle.restore.proofs.store_pair.Reads as store-pair-reads
+use Rattle.model.specs.Layout.{headSize}
 
 -- src/lib.rt:58:16
 shared-slice-read-name : tie.Need-shared-slice-read-name
@@ -37,7 +38,7 @@ same-length c = search needs
 
 -- src/lib.rt:61:9
 returns : tie.Need-returns
-returns c = let a = c .before .before .before .before .before .before .before .before .before .args in name-head _ _ (c .before .before .before .before .before .if1 .taken) (put-of _ _ _ (length (take 40 (drop 1 (a .line .now)))) (length (a .s .now)) (c .before .before .copy .ensures .0) (simp (length-take, length-drop) (omega arith)) (c .before .before .copy .ensures .1))
+returns c = let a = c .before .before .before .before .before .before .before .before .before .args in name-head _ _ (c .before .before .before .before .before .if1 .taken) (put-of _ _ _ (length (take headSize (drop 1 (a .line .now)))) (length (a .s .now)) (c .before .before .copy .ensures .0) (simp (length-take, length-drop) (omega arith)) (c .before .before .copy .ensures .1))
 
 -- src/lib.rt:64:26
 sub-store-monitor : tie.Need-sub-store-monitor

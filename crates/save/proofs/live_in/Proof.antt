@@ -10,12 +10,13 @@ use Rattle.save.proofs.live_in.Tie as tie
 use Rattle.save.proofs.live_in.Reads as reads
 use Rattle.save.proofs.live_in.Lts as lts
 use Rattle.save.proofs.one_if.Reads as one-if-reads
+use Rattle.model.specs.Layout.{mostMonitors}
 
 abbrev Inv-loop : tie.InvT-loop
-Inv-loop s n₀ h₀ n h = (h ≤ 16) × (n ≤ h) × (n ≡ length (liveBelow s h))
+Inv-loop s n₀ h₀ n h = (h ≤ mostMonitors) × (n ≤ h) × (n ≡ length (liveBelow s h))
 
 abbrev μ-loop : tie.MeasureT-loop
-μ-loop s n₀ h₀ n h = 16 - h
+μ-loop s n₀ h₀ n h = mostMonitors - h
 
 -- src/lib.rt:123:5
 loop-holds : tie.Need-loop-holds Inv-loop μ-loop
@@ -59,7 +60,7 @@ loop-again c = (omega arith, omega (arith, c .one-if .ensures .1), live-turn _ (
 
 -- src/lib.rt:117:1
 returns : tie.Need-returns Inv-loop μ-loop
-returns c = let e : c .before .loop .h ≡ 16 = omega arith in (rw e at (c .before .loop .inv .2), omega arith)
+returns c = let e : c .before .loop .h ≡ mostMonitors = omega arith in (rw e at (c .before .loop .inv .2), omega arith)
 
 pub live-in-spec : {M : Type 1} → statement M
 live-in-spec =

@@ -2,12 +2,11 @@ use Rattle.save.specs.Steps.{head-put}
 use lib.ListN.{length-take}
 use borrow.Author.Needs.{needs}
 use native.Mathlib.Omega.{arith}
-use native.Mathlib.Omega.{arith}
 use Rattle.save.proofs.put_head.Statement.{statement}
 use Rattle.save.proofs.put_head.Tie as tie
 use Rattle.save.proofs.put_head.Reads as reads
 use Rattle.save.proofs.put_head.Lts as lts
-use Rattle.save.proofs.at_most.Reads as at-most-reads
+use Rattle.octets.proofs.at_most.Reads as at-most-reads
 use Rattle.save.proofs.put_line.Reads as put-line-reads
 
 -- src/lib.rt:51:21

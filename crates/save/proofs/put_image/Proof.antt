@@ -6,12 +6,13 @@ use Rattle.save.proofs.put_image.Statement.{statement}
 use Rattle.save.proofs.put_image.Tie as tie
 use Rattle.save.proofs.put_image.Reads as reads
 use Rattle.save.proofs.put_image.Lts as lts
-use Rattle.save.proofs.at_most.Reads as at-most-reads
+use Rattle.octets.proofs.at_most.Reads as at-most-reads
 use Rattle.save.proofs.live_in.Reads as live-in-reads
 use Rattle.save.proofs.put_end.Reads as put-end-reads
 use Rattle.save.proofs.put_head.Reads as put-head-reads
 use Rattle.save.proofs.put_monitors.Reads as put-monitors-reads
 use Rattle.save.proofs.put_pairs.Reads as put-pairs-reads
+use Rattle.model.specs.Layout.{mostMonitors}
 
 -- src/lib.rt:144:21
 shared-slice-read-at-most : tie.Need-shared-slice-read-at-most
@@ -35,11 +36,11 @@ put-monitors-requires c κs = (omega arith, omega (arith, c .before .before .bef
 
 -- src/lib.rt:148:9
 put-pairs-requires : tie.Need-put-pairs-requires
-put-pairs-requires c κs = (omega arith, omega (arith, c .before .before .before .before .before .before .before .before .before .before .at-most .ensures .1), omega (arith, c .before .before .before .before .before .before .before .put-head .ensures .0, c .before .before .before .put-monitors .ensures .0, length-headText (c .before .before .before .before .before .before .before .before .before .before .before .before .before .before .args .s .now), length-monitorsText (c .before .before .before .before .before .before .before .before .before .before .before .before .before .before .args .s .now) 16))
+put-pairs-requires c κs = (omega arith, omega (arith, c .before .before .before .before .before .before .before .before .before .before .at-most .ensures .1), omega (arith, c .before .before .before .before .before .before .before .put-head .ensures .0, c .before .before .before .put-monitors .ensures .0, length-headText (c .before .before .before .before .before .before .before .before .before .before .before .before .before .before .args .s .now), length-monitorsText (c .before .before .before .before .before .before .before .before .before .before .before .before .before .before .args .s .now) mostMonitors))
 
 -- src/lib.rt:149:5
 put-end-requires : tie.Need-put-end-requires
-put-end-requires c κs = (omega (arith, c .before .before .before .before .before .before .before .before .before .before .before .before .before .before .at-most .ensures .1, c .before .before .before .before .before .before .before .before .before .before .before .put-head .ensures .0, c .before .before .before .before .before .before .before .put-monitors .ensures .0, c .before .before .before .put-pairs .ensures .0, length-headText (c .before .before .before .before .before .before .before .before .before .before .before .before .before .before .before .before .before .before .args .s .now), length-monitorsText (c .before .before .before .before .before .before .before .before .before .before .before .before .before .before .before .before .before .before .args .s .now) 16, length-pairsText (c .before .before .before .before .before .before .before .before .before .before .before .before .before .before .before .before .before .before .args .s .now) (c .before .before .before .before .before .before .before .before .before .before .before .before .before .before .at-most .result)), omega (arith, c .before .before .before .before .before .before .before .before .before .before .before .before .before .live-in .ensures .1), omega (arith, c .before .before .before .before .before .before .before .before .before .before .before .before .before .before .at-most .ensures .1))
+put-end-requires c κs = (omega (arith, c .before .before .before .before .before .before .before .before .before .before .before .before .before .before .at-most .ensures .1, c .before .before .before .before .before .before .before .before .before .before .before .put-head .ensures .0, c .before .before .before .before .before .before .before .put-monitors .ensures .0, c .before .before .before .put-pairs .ensures .0, length-headText (c .before .before .before .before .before .before .before .before .before .before .before .before .before .before .before .before .before .before .args .s .now), length-monitorsText (c .before .before .before .before .before .before .before .before .before .before .before .before .before .before .before .before .before .before .args .s .now) mostMonitors, length-pairsText (c .before .before .before .before .before .before .before .before .before .before .before .before .before .before .before .before .before .before .args .s .now) (c .before .before .before .before .before .before .before .before .before .before .before .before .before .before .at-most .result)), omega (arith, c .before .before .before .before .before .before .before .before .before .before .before .before .before .live-in .ensures .1), omega (arith, c .before .before .before .before .before .before .before .before .before .before .before .before .before .before .at-most .ensures .1))
 
 -- src/lib.rt:140:1
 same-length : tie.Need-same-length

@@ -11,12 +11,13 @@ use Rattle.save.proofs.put_monitors.Tie as tie
 use Rattle.save.proofs.put_monitors.Reads as reads
 use Rattle.save.proofs.put_monitors.Lts as lts
 use Rattle.save.proofs.put_monitor.Reads as put-monitor-reads
+use Rattle.model.specs.Layout.{mostMonitors}
 
 abbrev Inv-loop : tie.InvT-loop
-Inv-loop s out₀ at next₀ h₀ out next h = (h ≤ 16) × (length out ≡ length out₀) × (next ≡ at + length (monitorsText s h)) × (out ≡ put out₀ at (monitorsText s h))
+Inv-loop s out₀ at next₀ h₀ out next h = (h ≤ mostMonitors) × (length out ≡ length out₀) × (next ≡ at + length (monitorsText s h)) × (out ≡ put out₀ at (monitorsText s h))
 
 abbrev μ-loop : tie.MeasureT-loop
-μ-loop s out₀ at next₀ h₀ out next h = 16 - h
+μ-loop s out₀ at next₀ h₀ out next h = mostMonitors - h
 
 -- src/lib.rt:74:5
 loop-holds : tie.Need-loop-holds Inv-loop μ-loop
@@ -69,7 +70,7 @@ same-length c = c .before .loop .inv .1
 
 -- src/lib.rt:68:1
 returns : tie.Need-returns Inv-loop μ-loop
-returns c = let e : c .before .loop .h ≡ 16 = omega arith in let q = rw e at (c .before .loop .inv) in (q .2, q .3)
+returns c = let e : c .before .loop .h ≡ mostMonitors = omega arith in let q = rw e at (c .before .loop .inv) in (q .2, q .3)
 
 pub put-monitors-spec : {M : Type 1} → statement M
 put-monitors-spec =

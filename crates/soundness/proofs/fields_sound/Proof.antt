@@ -10,7 +10,7 @@ use Rattle.octets.proofs.get32.Reads as get32-reads
 use Rattle.octets.proofs.get64.Reads as get64-reads
 use Rattle.parts.proofs.zeros.Reads as zeros-reads
 use Rattle.soundness.proofs.empty_sound.Reads as empty-sound-reads
-use Rattle.soundness.proofs.wide.Reads as wide-reads
+use Rattle.octets.proofs.wide.Reads as wide-reads
 use Rattle.soundness.proofs.window_sound.Reads as window-sound-reads
 use Rattle.state.proofs.Seconds.ticks.Reads as ticks-reads
 
@@ -82,6 +82,9 @@ empty-sound-requires c κs = search needs
 ticks-requires : tie.Need-ticks-requires
 ticks-requires c κs = search needs
 
+below-requires : tie.Need-below-requires
+below-requires c κs = search needs
+
 -- src/lib.rt:174:6
 shared-slice-read-result : tie.Need-shared-slice-read-result
 shared-slice-read-result c = search needs
@@ -92,7 +95,7 @@ shared-slice-read-result-2 c = search needs
 
 -- src/lib.rt:158:1
 returns-2 : tie.Need-returns-2
-returns-2 c = let a = c .before .before .before .before .before .before .before .before .before .before .before .before .before .before .before .before .before .before .args in fields-short (a .position) (a .interval) (a .sampling) (a .r .now) (c .before .before .before .before .before .before .before .before .before .before .before .before .before .before .before .wide .result) (c .before .before .before .before .before .before .before .before .before .before .before .before .before .before .before .before .before .before .pre) (c .before .before .before .before .before .before .before .before .before .before .before .before .before .before .before .wide .ensures .0) (omega arith) (c .before .before .before .before .before .before .before .before .before .before .before .before .zeros .ensures) (c .before .before .before .before .before .before .before .before .before .before .before .get16 .ensures) (c .before .before .before .ticks .ensures) (c .before .before .before .before .before .before .before .before .before .before .get32 .ensures) (c .before .before .before .before .before .before .before .before .before .get64 .ensures) (c .before .before .before .before .before .before .before .window-sound .ensures) (c .before .before .before .before .empty-sound .ensures)
+returns-2 c = let a = c .before .before .before .before .before .before .before .before .before .before .before .before .before .before .before .before .before .before .args in rw (c .before .before .below .ensures) (fields-short (a .position) (a .interval) (a .sampling) (a .r .now) (c .before .before .before .before .before .before .before .before .before .before .before .before .before .before .before .wide .result) (c .before .before .before .before .before .before .before .before .before .before .before .before .before .before .before .before .before .before .pre) (c .before .before .before .before .before .before .before .before .before .before .before .before .before .before .before .wide .ensures .0) (omega arith) (c .before .before .before .before .before .before .before .before .before .before .before .before .zeros .ensures) (c .before .before .before .before .before .before .before .before .before .before .before .get16 .ensures) (c .before .before .before .ticks .ensures) (c .before .before .before .before .before .before .before .before .before .before .get32 .ensures) (c .before .before .before .before .before .before .before .before .before .get64 .ensures) (c .before .before .before .before .before .before .before .window-sound .ensures) (c .before .before .before .before .empty-sound .ensures))
 
 pub fields-sound-spec : {M : Type 1} → statement M
 fields-sound-spec =
@@ -115,6 +118,7 @@ fields-sound-spec =
     shared-slice-read-empty-sound-2
     empty-sound-requires
     ticks-requires
+    below-requires
     shared-slice-read-result
     shared-slice-read-result-2
     returns-2)

@@ -8,7 +8,7 @@ use Rattle.soundness.proofs.head_sound.Reads as reads
 use Rattle.soundness.proofs.head_sound.Lts as lts
 use Rattle.octets.proofs.get16.Reads as get16-reads
 use Rattle.parts.proofs.zeros.Reads as zeros-reads
-use Rattle.soundness.proofs.wide.Reads as wide-reads
+use Rattle.octets.proofs.wide.Reads as wide-reads
 
 -- src/lib.rt:127:18
 shared-slice-read-wide : tie.Need-shared-slice-read-wide

@@ -8,7 +8,7 @@ use Rattle.soundness.proofs.held_sound.Reads as reads
 use Rattle.soundness.proofs.held_sound.Lts as lts
 use Rattle.parts.proofs.zeros.Reads as zeros-reads
 use Rattle.soundness.proofs.accepted.Reads as accepted-reads
-use Rattle.soundness.proofs.wide.Reads as wide-reads
+use Rattle.octets.proofs.wide.Reads as wide-reads
 
 -- src/lib.rt:84:18
 shared-slice-read-wide : tie.Need-shared-slice-read-wide

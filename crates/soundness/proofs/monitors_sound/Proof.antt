@@ -11,12 +11,13 @@ use Rattle.soundness.proofs.monitors_sound.Tie as tie
 use Rattle.soundness.proofs.monitors_sound.Reads as reads
 use Rattle.soundness.proofs.monitors_sound.Lts as lts
 use Rattle.soundness.proofs.monitor_sound.Reads as monitor-sound-reads
+use Rattle.model.specs.Layout.{mostMonitors}
 
 abbrev Inv-loop : tie.InvT-loop
-Inv-loop s h₀ h = (h ≤ 16) × (allBelow (λ h. monitorTest h (monitorRowAt s h)) h ≡ true)
+Inv-loop s h₀ h = (h ≤ mostMonitors) × (allBelow (λ h. monitorTest h (monitorRowAt s h)) h ≡ true)
 
 abbrev μ-loop : tie.MeasureT-loop
-μ-loop s h₀ h = 16 - h
+μ-loop s h₀ h = mostMonitors - h
 
 -- src/lib.rt:111:5
 loop-holds : tie.Need-loop-holds Inv-loop μ-loop

@@ -7,7 +7,7 @@ use Rattle.soundness.proofs.pair_sound.Reads as reads
 use Rattle.soundness.proofs.pair_sound.Lts as lts
 use Rattle.octets.proofs.get32.Reads as get32-reads
 use Rattle.soundness.proofs.fields_sound.Reads as fields-sound-reads
-use Rattle.soundness.proofs.wide.Reads as wide-reads
+use Rattle.octets.proofs.wide.Reads as wide-reads
 
 -- src/lib.rt:182:20
 mul-a : tie.Need-mul-a

@@ -8,7 +8,7 @@ use Rattle.soundness.proofs.pairs_sound.Reads as reads
 use Rattle.soundness.proofs.pairs_sound.Lts as lts
 use Rattle.parts.proofs.zeros.Reads as zeros-reads
 use Rattle.soundness.proofs.held_pairs_sound.Reads as held-pairs-sound-reads
-use Rattle.soundness.proofs.wide.Reads as wide-reads
+use Rattle.octets.proofs.wide.Reads as wide-reads
 
 -- src/lib.rt:236:18
 shared-slice-read-wide : tie.Need-shared-slice-read-wide

@@ -5,7 +5,7 @@ use Rattle.soundness.proofs.ranges_sound.Statement.{statement}
 use Rattle.soundness.proofs.ranges_sound.Tie as tie
 use Rattle.soundness.proofs.ranges_sound.Reads as reads
 use Rattle.soundness.proofs.ranges_sound.Lts as lts
-use Rattle.soundness.proofs.level_of.Reads as level-of-reads
+use Rattle.state.proofs.level_of.Reads as level-of-reads
 
 -- src/lib.rt:51:9
 level-of-requires : tie.Need-level-of-requires

@@ -17,6 +17,7 @@ use Rattle.octets.proofs.put16.Reads as put16-reads
 use Rattle.parts.proofs.fill.Reads as fill-reads
 use Rattle.ticks.proofs.closes.Reads as closes-reads
 use Rattle.ticks.proofs.windowed.Reads as windowed-reads
+use Rattle.model.specs.Layout.{silentAt, ticksAt}
 
 -- src/lib.rt:104:9
 get16-requires : tie.Need-get16-requires
@@ -29,7 +30,7 @@ slice-read-ticks c = search needs
 -- src/lib.rt:106:25
 add-put16 : tie.Need-add-put16
 add-put16 c = let a = c .before .before .before .before .before .args in
-    let p : c .before .before .get16 .result ≡ little 2 (a .r .now) 8 = number-of 2 (a .r .now) 8 (c .before .before .get16 .ensures) (omega arith) in
+    let p : c .before .before .get16 .result ≡ little 2 (a .r .now) silentAt = number-of 2 (a .r .now) 8 (c .before .before .get16 .ensures) (omega arith) in
     omega arith
 
 -- src/lib.rt:106:5
@@ -73,7 +74,7 @@ returns-2 c = let a = c .before .before .before .before .before .before .before 
 add-r : tie.Need-add-r
 add-r c = let a = c .before .before .before .before .before .before .before .before .before .before .before .before .args in
     let w : windowedBy (a .period) ≡ true = sym (c .before .before .before .windowed .ensures) ∙ not-false _ (c .before .before .if1 .left) in
-    let h = open-below (a .period) (getD (a .r .now) 10 0) w (sym (c .before .closes .ensures) ∙ c .if2 .left) in
+    let h = open-below (a .period) (getD (a .r .now) ticksAt 0) w (sym (c .before .closes .ensures) ∙ c .if2 .left) in
     omega (arith, h, period-below (a .period) w)
 
 -- src/lib.rt:114:5

@@ -8,12 +8,13 @@ use Rattle.ticks.proofs.column.Statement.{statement}
 use Rattle.ticks.proofs.column.Tie as tie
 use Rattle.ticks.proofs.column.Reads as reads
 use Rattle.ticks.proofs.column.Lts as lts
+use Rattle.model.specs.Layout.{mostMonitors}
 
 abbrev Inv-loop : tie.InvT-loop
-Inv-loop s at r₀ h₀ r h = (h ≤ 16) × (length r ≡ 16) × (take h r ≡ columnOf s at h)
+Inv-loop s at r₀ h₀ r h = (h ≤ mostMonitors) × (length r ≡ mostMonitors) × (take h r ≡ columnOf s at h)
 
 abbrev μ-loop : tie.MeasureT-loop
-μ-loop s at r₀ h₀ r h = 16 - h
+μ-loop s at r₀ h₀ r h = mostMonitors - h
 
 -- src/lib.rt:242:5
 loop-holds : tie.Need-loop-holds Inv-loop μ-loop

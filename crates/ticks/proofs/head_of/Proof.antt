@@ -9,6 +9,7 @@ use Rattle.ticks.proofs.head_of.Tie as tie
 use Rattle.ticks.proofs.head_of.Reads as reads
 use Rattle.ticks.proofs.head_of.Lts as lts
 use Rattle.parts.proofs.copy.Reads as copy-reads
+use Rattle.model.specs.Layout.{headSize}
 
 -- src/lib.rt:255:17
 slice-aggregate-copy : tie.Need-slice-aggregate-copy
@@ -33,8 +34,8 @@ copy-requires c κs = search needs
 -- src/lib.rt:250:1
 returns : tie.Need-returns
 returns c = let s = c .before .before .before .before .before .args .s .now in
-    let n : length (take 40 s) ≡ 40 = length-take-le 40 s (omega arith) in
-    copy-whole _ (take 40 s) n (c .before .copy .ensures .0) (c .before .copy .ensures .1)
+    let n : length (take headSize s) ≡ headSize = length-take-le headSize s (omega arith) in
+    copy-whole _ (take headSize s) n (c .before .copy .ensures .0) (c .before .copy .ensures .1)
 
 pub head-of-spec : {M : Type 1} → statement M
 head-of-spec =

@@ -11,6 +11,7 @@ use Rattle.ticks.proofs.keep_row.Reads as reads
 use Rattle.ticks.proofs.keep_row.Lts as lts
 use Rattle.ticks.proofs.advance.Reads as advance-reads
 use Rattle.ticks.proofs.move_row.Reads as move-row-reads
+use Rattle.model.specs.Layout.{pairSize}
 
 -- src/lib.rt:144:5
 move-row-requires : tie.Need-move-row-requires
@@ -39,7 +40,7 @@ part-advance-end c = search needs
 -- src/lib.rt:147:5
 advance-requires : tie.Need-advance-requires
 advance-requires c κs = let a = c .before .before .before .before .before .before .args in
-    let n : length (row 56 (a .from) (a .t .now)) ≡ 56 = length-of (a .from) (a .t .now) (omega arith) (omega arith) in
+    let n : length (row pairSize (a .from) (a .t .now)) ≡ pairSize = length-of (a .from) (a .t .now) (omega arith) (omega arith) in
     rw (moved-row (a .to) (a .from) (a .period) (a .t .now) (omega arith) (omega arith) (omega arith) (c .before .before .before .move-row .ensures)) (omega arith, omega arith)
 
 -- src/lib.rt:140:1

@@ -12,6 +12,7 @@ use Rattle.events.proofs.put_report.Reads as put-report-reads
 use Rattle.octets.proofs.get32.Reads as get32-reads
 use Rattle.octets.proofs.get64.Reads as get64-reads
 use Rattle.ticks.proofs.mean_of.Reads as mean-of-reads
+use Rattle.model.specs.Layout.{packetsAt}
 
 -- src/lib.rt:71:19
 get32-requires : tie.Need-get32-requires
@@ -28,7 +29,7 @@ get64-requires c κs = search needs
 -- src/lib.rt:72:9
 mean-of-requires : tie.Need-mean-of-requires
 mean-of-requires c κs = let a = c .before .before .before .before .args in
-    let p : c .before .get32 .result ≡ little 4 (a .r .now) 11 = number-of 4 (a .r .now) 11 (c .before .get32 .ensures) (omega arith) in
+    let p : c .before .get32 .result ≡ little 4 (a .r .now) packetsAt = number-of 4 (a .r .now) 11 (c .before .get32 .ensures) (omega arith) in
     (omega arith, search needs)
 
 -- src/lib.rt:73:20

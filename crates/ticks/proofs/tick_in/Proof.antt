@@ -7,11 +7,12 @@ use Rattle.ticks.proofs.tick_in.Statement.{statement}
 use Rattle.ticks.proofs.tick_in.Tie as tie
 use Rattle.ticks.proofs.tick_in.Reads as reads
 use Rattle.ticks.proofs.tick_in.Lts as lts
-use Rattle.octets.proofs.put32.Reads as put32-reads
+use Rattle.state.proofs.advance.Reads as advance-reads
 use Rattle.ticks.proofs.column.Reads as column-reads
 use Rattle.ticks.proofs.head_of.Reads as head-of-reads
 use Rattle.ticks.proofs.tick_pairs.Reads as tick-pairs-reads
-use Rattle.ticks.proofs.up_to.Reads as up-to-reads
+use Rattle.octets.proofs.at_most.Reads as at-most-reads
+use Rattle.model.specs.Layout.{countAt, pairsAt, pairsSize}
 
 -- src/lib.rt:297:16
 head-of-requires : tie.Need-head-of-requires
@@ -26,24 +27,24 @@ column-requires-2 : tie.Need-column-requires-2
 column-requires-2 c κs = search needs
 
 -- src/lib.rt:300:19
-slice-read-up-to : tie.Need-slice-read-up-to
-slice-read-up-to c = search needs
+slice-read-at-most : tie.Need-slice-read-at-most
+slice-read-at-most c = search needs
 
 -- src/lib.rt:300:9
-up-to-requires : tie.Need-up-to-requires
-up-to-requires c κs = search needs
+at-most-requires : tie.Need-at-most-requires
+at-most-requires c κs = search needs
 
 -- src/lib.rt:301:18
 array-read-filter : tie.Need-array-read-filter
 array-read-filter c = search needs
 
 -- src/lib.rt:302:25
-array-read-up-to : tie.Need-array-read-up-to
-array-read-up-to c = search needs
+array-read-at-most : tie.Need-array-read-at-most
+array-read-at-most c = search needs
 
 -- src/lib.rt:302:19
-up-to-requires-2 : tie.Need-up-to-requires-2
-up-to-requires-2 c κs = search needs
+at-most-requires-2 : tie.Need-at-most-requires-2
+at-most-requires-2 c κs = search needs
 
 -- src/lib.rt:302:15
 add-end : tie.Need-add-end
@@ -93,18 +94,14 @@ cast-s c = search needs
 slice-write-s : tie.Need-slice-write-s
 slice-write-s c = search needs
 
--- src/lib.rt:305:25
-add-put32 : tie.Need-add-put32
-add-put32 c = search needs
-
 -- src/lib.rt:305:5
-put32-requires : tie.Need-put32-requires
-put32-requires c κs = search needs
+advance-requires : tie.Need-advance-requires
+advance-requires c κs = search needs
 
 -- src/lib.rt:293:1
 same-length : tie.Need-same-length
-same-length c = let a = c .before .before .before .before .before .before .before .before .before .before .before .before .before .before .before .before .before .before .before .before .before .before .before .before .before .before .before .args in c .before .before .put32 .kept .0 ∙ length-set (putMid 1176 3584 (a .s .now) (c .before .before .before .before .before .before .before .before .before .tick-pairs .last .0)) 4760 (c .before .before .before .before .before .before .before .before .before .tick-pairs .result .kept)
-    ∙ same-len-mid 1176 3584 (a .s .now) (c .before .before .before .before .before .before .before .before .before .tick-pairs .last .0) (c .before .before .before .before .before .before .before .before .before .tick-pairs .kept .0)
+same-length c = let a = c .before .before .before .before .before .before .before .before .before .before .before .before .before .before .before .before .before .before .before .before .before .before .before .before .before .before .before .args in c .before .before .advance .kept .0 ∙ length-set (putMid pairsAt pairsSize (a .s .now) (c .before .before .before .before .before .before .before .before .before .tick-pairs .last .0)) countAt (c .before .before .before .before .before .before .before .before .before .tick-pairs .result .kept)
+    ∙ same-len-mid pairsAt pairsSize (a .s .now) (c .before .before .before .before .before .before .before .before .before .tick-pairs .last .0) (c .before .before .before .before .before .before .before .before .before .tick-pairs .kept .0)
 
 -- src/lib.rt:293:1
 same-length-2 : tie.Need-same-length-2
@@ -113,8 +110,8 @@ same-length-2 c = search needs
 -- src/lib.rt:293:1
 returns : tie.Need-returns
 returns c = λ m z q h. let a = c .before .before .before .before .before .before .before .before .before .before .before .before .before .before .before .before .before .before .before .before .before .before .before .before .before .before .before .args in
-    ticked (a .s .now) (a .out .now) m z q h (c .before .before .before .before .before .before .before .before .before .before .before .before .before .before .before .before .before .before .before .before .before .before .before .head-of .ensures) (c .before .before .before .before .before .before .before .before .before .before .before .before .before .before .before .before .before .before .before .before .before .column .ensures) (c .before .before .before .before .before .before .before .before .before .before .before .before .before .before .before .before .before .before .before .column2 .ensures) (c .before .before .before .before .before .before .before .before .before .before .before .before .before .before .before .before .before .before .before .before .before .before .before .before .before .before .before .pre .2) (c .before .before .before .before .before .before .before .before .before .before .before .before .before .before .before .before .before .up-to .ensures .1) (c .before .before .before .before .before .before .before .before .before .before .before .before .before .before .before .before .up-to2 .ensures .1)
-    (c .before .before .before .before .before .before .before .before .before .tick-pairs .ensures) (c .before .before .put32 .ensures .0) (c .before .before .put32 .ensures .1)
+    ticked (a .s .now) (a .out .now) m z q h (c .before .before .before .before .before .before .before .before .before .before .before .before .before .before .before .before .before .before .before .before .before .before .before .head-of .ensures) (c .before .before .before .before .before .before .before .before .before .before .before .before .before .before .before .before .before .before .before .before .before .column .ensures) (c .before .before .before .before .before .before .before .before .before .before .before .before .before .before .before .before .before .before .before .column2 .ensures) (c .before .before .before .before .before .before .before .before .before .before .before .before .before .before .before .before .before .at-most .ensures .2) (c .before .before .before .before .before .before .before .before .before .before .before .before .before .before .before .before .at-most2 .ensures .2)
+    (c .before .before .before .before .before .before .before .before .before .tick-pairs .ensures) (c .before .before .advance .ensures)
 
 pub tick-in-spec : {M : Type 1} → statement M
 tick-in-spec =
@@ -123,11 +120,11 @@ tick-in-spec =
     head-of-requires
     column-requires
     column-requires-2
-    slice-read-up-to
-    up-to-requires
+    slice-read-at-most
+    at-most-requires
     array-read-filter
-    array-read-up-to
-    up-to-requires-2
+    array-read-at-most
+    at-most-requires-2
     add-end
     sub-tick-pairs
     part-tick-pairs-start
@@ -140,8 +137,7 @@ tick-in-spec =
     tick-pairs-requires
     cast-s
     slice-write-s
-    add-put32
-    put32-requires
+    advance-requires
     same-length
     same-length-2
     returns)

@@ -12,6 +12,7 @@ use Rattle.ticks.proofs.octet_at.Reads as octet-at-reads
 use Rattle.ticks.proofs.stays.Reads as stays-reads
 use Rattle.ticks.proofs.tell.Reads as tell-reads
 use Rattle.state.proofs.Seconds.ticks.Reads as ticks-reads
+use Rattle.model.specs.Layout.{pairSize}
 
 -- src/lib.rt:171:17
 mul-start : tie.Need-mul-start
@@ -27,7 +28,7 @@ slice-read-handle c = search needs
 
 -- src/lib.rt:173:18
 cast-handle : tie.Need-cast-handle
-cast-handle c = omega (arith, c .slice-known3 .given (56 * c .before .before .before .before .before .before .args .i))
+cast-handle c = omega (arith, c .slice-known3 .given (pairSize * c .before .before .before .before .before .before .args .i))
 
 -- src/lib.rt:174:46
 octet-at-requires : tie.Need-octet-at-requires

@@ -9,9 +9,10 @@ use Rattle.ticks.proofs.tick_rows.Tie as tie
 use Rattle.ticks.proofs.tick_rows.Reads as reads
 use Rattle.ticks.proofs.tick_rows.Lts as lts
 use Rattle.ticks.proofs.tick_row.Reads as tick-row-reads
+use Rattle.model.specs.Layout.{reportMost}
 
 abbrev Inv-loop : tie.InvT-loop
-Inv-loop t₀ n out₀ intervals periods filter prefix i₀ kept₀ wrote₀ t out i kept wrote = (i ≤ n) × (kept ≤ i) × (wrote ≤ 45 * i) × (length t ≡ length t₀) × (length out ≡ length out₀)
+Inv-loop t₀ n out₀ intervals periods filter prefix i₀ kept₀ wrote₀ t out i kept wrote = (i ≤ n) × (kept ≤ i) × (wrote ≤ reportMost * i) × (length t ≡ length t₀) × (length out ≡ length out₀)
     × Passed t₀ t out₀ out kept wrote (keptAt intervals periods t₀) (toldAt intervals periods filter prefix t₀) i
 
 abbrev μ-loop : tie.MeasureT-loop

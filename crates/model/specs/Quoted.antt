@@ -1,4 +1,4 @@
--- Quoted texts as lists of character codes, for the rows of Rows. Assumes nothing.
+-- Quoted texts as lists of character codes, for rows that quote document 01. Assumes nothing.
 use Prim.Native.Nat.{ℕ}
 use Prim.Native.Char.{code}
 use Prim.Native.String.{String, [], _∷_}

@@ -1,0 +1,109 @@
+-- Document 01, Both sides of each edge: P1 to P10 hold of the engine over blocks, which the calls' contracts cite. The rows stand in the crate
+-- model (InFull, Edges); here they are carried over from the engine over records. Assumes nothing.
+use Prim.Native.Nat.{ℕ, suc}
+use mathlib.Core.Path.{_≡_, refl, ap, _∙_}
+use mathlib.Core.Bool.{Bool, true, false, _&&_}
+use mathlib.Core.List.{List, [], _∷_, _++_}
+use lib.ListN.{length}
+use Rattle.laws.specs.Tests.{sames, and-left, and-right}
+use Rattle.laws.specs.Loops.{every, each}
+use Rattle.sessions.specs.Machine.{Outcome, refused, done, octets, answerRoom}
+use Rattle.sessions.specs.Session.{answer, stateAfter}
+use Rattle.sessions.specs.Saved.{Replayed, replay}
+use Rattle.model.specs.Types.{Model, fresh}
+use Rattle.model.specs.Sound.{soundModel, soundSettings, octetsUpTo}
+use Rattle.model.specs.Block.{padded}
+use Rattle.model.specs.Engine.{engine, models, begin, onBlocks}
+use Rattle.model.specs.Quoted.{codes}
+use Rattle.model.specs.InFull.{Told, opcodeInFull, prefixInFull, ticksText, answerLines, ranThrough, pictured, replayed, toldRight, inFull}
+use Rattle.model.specs.Edges.{Row, Reply, replyOf, same, imaged, answered, reached, right, allRight, session, p2good, p2low, p3, p4sixty, p4image, p4minus, p4plus, p5, p6, p7, p8, readPrefix, p9, p10, edges, edges-hold}
+use Rattle.steps.specs.Keeps.{fresh-sound}
+use Rattle.failover.specs.Blocks.{answer-blocks, given-blocks, given-sound, onReplayed, replay-blocks, replay-sound, encode-blocks, begin-blocks}
+use Rattle.model.specs.Layout.{mostPrefix}
+
+reply-blocks : (o : Outcome Model) → replyOf (onBlocks o) ≡ replyOf o
+unfolding replyOf onBlocks
+reply-blocks (refused n) = refl
+reply-blocks (done m l) = refl
+
+answered-blocks : (m : Model) → soundModel m ≡ true → (fs : List (List ℕ)) (rs : List Reply)
+    → answered engine begin (padded m) fs rs ≡ answered models fresh m fs rs
+unfolding answered
+answered-blocks m ok [] [] = refl
+answered-blocks m ok [] (r ∷ rs) = refl
+answered-blocks m ok (f ∷ fs) [] = refl
+answered-blocks m ok (f ∷ fs) (r ∷ rs) =
+    let n : Model = stateAfter m (answer models answerRoom m octets f) in
+    ap (λ (o : Outcome (List ℕ)). same (replyOf o) r && answered engine begin (stateAfter (padded m) (answer engine answerRoom (padded m) octets f)) fs rs)
+    (answer-blocks m ok answerRoom octets f)
+    ∙ ap (λ (x : Reply). same x r && answered engine begin (stateAfter (padded m) (answer engine answerRoom (padded m) octets f)) fs rs)
+    (reply-blocks (answer models answerRoom m octets f))
+    ∙ ap (λ (s : List ℕ). same (replyOf (answer models answerRoom m octets f)) r && answered engine begin s fs rs) (given-blocks m ok answerRoom octets f)
+    ∙ ap (λ (b : Bool). same (replyOf (answer models answerRoom m octets f)) r && b) (answered-blocks n (given-sound m ok answerRoom octets f) fs rs)
+
+-- the image at the end of a row
+reached-blocks : (m : Model) → soundModel m ≡ true → (fs : List (List ℕ))
+    → engine .encode (reached engine begin (padded m) fs) ≡ models .encode (reached models fresh m fs)
+unfolding reached
+reached-blocks m ok [] = encode-blocks m ok
+reached-blocks m ok (f ∷ fs) =
+    ap (λ (s : List ℕ). engine .encode (reached engine begin s fs)) (given-blocks m ok answerRoom octets f)
+    ∙ reached-blocks (stateAfter m (answer models answerRoom m octets f)) (given-sound m ok answerRoom octets f) fs
+
+-- a row whose settings are in range
+inRange : Row → Bool
+inRange r = soundSettings (r .opcode) (r .prefix)
+
+right-blocks : (r : Row) → inRange r ≡ true → right engine begin r ≡ right models fresh r
+unfolding right inRange
+right-blocks r e =
+    let m : Model = fresh (r .opcode) (r .prefix) in
+    let ok : soundModel m ≡ true = fresh-sound (r .opcode) (r .prefix) e in
+    ap (λ (s : List ℕ). answered engine begin s (r .frames) (r .replies) && imaged (r .image) (engine .encode (reached engine begin s (r .frames))))
+    (begin-blocks (r .opcode) (r .prefix) e)
+    ∙ ap (λ (b : Bool). b && imaged (r .image) (engine .encode (reached engine begin (padded m) (r .frames)))) (answered-blocks m ok (r .frames) (r .replies))
+    ∙ ap (λ (t : List ℕ). answered models fresh m (r .frames) (r .replies) && imaged (r .image) t) (reached-blocks m ok (r .frames))
+
+rows-blocks : (rs : List Row) → every inRange rs ≡ true → every (right engine begin) rs ≡ every (right models fresh) rs
+unfolding every
+rows-blocks [] e = refl
+rows-blocks (r ∷ rs) e =
+    ap (λ (b : Bool). b && every (right engine begin) rs) (right-blocks r (and-left (inRange r) (every inRange rs) e))
+    ∙ ap (λ (b : Bool). right models fresh r && b) (rows-blocks rs (and-right (inRange r) (every inRange rs) e))
+
+-- a row in document 01's own text
+in-full : soundSettings opcodeInFull prefixInFull ≡ true
+unfolding soundSettings octetsUpTo every
+in-full = refl
+
+told-blocks : (r : Told) → toldRight engine begin r ≡ toldRight models fresh r
+unfolding toldRight replayed onReplayed
+told-blocks r =
+    let m : Model = fresh opcodeInFull prefixInFull in
+    let ok : soundModel m ≡ true = fresh-sound opcodeInFull prefixInFull in-full in
+    let t : List ℕ = each codes (r .journal) ++ ticksText (r .ticks) (suc (length (r .journal))) in
+    let x : Replayed Model = replay models (λ i. answerRoom) m t in
+    let z : replay engine (λ i. answerRoom) (begin opcodeInFull prefixInFull) t ≡ onReplayed x =
+    ap (λ (s : List ℕ). replay engine (λ i. answerRoom) s t) (begin-blocks opcodeInFull prefixInFull in-full)
+    ∙ replay-blocks (λ i. answerRoom) m ok t in
+    ap (λ (v : Replayed (List ℕ)). ranThrough (v .stop) && sames (each answerLines (v .answers)) (each codes (r .says)) && pictured (r .image) (engine .encode (v .state))) z
+    ∙ ap (λ (i : List ℕ). ranThrough (x .stop) && sames (each answerLines (x .answers)) (each codes (r .says)) && pictured (r .image) i)
+    (encode-blocks (x .state) (replay-sound (λ i. answerRoom) m ok t))
+
+tolds-blocks : (ts : List Told) → every (toldRight engine begin) ts ≡ every (toldRight models fresh) ts
+unfolding every
+tolds-blocks [] = refl
+tolds-blocks (t ∷ ts) =
+    ap (λ (b : Bool). b && every (toldRight engine begin) ts) (told-blocks t) ∙ ap (λ (b : Bool). toldRight models fresh t && b) (tolds-blocks ts)
+
+edges-in-range : every inRange edges ≡ true
+unfolding every inRange edges session p2good p2low p3 p4sixty p4image p4minus p4plus p5 p6 p7 p8 readPrefix p9 p10 soundSettings octetsUpTo
+edges-in-range = refl
+
+-- P1 to P10 hold of the engine over blocks.
+pub engine-edges : allRight engine begin inFull edges ≡ true
+unfolding allRight
+engine-edges =
+    ap (λ (b : Bool). b && every (right engine begin) edges) (tolds-blocks inFull)
+    ∙ ap (λ (b : Bool). every (toldRight models fresh) inFull && b) (rows-blocks edges edges-in-range)
+    ∙ edges-hold
