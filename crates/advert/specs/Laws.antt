@@ -1,6 +1,6 @@
 -- Laws of conditions for those who keep them and ask them: which types there are, how long well-formed conditions
 -- are, what a match says (document 01, Conditions). Assumes nothing.
-use Prim.Native.Nat.{ℕ, zero, suc, _+_, _*_, _≤_}
+use Prim.Native.Nat.{_<_, ℕ, zero, suc, _+_, _*_, _≤_}
 use mathlib.Core.Path.{_≡_, refl, sym, _∙_}
 use mathlib.Core.List.{List, [], _∷_}
 use mathlib.Core.Bool.{Bool, true, false, _&&_, false≢true}
@@ -169,6 +169,19 @@ good-form kind condition e =
 pub form-three : (condition : List ℕ) → formOf 3 condition ≡ NotBuilt
 unfolding formOf pick
 form-three condition = refl
+
+-- the types go to 4
+pub well-kind-most : (kind : ℕ) (condition : List ℕ) → wellFormed kind condition ≡ true → kind ≤ 4
+well-kind-most kind condition e =
+    ⊎-elim (λ z. omega arith) (⊎-elim (λ z. omega arith) (λ z. omega arith)) (well-kind kind condition e)
+
+-- a status is an octet
+pub status-below : (f : Form) → formStatus f < 256
+unfolding formStatus
+status-below Good = omega arith
+status-below Malformed = omega arith
+status-below NotBuilt = omega arith
+status-below Unknown = omega arith
 
 -- the status is 0 exactly for a well-formed condition
 pub status-good : (kind : ℕ) (condition : List ℕ) → wellFormed kind condition ≡ true

@@ -9,7 +9,7 @@ ghost use Rattle.advert.specs.Sections.{Lookup, contents};
 ghost use Rattle.advert.specs.Pattern.{holdsAt, patternsForm, patternMeets, patternsMeet};
 ghost use Rattle.advert.specs.Uuid.{listed, uuidForm, uuidMeets};
 ghost use Rattle.advert.specs.Address.{addressForm, addressMeets};
-ghost use Rattle.advert.specs.Condition.{formOf, meets, wellFormed};
+ghost use Rattle.advert.specs.Condition.{formOf, formStatus, meets, wellFormed};
 
 // What is said of a condition's form: as its type asks, not so, a type that is not built yet, a type that is none.
 pub enum Form {
@@ -264,6 +264,18 @@ fn address_meets(condition: &[u8], address_type: u8, address: &[u8]) -> bool
     let t = condition[0];
     let same = holds(condition, 1, address);
     (t == address_type) & same
+}
+
+// The status of each answer on a condition's form; 0 is success.
+pub fn status_of(form: Form) -> u8
+    ensures { λ r. ⌜ r ≡ formStatus form ⌝ }
+{
+    match form {
+        Form::Good => 0,
+        Form::Malformed => 0x12,
+        Form::NotBuilt => 0x11,
+        Form::Unknown => 0x12,
+    }
 }
 
 // What is said of the form of a condition of that type.

@@ -42,6 +42,14 @@ pub answer-features : {n : ℕ} → n ≡ answerIn table 0 → n ≡ 11
 unfolding table answerIn pick
 answer-features e = e
 
+pub answer-cancel : answerIn table 4 ≡ 2
+unfolding table answerIn pick
+answer-cancel = refl
+
+pub answer-enable : answerIn table 5 ≡ 2
+unfolding table answerIn pick
+answer-enable = refl
+
 pub answer-handle : {n : ℕ} → n ≡ answerIn table 3 → n ≡ 3
 unfolding table answerIn pick
 answer-handle e = e

@@ -10,7 +10,7 @@ ghost use Rattle.laws.specs.Put.{put};
 ghost use Rattle.model.specs.Monitors.{monitorOf};
 ghost use Rattle.model.specs.Image.{monitorRow};
 ghost use Rattle.model.specs.Types.{Model};
-ghost use Rattle.model.specs.Commands.{subOf, cancelled};
+ghost use Rattle.model.specs.Commands.{table, answerIn, subOf, cancelled};
 ghost use Rattle.model.specs.Events.{complete};
 ghost use Rattle.model.specs.Sound.{soundModel};
 ghost use Rattle.model.specs.Block.{padTo, padded};
@@ -159,6 +159,17 @@ fn reply(out: &mut [u8], opcode: u16, status: u8, sub: u8) -> usize
     7
 }
 
+// Writes an answer of success that has a status and the sub-opcode alone, as many return parameters as the table says.
+fn reply_done(out: &mut [u8], opcode: u16, sub: u8) -> usize
+    requires { ⌜ (answerRoom ≤ length (now out)) × (answerIn table sub ≡ 2) ⌝ }
+    ensures { λ r. ⌜ Replied (now (out .entry)) (now (out .exit)) r (complete opcode (0 ∷ sub ∷ [])) ⌝ }
+{
+    put_head(out, opcode, statuses::answer_of(sub));
+    out[5] = 0;
+    out[6] = sub;
+    7
+}
+
 // Writes an answer to 03: a status and a handle.
 fn reply_handle(out: &mut [u8], opcode: u16, status: u8, handle: u8) -> usize
     requires { ⌜ answerRoom ≤ length (now out) ⌝ }
@@ -233,7 +244,7 @@ fn cancel_monitor(s: &mut [u8], params: &[u8], out: &mut [u8]) -> usize
     let status = statuses::cancel_status(params, found);
     if status == 0 {
         cancel(s, h);
-        return reply(out, opcode, 0, 0x04);
+        return reply_done(out, opcode, 0x04);
     }
     reply(out, opcode, status, 0x04)
 }
@@ -248,7 +259,7 @@ fn enable_filter(s: &mut [u8], params: &[u8], out: &mut [u8]) -> usize
     let status = statuses::enable_status(params, s[State::FILTER_AT]);
     if status == 0 {
         s[State::FILTER_AT] = octets::get8(params, 1);
-        return reply(out, opcode, 0, 0x05);
+        return reply_done(out, opcode, 0x05);
     }
     reply(out, opcode, status, 0x05)
 }

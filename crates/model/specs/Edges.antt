@@ -1,114 +1,15 @@
--- Document 01, "Both sides of each edge": P1 to P10 as rows under a single claim, which the checker computes. P1 stands in its own text in
--- InFull. A row is settings, frames given one after another as octets, and what each is answered: octets written, or a refusal number.
--- The expected octets are document 01's own, or follow from its rules by hand.
-use Prim.Native.Nat.{ℕ, zero, suc, _+_}
+-- Document 01, "Both sides of each edge": P1 to P10 as rows under a single claim, which the checker computes, with the rows of the
+-- requests of document 02 (Requests). P1 stands in its own text in InFull.
+use Prim.Native.Nat.{ℕ}
 use mathlib.Core.Path.{_≡_, refl}
-use mathlib.Core.Bool.{Bool, true, false, _&&_}
+use mathlib.Core.Bool.{true}
 use mathlib.Core.List.{List, [], _∷_, _++_}
-use mathlib.Core.Option.{Option, none, some}
-use lib.Dec.{eqb}
-use lib.ListN.{length, replicate}
-use Rattle.laws.specs.Tests.{pick, sames}
-use Rattle.laws.specs.Loops.{every, some as someOf, keep, only, each, when}
-use Rattle.octets.specs.Little.{little, octetsOf}
-use Rattle.lines.specs.Hex.{digit, hexOf, textOf}
-use Rattle.sessions.specs.Machine.{Machine, Outcome, refused, done, octets, answerRoom}
-use Rattle.sessions.specs.Session.{answer, stateAfter}
 use Rattle.model.specs.Types.{fresh}
 use Rattle.model.specs.Engine.{models}
-use Rattle.model.specs.InFull.{Told, toldRight, inFull}
-
--- what a frame was answered: octets, or a refusal
-pub data Reply : Type 0 where
-  wrote : List ℕ → Reply
-  refusal : ℕ → Reply
-
-unfoldable pub replyOf : {S : Type 0} → Outcome S → Reply
-replyOf (refused n) = refusal n
-replyOf (done m l) = wrote l
-
-unfoldable pub same : Reply → Reply → Bool
-same (wrote l) (wrote k) = sames l k
-same (wrote l) (refusal n) = false
-same (refusal n) (wrote l) = false
-same (refusal n) (refusal k) = eqb n k
-
--- a row: settings, frames, what each is answered, and the lines of the image at the end (none: not compared)
-pub record Row : Type 0 where
-  pub opcode : ℕ
-  pub prefix : List ℕ
-  pub frames : List (List ℕ)
-  pub replies : List Reply
-  pub image : List (List ℕ)
-
-unfoldable pub imaged : List (List ℕ) → List ℕ → Bool
-imaged [] t = true
-imaged (l ∷ ls) t = sames t (each textOf (l ∷ ls))
-
--- over an engine and the state that it begins with
-module _ (M : Machine) (begin : ℕ → List ℕ → M .S) where
-  -- the frames given one after another, with 2,880 octets lent each, and their replies compared
-  unfoldable pub answered : M .S → List (List ℕ) → List Reply → Bool
-  answered s [] [] = true
-  answered s [] (r ∷ rs) = false
-  answered s (f ∷ fs) [] = false
-  answered s (f ∷ fs) (r ∷ rs) =
-      same (replyOf (answer M answerRoom s octets f)) r && answered (stateAfter s (answer M answerRoom s octets f)) fs rs
-
-  unfoldable pub reached : M .S → List (List ℕ) → M .S
-  reached s [] = s
-  reached s (f ∷ fs) = reached (stateAfter s (answer M answerRoom s octets f)) fs
-
-  unfoldable pub right : Row → Bool
-  right r =
-      answered (begin (r .opcode) (r .prefix)) (r .frames) (r .replies)
-      && imaged (r .image) (M .encode (reached (begin (r .opcode) (r .prefix)) (r .frames)))
-
-  -- all rows: the session in its own text, and the others
-  unfoldable pub allRight : List Told → List Row → Bool
-  allRight ts rs = every (toldRight M begin) ts && every right rs
-
--- frames: a command, a packet of the device 06 05 04 03 02 01 with no data, a packet with data, a tick; and ticks in a row
-unfoldable pub cmd : ℕ → List ℕ → List ℕ
-cmd n l = 1 ∷ (octetsOf 4 n ++ (octetsOf 2 0xFC1E ++ (length l ∷ l)))
-
-unfoldable pub pkt : ℕ → ℕ → List ℕ
-pkt n rssi = 2 ∷ (octetsOf 4 n ++ (0 ∷ 0 ∷ 6 ∷ 5 ∷ 4 ∷ 3 ∷ 2 ∷ 1 ∷ 0 ∷ rssi ∷ []))
-
-unfoldable pub adv : ℕ → List ℕ → ℕ → List ℕ
-adv n l rssi = 2 ∷ (octetsOf 4 n ++ (0 ∷ 0 ∷ 6 ∷ 5 ∷ 4 ∷ 3 ∷ 2 ∷ 1 ∷ length l ∷ (l ++ (rssi ∷ []))))
-
-unfoldable pub tck : ℕ → List ℕ
-tck n = 3 ∷ octetsOf 4 n
-
-unfoldable pub tcks : ℕ → ℕ → List (List ℕ)
-tcks zero n = []
-tcks (suc k) n = tck n ∷ tcks k (suc n)
-
--- silent ticks: nothing is written
-unfoldable pub quiet : ℕ → List Reply
-quiet k = replicate k (wrote [])
-
--- the monitor of "A session in full": high −60, low −80, 3 s, sampling 0, that address
-unfoldable pub addWatch : List ℕ
-addWatch = 0x03 ∷ 0xC4 ∷ 0xB0 ∷ 0x03 ∷ 0x00 ∷ 0x04 ∷ 0x00 ∷ 0x06 ∷ 0x05 ∷ 0x04 ∷ 0x03 ∷ 0x02 ∷ 0x01 ∷ []
-
--- its answer, and the events and the report of a start, of a packet at −60
-unfoldable pub added0 : List ℕ
-added0 = 0x0E ∷ 0x06 ∷ 0x01 ∷ 0x1E ∷ 0xFC ∷ 0x00 ∷ 0x03 ∷ 0x00 ∷ []
-
-unfoldable pub start0 : List ℕ
-start0 = 0xFF ∷ 0x0C ∷ 0x4D ∷ 0x53 ∷ 0x02 ∷ 0x00 ∷ 0x06 ∷ 0x05 ∷ 0x04 ∷ 0x03 ∷ 0x02 ∷ 0x01 ∷ 0x00 ∷ 0x01 ∷ []
-
-unfoldable pub stop0 : List ℕ
-stop0 = 0xFF ∷ 0x0C ∷ 0x4D ∷ 0x53 ∷ 0x02 ∷ 0x00 ∷ 0x06 ∷ 0x05 ∷ 0x04 ∷ 0x03 ∷ 0x02 ∷ 0x01 ∷ 0x00 ∷ 0x00 ∷ []
-
-unfoldable pub report60 : List ℕ
-report60 = 0x3E ∷ 0x0C ∷ 0x02 ∷ 0x01 ∷ 0x00 ∷ 0x00 ∷ 0x06 ∷ 0x05 ∷ 0x04 ∷ 0x03 ∷ 0x02 ∷ 0x01 ∷ 0x00 ∷ 0xC4 ∷ []
-
--- the session: settings 0xFC1E and 4D 53
-unfoldable pub session : List (List ℕ) → List Reply → List (List ℕ) → Row
-session frames replies image = record { opcode = 0xFC1E; prefix = 0x4D ∷ 0x53 ∷ []; frames = frames; replies = replies; image = image }
+use Rattle.model.specs.InFull.{inFull}
+use Rattle.model.specs.Requests.{requests}
+use Rattle.model.specs.Rows.{Row, wrote, refusal, allRight, session, cmd, pkt, adv, tck, tcks, quiet, addWatch, added0, start0, stop0, report60}
+use Rattle.model.specs.Rows.{on, onAnswer, addSampled, invalid03, added1, added2}
 
 -- P2: a packet at −79 after 29 ticks starts the run anew: the 29 ticks after it write nothing, the 30th stops
 unfoldable pub p2good : Row
@@ -124,23 +25,12 @@ p2low = session
     (wrote added0 ∷ wrote (start0 ++ report60) ∷ (quiet 29 ++ (wrote (0x3E ∷ 0x0C ∷ 0x02 ∷ 0x01 ∷ 0 ∷ 0 ∷ 6 ∷ 5 ∷ 4 ∷ 3 ∷ 2 ∷ 1 ∷ 0 ∷ 0xB0 ∷ []) ∷ wrote stop0 ∷ [])))
     ([])
 
--- the filter switched on
-unfoldable pub on : List ℕ
-on = 0x05 ∷ 0x01 ∷ []
-
-unfoldable pub onAnswer : List ℕ
-onAnswer = 0x0E ∷ 0x05 ∷ 0x01 ∷ 0x1E ∷ 0xFC ∷ 0x00 ∷ 0x05 ∷ []
-
 -- P3: with the filter on, −61 starts nothing, −60 does
 unfoldable pub p3 : Row
 p3 = session
     (cmd 1 addWatch ∷ cmd 2 on ∷ pkt 3 0xC3 ∷ pkt 4 0xC4 ∷ [])
     (wrote added0 ∷ wrote onAnswer ∷ wrote [] ∷ wrote (start0 ++ report60) ∷ [])
     ([])
-
--- the same monitor with sampling 1, and with high 0 and −10
-unfoldable pub addSampled : List ℕ
-addSampled = 0x03 ∷ 0xC4 ∷ 0xB0 ∷ 0x03 ∷ 0x01 ∷ 0x04 ∷ 0x00 ∷ 0x06 ∷ 0x05 ∷ 0x04 ∷ 0x03 ∷ 0x02 ∷ 0x01 ∷ []
 
 -- P4: the mean of −60 and −61 is −61
 unfoldable pub p4sixty : Row
@@ -173,22 +63,12 @@ p4plus = session
     (wrote added0 ∷ wrote onAnswer ∷ wrote (start0 ++ report60) ∷ wrote [] ∷ wrote [] ∷ wrote (0x3E ∷ 0x0C ∷ 0x02 ∷ 0x01 ∷ 0 ∷ 0 ∷ 6 ∷ 5 ∷ 4 ∷ 3 ∷ 2 ∷ 1 ∷ 0 ∷ 0x00 ∷ []) ∷ [])
     ([])
 
--- a monitor command refused as invalid
-unfoldable pub invalid03 : List ℕ
-invalid03 = 0x0E ∷ 0x06 ∷ 0x01 ∷ 0x1E ∷ 0xFC ∷ 0x12 ∷ 0x03 ∷ 0x00 ∷ []
-
 -- P5: threshold 20 is accepted, 21 is not
 unfoldable pub p5 : Row
 p5 = session
     (cmd 1 (0x03 ∷ 0x14 ∷ 0xB0 ∷ 3 ∷ 0 ∷ 4 ∷ 0 ∷ 6 ∷ 5 ∷ 4 ∷ 3 ∷ 2 ∷ 1 ∷ []) ∷ cmd 2 (0x03 ∷ 0x15 ∷ 0xB0 ∷ 3 ∷ 0 ∷ 4 ∷ 0 ∷ 6 ∷ 5 ∷ 4 ∷ 3 ∷ 2 ∷ 1 ∷ []) ∷ [])
     (wrote added0 ∷ wrote invalid03 ∷ [])
     ([])
-
-unfoldable pub added1 : List ℕ
-added1 = 0x0E ∷ 0x06 ∷ 0x01 ∷ 0x1E ∷ 0xFC ∷ 0x00 ∷ 0x03 ∷ 0x01 ∷ []
-
-unfoldable pub added2 : List ℕ
-added2 = 0x0E ∷ 0x06 ∷ 0x01 ∷ 0x1E ∷ 0xFC ∷ 0x00 ∷ 0x03 ∷ 0x02 ∷ []
 
 -- P6: interval 0, 1, 60, 61
 unfoldable pub p6 : Row
@@ -219,6 +99,13 @@ readPrefix =
     ∷ wrote (0x0E ∷ 0x05 ∷ 0x01 ∷ 0x1E ∷ 0xFC ∷ 0x12 ∷ 0x00 ∷ []) ∷ [])
     []
 
+-- Commands, 03: condition types 0 and 5, a malformed condition, type 3 (IRK)
+unfoldable pub forms : Row
+forms = session
+    (cmd 1 (0x03 ∷ 0xC4 ∷ 0xB0 ∷ 3 ∷ 0 ∷ 0 ∷ 0 ∷ []) ∷ cmd 2 (0x03 ∷ 0xC4 ∷ 0xB0 ∷ 3 ∷ 0 ∷ 5 ∷ 0 ∷ []) ∷ cmd 3 (0x03 ∷ 0xC4 ∷ 0xB0 ∷ 3 ∷ 0 ∷ 4 ∷ 0 ∷ []) ∷ cmd 4 (0x03 ∷ 0xC4 ∷ 0xB0 ∷ 3 ∷ 0 ∷ 3 ∷ 0 ∷ []) ∷ [])
+    (wrote invalid03 ∷ wrote invalid03 ∷ wrote invalid03 ∷ wrote (0x0E ∷ 0x06 ∷ 0x01 ∷ 0x1E ∷ 0xFC ∷ 0x11 ∷ 0x03 ∷ 0x00 ∷ []) ∷ [])
+    ([])
+
 -- P9: a 16-bit UUID straddling two others is no match, one of the two is
 unfoldable pub p9 : Row
 p9 = session
@@ -235,15 +122,18 @@ p10 = session
 
 -- P2 to P10; P1 is `inFull`, with P2's 30th tick
 unfoldable pub edges : List Row
-edges = p2good ∷ p2low ∷ p3 ∷ p4sixty ∷ p4image ∷ p4minus ∷ p4plus ∷ p5 ∷ p6 ∷ p7 ∷ p8 ∷ readPrefix ∷ p9 ∷ p10 ∷ []
+edges =
+    p2good ∷ p2low ∷ p3 ∷ p4sixty ∷ p4image ∷ p4minus ∷ p4plus ∷ p5 ∷ p6 ∷ p7 ∷ p8 ∷ readPrefix ∷ forms ∷ p9 ∷ p10 ∷ requests
 
 -- P1 to P10 hold of the definitions.
 pub edges-hold : allRight models fresh inFull edges ≡ true
-unfolding replyOf same answered reached imaged right allRight cmd pkt adv tck tcks quiet addWatch added0 start0 stop0 report60 session p2good p2low on onAnswer p3 addSampled p4sixty p4image p4minus p4plus invalid03 p5 added1 added2 p6 p7 p8 readPrefix p9 p10 edges
+unfolding p2good p2low p3 p4sixty p4image p4minus p4plus p5 p6 p7 p8 readPrefix forms p9 p10 edges
+    Rattle.model.specs.Rows.replyOf Rattle.model.specs.Rows.same Rattle.model.specs.Rows.imaged Rattle.model.specs.Rows.answered Rattle.model.specs.Rows.reached Rattle.model.specs.Rows.right Rattle.model.specs.Rows.allRight Rattle.model.specs.Rows.cmd Rattle.model.specs.Rows.pkt Rattle.model.specs.Rows.adv Rattle.model.specs.Rows.tck Rattle.model.specs.Rows.tcks Rattle.model.specs.Rows.quiet Rattle.model.specs.Rows.addWatch Rattle.model.specs.Rows.added0 Rattle.model.specs.Rows.start0 Rattle.model.specs.Rows.stop0 Rattle.model.specs.Rows.report60 Rattle.model.specs.Rows.session Rattle.model.specs.Rows.on Rattle.model.specs.Rows.onAnswer Rattle.model.specs.Rows.addSampled Rattle.model.specs.Rows.invalid03 Rattle.model.specs.Rows.added1 Rattle.model.specs.Rows.added2
+    Rattle.model.specs.Requests.requests
     Rattle.model.specs.Types.ticksOf Rattle.model.specs.Types.device Rattle.model.specs.Types.deviceOf Rattle.model.specs.Types.watched Rattle.model.specs.Types.withLists Rattle.model.specs.Types.withFilter Rattle.model.specs.Types.moved Rattle.model.specs.Types.fresh Rattle.model.specs.Types.blank
     Rattle.model.specs.Level.level Rattle.model.specs.Level.inRange Rattle.model.specs.Level.extended Rattle.model.specs.Level.addRssi Rattle.model.specs.Level.levels Rattle.model.specs.Level.mean
     Rattle.model.specs.Frames.frameOf Rattle.model.specs.Frames.rawOf Rattle.model.specs.Frames.readRaw Rattle.model.specs.Frames.read Rattle.model.specs.Frames.write Rattle.model.specs.Frames.isCommand Rattle.model.specs.Frames.isPacket Rattle.model.specs.Frames.packetOf Rattle.model.specs.Frames.isTick Rattle.model.specs.Frames.typed
-    Rattle.model.specs.Monitors.highAbove Rattle.model.specs.Monitors.faultOf Rattle.model.specs.Monitors.accepts Rattle.model.specs.Monitors.monitorOf Rattle.model.specs.Monitors.matches Rattle.model.specs.Monitors.good Rattle.model.specs.Monitors.strong Rattle.model.specs.Monitors.runOf Rattle.model.specs.Monitors.windowed
+    Rattle.model.specs.Monitors.ordered Rattle.model.specs.Monitors.settingsGood Rattle.model.specs.Monitors.conditionFault Rattle.model.specs.Monitors.faultOf Rattle.model.specs.Monitors.accepts Rattle.model.specs.Monitors.monitorOf Rattle.model.specs.Monitors.matches Rattle.model.specs.Monitors.good Rattle.model.specs.Monitors.strong Rattle.model.specs.Monitors.runOf Rattle.model.specs.Monitors.windowed
     Rattle.model.specs.Commands.table Rattle.model.specs.Commands.paramsIn Rattle.model.specs.Commands.answerIn Rattle.model.specs.Commands.present Rattle.model.specs.Commands.subOf Rattle.model.specs.Commands.readStatus Rattle.model.specs.Commands.addStatus Rattle.model.specs.Commands.cancelStatus Rattle.model.specs.Commands.enableStatus Rattle.model.specs.Commands.status Rattle.model.specs.Commands.handleOr Rattle.model.specs.Commands.newHandle Rattle.model.specs.Commands.features Rattle.model.specs.Commands.success Rattle.model.specs.Commands.failure Rattle.model.specs.Commands.returned Rattle.model.specs.Commands.ofOther Rattle.model.specs.Commands.cancelled Rattle.model.specs.Commands.added Rattle.model.specs.Commands.changed Rattle.model.specs.Commands.commanded
     Rattle.model.specs.Watch.withSilent Rattle.model.specs.Watch.gathered Rattle.model.specs.Watch.withTicks Rattle.model.specs.Watch.emptied Rattle.model.specs.Watch.counts Rattle.model.specs.Watch.refreshed Rattle.model.specs.Watch.windowTakes Rattle.model.specs.Watch.atPacket Rattle.model.specs.Watch.packetMove Rattle.model.specs.Watch.isPair Rattle.model.specs.Watch.holds Rattle.model.specs.Watch.begins Rattle.model.specs.Watch.startPair Rattle.model.specs.Watch.turn Rattle.model.specs.Watch.turns Rattle.model.specs.Watch.packetPairs Rattle.model.specs.Watch.startsOf Rattle.model.specs.Watch.wants Rattle.model.specs.Watch.reported Rattle.model.specs.Watch.packetAnswer Rattle.model.specs.Watch.overfull Rattle.model.specs.Watch.windowFull Rattle.model.specs.Watch.goesOn Rattle.model.specs.Watch.closes Rattle.model.specs.Watch.windowTick Rattle.model.specs.Watch.atTick Rattle.model.specs.Watch.tickPairs Rattle.model.specs.Watch.windowSays Rattle.model.specs.Watch.tickOctets Rattle.model.specs.Watch.tickAnswer
     Rattle.model.specs.Events.complete Rattle.model.specs.Events.event Rattle.model.specs.Events.startEvent Rattle.model.specs.Events.stopEvent Rattle.model.specs.Events.report Rattle.model.specs.Events.packetReport Rattle.model.specs.Events.windowReport
@@ -260,7 +150,7 @@ unfolding replyOf same answered reached imaged right allRight cmd pkt adv tck tc
     Rattle.advert.specs.Pattern.holdsAt Rattle.advert.specs.Pattern.patterns Rattle.advert.specs.Pattern.extent Rattle.advert.specs.Pattern.fills Rattle.advert.specs.Pattern.patternsForm Rattle.advert.specs.Pattern.patternMeets Rattle.advert.specs.Pattern.patternsMeet
     Rattle.advert.specs.Uuid.uuids Rattle.advert.specs.Uuid.listed Rattle.advert.specs.Uuid.uuidSize Rattle.advert.specs.Uuid.uuidForm Rattle.advert.specs.Uuid.uuidMeets
     Rattle.advert.specs.Address.addressForm Rattle.advert.specs.Address.addressMeets
-    Rattle.advert.specs.Condition.wellFormed Rattle.advert.specs.Condition.meets
+    Rattle.advert.specs.Condition.wellFormed Rattle.advert.specs.Condition.formOf Rattle.advert.specs.Condition.formStatus Rattle.advert.specs.Condition.meets
     Rattle.sessions.specs.Session.refuseIf Rattle.sessions.specs.Session.stateAfter Rattle.sessions.specs.Session.judge Rattle.sessions.specs.Session.answer
     Rattle.sessions.specs.Machine.lastNumber
     Rattle.sessions.specs.Saved.cutFrom Rattle.sessions.specs.Saved.cut Rattle.sessions.specs.Saved.withAnswer Rattle.sessions.specs.Saved.resume Rattle.sessions.specs.Saved.replayLines Rattle.sessions.specs.Saved.replay

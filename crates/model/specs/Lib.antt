@@ -16,4 +16,7 @@ pub mod Engine
 pub mod Radio
 pub mod Quoted
 pub mod InFull
+pub mod Lengths
+pub mod Rows
+pub mod Requests
 pub mod Edges

@@ -1,22 +1,19 @@
 -- Which monitors are accepted, and which packets they match. Document 01, Commands (03), Conditions, Watching.
 -- Requests that change a rule change it here: nothing outside looks into these definitions.
 use Prim.Native.Nat.{ℕ, _+_, _*_}
-use mathlib.Core.Bool.{Bool, _&&_, not}
+use mathlib.Core.Bool.{Bool, _&&_}
 use mathlib.Core.List.{List, [], _∷_}
 use lib.Dec.{leb, ltb, eqb}
 use lib.ListN.{length, drop, getD}
 use Rattle.laws.specs.Tests.{pick}
-use Rattle.advert.specs.Condition.{wellFormed, meets}
+use Rattle.advert.specs.Condition.{meets, formOf, formStatus}
 use Rattle.model.specs.Types.{Monitor, Packet, ticksOf}
 use Rattle.model.specs.Level.{level, inRange}
 use Rattle.model.specs.Layout.{mostCondition}
 
--- The status codes (Core): invalid parameters, unsupported value, memory capacity exceeded, command disallowed, unknown command.
+-- The status codes (Core): invalid parameters, memory capacity exceeded, command disallowed, unknown command.
 abbrev pub invalid : ℕ
 invalid = 0x12
-
-abbrev pub unsupported : ℕ
-unsupported = 0x11
 
 abbrev pub full : ℕ
 full = 0x07
@@ -27,21 +24,24 @@ disallowed = 0x0C
 abbrev pub unknown : ℕ
 unknown = 0x01
 
--- "high not above low"
-unfoldable pub highAbove : Monitor → Bool
-highAbove m = ltb (level (m .low)) (level (m .high))
+-- "high not above low" is refused
+unfoldable pub ordered : ℕ → ℕ → Bool
+ordered high low = ltb (level low) (level high)
 
--- Commands, 03, in this order: "a threshold outside −127 to 20, high not above low, interval outside 0x01 to 0x3C, condition type
--- outside 1 to 4: 0x12. Type 3 (IRK): 0x11. Malformed condition: 0x12. Condition over 64 octets .. 0x07"; 0 where all are met.
+-- Commands, 03: "a threshold outside −127 to 20, high not above low, interval outside 0x01 to 0x3C": none of these
+unfoldable pub settingsGood : ℕ → ℕ → ℕ → Bool
+settingsGood high low interval = inRange high && inRange low && ordered high low && leb 1 interval && leb interval 0x3C
+
+-- what is said of a condition's form has its status (advert, Condition); a well-formed one may be too long: "condition type outside
+-- 1 to 4: 0x12. Type 3 (IRK): 0x11. Malformed condition: 0x12. Condition over 64 octets .. 0x07"
+unfoldable pub conditionFault : ℕ → List ℕ → ℕ
+conditionFault kind condition =
+    pick (eqb (formStatus (formOf kind condition)) 0) (pick (ltb mostCondition (length condition)) full 0)
+    (formStatus (formOf kind condition))
+
+-- Commands, 03, in this order: the settings, all of them 0x12, then the condition; 0 where all are met.
 unfoldable pub faultOf : Monitor → ℕ
-faultOf m =
-    pick (not (inRange (m .high) && inRange (m .low))) invalid (
-    pick (not (highAbove m)) invalid (
-    pick (not (leb 1 (m .interval) && leb (m .interval) 0x3C)) invalid (
-    pick (not (leb 1 (m .kind) && leb (m .kind) 4)) invalid (
-    pick (eqb (m .kind) 3) unsupported (
-    pick (not (wellFormed (m .kind) (m .condition))) invalid (
-    pick (ltb mostCondition (length (m .condition))) full 0))))))
+faultOf m = pick (settingsGood (m .high) (m .low) (m .interval)) (conditionFault (m .kind) (m .condition)) invalid
 
 -- the command 03 would accept the monitor, but for the room for one more
 unfoldable pub accepts : Monitor → Bool

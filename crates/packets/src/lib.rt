@@ -72,7 +72,11 @@ fn refresh(s: &mut [u8], i: usize, a: u8)
     ensures { λ _. ⌜ ((m : Model) → AtPair m (now (s .entry)) i → now (s .exit) ≡ padded (withPair m i (freshened a (pairAt m i)))) ⌝ }
 {
     if a % 2 == 1 {
-        octets::put16(s, State::PAIRS_AT + State::PAIR_ROW * i + State::SILENT_AT, 0);
+        octets::put16(
+            s,
+            State::PAIRS_AT + State::PAIR_ROW * i + State::SILENT_AT,
+            0,
+        );
     }
 }
 
@@ -82,7 +86,11 @@ fn gather(s: &mut [u8], i: usize, a: u8, payload: &[u8])
     ensures { λ _. ⌜ ((m : Model) → AtPair m (now (s .entry)) i → Sent (packetOf (now (payload .entry))) → pairAt m i .packets < 4294967295 → now (s .exit) ≡ padded (withPair m i (collected a (packetOf (now (payload .entry))) (pairAt m i)))) ⌝ }
 {
     if a / 2 % 2 == 1 {
-        gather_at(s, State::PAIRS_AT + State::PAIR_ROW * i + State::PACKETS_AT, payload);
+        gather_at(
+            s,
+            State::PAIRS_AT + State::PAIR_ROW * i + State::PACKETS_AT,
+            payload,
+        );
     }
 }
 

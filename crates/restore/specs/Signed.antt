@@ -28,7 +28,7 @@ unfolding restores minusSixty codes
     Rattle.model.specs.Types.ticksOf
     Rattle.model.specs.Types.device Rattle.model.specs.Types.watched
     Rattle.model.specs.Level.level Rattle.model.specs.Level.inRange Rattle.model.specs.Level.levels
-    Rattle.model.specs.Monitors.highAbove Rattle.model.specs.Monitors.faultOf Rattle.model.specs.Monitors.accepts
+    Rattle.model.specs.Monitors.ordered Rattle.model.specs.Monitors.settingsGood Rattle.model.specs.Monitors.conditionFault Rattle.model.specs.Monitors.faultOf Rattle.model.specs.Monitors.accepts
     Rattle.model.specs.Monitors.runOf Rattle.model.specs.Monitors.windowed
     Rattle.model.specs.Watch.isPair Rattle.model.specs.Watch.holds
     Rattle.model.specs.Sound.octetsUpTo Rattle.model.specs.Sound.soundSettings Rattle.model.specs.Sound.soundMonitor
@@ -42,7 +42,7 @@ unfolding restores minusSixty codes
     Rattle.advert.specs.Pattern.extent Rattle.advert.specs.Pattern.fills Rattle.advert.specs.Pattern.patternsForm
     Rattle.advert.specs.Uuid.uuidSize Rattle.advert.specs.Uuid.uuidForm
     Rattle.advert.specs.Address.addressForm
-    Rattle.advert.specs.Condition.wellFormed
+    Rattle.advert.specs.Condition.wellFormed Rattle.advert.specs.Condition.formOf Rattle.advert.specs.Condition.formStatus
     Rattle.sessions.specs.Machine.lastNumber
     Rattle.model.specs.Image.headRow Rattle.model.specs.Image.monitorRow Rattle.model.specs.Image.pairRow
     Rattle.model.specs.Image.endRow Rattle.model.specs.Image.records Rattle.model.specs.Image.imageText

@@ -18,13 +18,13 @@ use Rattle.parts.specs.Parts.{isZero}
 use Rattle.model.specs.Types.{ticksOf}
 use Rattle.model.specs.Level.{levels}
 use Rattle.model.specs.Image.{monitorIn}
-use Rattle.model.specs.Monitors.{accepts}
-use Rattle.advert.specs.Condition.{formOf}
+use Rattle.model.specs.Monitors.{accepts, settingsGood}
+use Rattle.advert.specs.Condition.{formOf, formStatus}
 use Rattle.soundness.specs.Below.{allBelow, below-more, below-fails}
 use Rattle.soundness.specs.Clauses.{monitorRowAt, headTest, heldTest, monitorTest}
 use Rattle.soundness.specs.Clauses.{monitorsTest}
-use Rattle.soundness.specs.Fields.{isGood, rangesTest, windowTest, emptyTest, fieldsTest, accepts-tests}
-use Rattle.model.specs.Layout.{blockSize, conditionAt, conditionLengthAt, eventAt, filterAt, headSize, highAt, intervalAt, lengthAt, lowAt, monitorSize, monitorsAt, mostCondition, mostData, mostMonitors, mostPrefix, opcodeAt, packetsAt, pairSize, prefixAt, prefixLengthAt, sumAt, ticksAt}
+use Rattle.soundness.specs.Fields.{windowTest, emptyTest, fieldsTest, accepts-tests}
+use Rattle.model.specs.Layout.{blockSize, conditionAt, conditionLengthAt, eventAt, filterAt, headSize, highAt, intervalAt, lengthAt, lowAt, monitorSize, monitorsAt, mostCondition, mostData, mostMonitors, mostPrefix, opcodeAt, packetsAt, pairSize, prefixAt, prefixLengthAt, sumAt, ticksAt, typeAt}
 
 -- parts of a slice: the rest, and a part before an end
 pub rest-of : {A : Type 0} (a : ℕ) (l : List A) → take (length l - a) (drop a l) ≡ drop a l
@@ -52,8 +52,8 @@ levels-down sum packets h a b = omega arith
 
 -- a monitor that passes
 pub row-accepts : (r : List ℕ) (n : ℕ) {b g : Bool} → length r ≡ monitorSize → n ≡ getD r conditionLengthAt 0 → n ≤ mostCondition
-    → b ≡ rangesTest (getD r highAt 0) (getD r lowAt 0) (getD r intervalAt 0)
-    → g ≡ isGood (formOf (getD r 5 0) (take (7 + n - 7) (drop conditionAt r))) → (b && g) ≡ accepts (monitorIn r .1)
+    → b ≡ settingsGood (getD r highAt 0) (getD r lowAt 0) (getD r intervalAt 0)
+    → g ≡ eqb (formStatus (formOf (getD r typeAt 0) (take (7 + n - 7) (drop conditionAt r)))) 0 → (b && g) ≡ accepts (monitorIn r .1)
 unfolding monitorIn
 row-accepts r n l e h p q =
     let k : 7 + n - 7 ≡ getD r conditionLengthAt 0 = omega arith in

@@ -2,7 +2,7 @@
 -- image ("Sound") and Commands (03). Assumes nothing.
 use Prim.Native.Nat.{ℕ, _+_, _-_, _*_, _≤_, _<_}
 use mathlib.Core.Path.{_≡_, refl, ap, _∙_}
-use mathlib.Core.Bool.{Bool, true, false, _&&_, _||_, not}
+use mathlib.Core.Bool.{Bool, true, false, _&&_, _||_}
 use mathlib.Core.List.{List}
 use mathlib.Core.Option.{some}
 use native.Mathlib.Omega.{arith}
@@ -14,29 +14,15 @@ use Rattle.laws.specs.Tests.{pick, and-not-left, and-not-right, cases-le}
 use Rattle.laws.specs.Loops.{every, every-take, every-drop}
 use Rattle.octets.specs.Little.{little, isOctet}
 use Rattle.parts.specs.Parts.{isZero}
-use Rattle.advert.specs.Condition.{wellFormed, formOf}
-use Rattle.advert.specs.declared.Form.{Form}
-use Rattle.advert.specs.declared.Form.the-variants.{Good, Malformed, NotBuilt, Unknown}
+use Rattle.advert.specs.Condition.{formOf, formStatus}
 use Rattle.model.specs.Types.{Monitor, Pair, ticksOf}
-use Rattle.model.specs.Level.{level, inRange, levels}
-use Rattle.model.specs.Monitors.{highAbove, faultOf, accepts, runOf, windowed, invalid, unsupported}
+use Rattle.model.specs.Level.{levels}
+use Rattle.model.specs.Monitors.{settingsGood, conditionFault, faultOf, accepts, runOf, windowed, invalid}
 use Rattle.model.specs.Image.{pairIn}
 use Rattle.model.specs.Sound.{octetsUpTo, soundWindow, soundEmpty, soundFields, soundOf}
 use Rattle.soundness.specs.Clauses.{pairTest}
 use Rattle.soundness.specs.Head.{little-lt}
-use Rattle.model.specs.Layout.{addressAt, dataAt, eventAt, highAt, lengthAt, mostCondition, mostData, packetsAt, pairSize, silentAt, sumAt, ticksAt}
-
--- "a threshold outside −127 to 20, high not above low, interval outside 0x01 to 0x3C": none of these
-unfoldable pub rangesTest : ℕ → ℕ → ℕ → Bool
-rangesTest high low interval =
-    leb (level high) 147 && leb (level low) 147 && ltb (level low) (level high) && leb 1 interval && leb interval 60
-
--- a condition of a type that is built, in the form of its type
-unfoldable pub isGood : Form → Bool
-isGood Good = true
-isGood Malformed = false
-isGood NotBuilt = false
-isGood Unknown = false
+use Rattle.model.specs.Layout.{kindAt, addressAt, dataAt, eventAt, lengthAt, mostCondition, mostData, packetsAt, pairSize, silentAt, sumAt, ticksAt}
 
 -- "for P in 1 to 0xFE window ticks below P, packets at most the position, sum from −127 × packets to 20 × packets;
 -- with other sampling window ticks and packets 0"
@@ -54,39 +40,24 @@ emptyTest packets sum event n = leb 1 packets || (eqb sum 0 && eqb event 0 && eq
 unfoldable pub fieldsTest : ℕ → ℕ → ℕ → List ℕ → Bool
 fieldsTest position interval sampling r =
     leb (getD r lengthAt 0) mostData
-    && (leb (getD r highAt 0) 1 && leb (getD r eventAt 0) 3 && ltb (little 2 r silentAt) (ticksOf interval)
+    && (leb (getD r kindAt 0) 1 && leb (getD r eventAt 0) 3 && ltb (little 2 r silentAt) (ticksOf interval)
     && windowTest position sampling (getD r ticksAt 0) (little 4 r packetsAt) (little 8 r sumAt)
     && emptyTest (little 4 r packetsAt) (little 8 r sumAt) (getD r eventAt 0) (getD r lengthAt 0)
     && every isZero (drop (dataAt + getD r lengthAt 0) r))
 
--- 0x03 accepts a monitor whose ranges and condition pass
+-- 0x03 accepts a monitor whose settings and condition pass
 pub accepts-tests : (m : Monitor) → length (m .condition) ≤ mostCondition
-    → accepts m ≡ (rangesTest (m .high) (m .low) (m .interval) && isGood (formOf (m .kind) (m .condition)))
-unfolding accepts faultOf rangesTest inRange highAbove formOf isGood pick
+    → accepts m ≡ (settingsGood (m .high) (m .low) (m .interval) && eqb (formStatus (formOf (m .kind) (m .condition))) 0)
+unfolding accepts faultOf conditionFault pick
 accepts-tests m h =
     rw (le-ltb mostCondition (length (m .condition)) h)
-    (go (leb (level (m .high)) 147) (leb (level (m .low)) 147) (ltb (level (m .low)) (level (m .high)))
-    (leb 1 (m .interval))
-    (leb (m .interval) 60) (leb 1 (m .kind)) (leb (m .kind) 4) (eqb (m .kind) 3)
-    (wellFormed (m .kind) (m .condition)))
+    (go (settingsGood (m .high) (m .low) (m .interval)) (eqb (formStatus (formOf (m .kind) (m .condition))) 0)
+    (formStatus (formOf (m .kind) (m .condition))) refl)
   where
-    go : (a b c d e f g k w : Bool)
-        → eqb (pick (not (a && b)) invalid
-        (pick (not c) invalid (pick (not (d && e)) invalid (pick (not (f && g)) invalid (
-        pick k unsupported (pick (not w) invalid 0)))))) 0
-        ≡ (a && b && c && d && e && isGood (pick k NotBuilt (pick (f && g) (pick w Good Malformed) Unknown)))
-    go false b c d e f g k w = refl
-    go true false c d e f g k w = refl
-    go true true false d e f g k w = refl
-    go true true true false e f g k w = refl
-    go true true true true false f g k w = refl
-    go true true true true true false g true w = refl
-    go true true true true true false g false w = refl
-    go true true true true true true false true w = refl
-    go true true true true true true false false w = refl
-    go true true true true true true true true w = refl
-    go true true true true true true true false true = refl
-    go true true true true true true true false false = refl
+    go : (a t : Bool) (n : ℕ) → eqb n 0 ≡ t → eqb (pick a (pick t 0 n) invalid) 0 ≡ (a && t)
+    go true true n e = refl
+    go true false n e = e
+    go false t n e = refl
 
 -- a pair's window and its emptiness, by its numbers
 window-tests : (position : ℕ) (m : Monitor) (q : Pair) → q .sum < 18446744073709551616
@@ -139,7 +110,7 @@ module _ (position : ℕ) (m : Monitor) (r : List ℕ) (l : length r ≡ pairSiz
         empty-tests q n ld,
         le-leb n mostData h,
       )
-      (go (leb (getD r highAt 0) 1) (leb (getD r eventAt 0) 3) (ltb (little 2 r silentAt) (ticksOf (m .interval)))
+      (go (leb (getD r kindAt 0) 1) (leb (getD r eventAt 0) 3) (ltb (little 2 r silentAt) (ticksOf (m .interval)))
       (windowTest position (m .sampling) (getD r ticksAt 0) (little 4 r packetsAt) (little 8 r sumAt))
       (emptyTest (little 4 r packetsAt) (little 8 r sumAt) (getD r eventAt 0) n) (every isZero (drop (25 + n) r)))
     where

@@ -1,6 +1,5 @@
 // Whether a block of octets is a sound state (document 01, The image, "Sound"): in place, in bounded work, for any
 // octets. The rows are laid out as `State` says.
-use advert::Form;
 use state::Seconds;
 use state::State;
 use state::Ticks;
@@ -14,7 +13,7 @@ ghost use Rattle.model.specs.Block.{sound};
 ghost use Rattle.soundness.specs.Below.{allBelow};
 ghost use Rattle.soundness.specs.Clauses.{headTest, heldTest, monitorTest, placeTest, otherTest, heldPairTest};
 ghost use Rattle.soundness.specs.Clauses.{monitorsTest, pairsTest};
-ghost use Rattle.soundness.specs.Fields.{isGood, rangesTest, windowTest, emptyTest, fieldsTest};
+ghost use Rattle.soundness.specs.Fields.{windowTest, emptyTest, fieldsTest};
 ghost use Rattle.model.specs.Layout.{blockSize, conditionLengthAt, countAt, headSize, monitorSize, mostCondition, mostPairs, pairSize};
 
 // The sum of the levels of so many packets, from the sum of their RSSI in two's complement.
@@ -30,36 +29,20 @@ fn levels_of(sum: u64, packets: u32) -> u64
     sum - room - 1
 }
 
-// Whether a monitor's thresholds and interval are in range, and high is above low.
-fn ranges_sound(high: u8, low: u8, interval: u8) -> bool
-    ensures { λ r. ⌜ r ≡ rangesTest high low interval ⌝ }
-{
-    let h = state::level_of(high);
-    let l = state::level_of(low);
-    (h <= State::MOST_LEVEL) & (l <= State::MOST_LEVEL) & (l < h) & (1 <= interval) & (interval <= 60)
-}
-
-fn is_good(form: Form) -> bool
-    ensures { λ r. ⌜ r ≡ isGood form ⌝ }
-{
-    match form {
-        Form::Good => true,
-        Form::Malformed => false,
-        Form::NotBuilt => false,
-        Form::Unknown => false,
-    }
-}
-
 // Whether the monitor of a row is one that 0x03 would accept.
 fn accepted(r: &[u8], n: usize) -> bool
     requires { ⌜ (length (now r) ≡ monitorSize) × (n ≡ getD (now r) conditionLengthAt 0) × (n ≤ mostCondition) ⌝ }
     ensures { λ b. ⌜ b ≡ accepts (monitorIn (now (r .entry)) .1) ⌝ }
 {
-    let ranges = ranges_sound(r[State::HIGH_AT], r[State::LOW_AT], r[State::INTERVAL_AT]);
+    let settings = statuses::settings_good(
+        r[State::HIGH_AT],
+        r[State::LOW_AT],
+        r[State::INTERVAL_AT],
+    );
     let e = State::CONDITION_AT + n;
     let form = advert::condition_form(r[State::TYPE_AT], &r[State::CONDITION_AT..e]);
-    let good = is_good(form);
-    ranges & good
+    let good = advert::status_of(form) == 0;
+    settings & good
 }
 
 // Whether a row in use stands at its handle's place, holds an accepted monitor, and has zeros behind its condition.

@@ -11,12 +11,10 @@ use borrow.Author.Tests.{eq-eqb, ne-eqb, lt-ltb, le-ltb, le-leb, lt-leb}
 use Rattle.laws.specs.Tests.{pick, pick-true, pick-false, cases-le}
 use Rattle.octets.specs.Little.{little}
 use Rattle.octets.specs.Numbers.{numberAt}
-use Rattle.advert.specs.Condition.{formOf}
-use Rattle.advert.specs.declared.Form.{Form}
-use Rattle.advert.specs.declared.Form.the-variants.{Good, Malformed, NotBuilt, Unknown}
-use Rattle.model.specs.Monitors.{faultOf, monitorOf, invalid, full, disallowed}
+use Rattle.advert.specs.Condition.{formOf, formStatus}
+use Rattle.model.specs.Monitors.{settingsGood, conditionFault, faultOf, monitorOf, invalid, full, disallowed}
 use Rattle.model.specs.Commands.{table, paramsIn, readStatus}
-use Rattle.statuses.specs.Statuses.{settingsGood, conditionFault, formFault, form-fault, fault-of, addOf}
+use Rattle.statuses.specs.Statuses.{addOf}
 use Rattle.statuses.specs.Statuses.{cancelOf, enableOf}
 use Rattle.model.specs.Layout.{mostCondition}
 
@@ -29,44 +27,35 @@ octet-at l i {v} e =
     (λ (h : length l < i + 1).
     e ∙ pick-false _ 0 (lt-leb (i + 1) (length l) h) ∙ sym (List·getD-eq-default l 0 {n = i} (omega arith)))
 
--- a condition's status, by its form
-module _ (kind : ℕ) (condition : List ℕ) {f : Form} (e : f ≡ formOf kind condition) where
-  of-form : {g : Form} → f ≡ g → formFault g (length condition) ≡ conditionFault kind condition
-  of-form q = ap (λ (x : Form). formFault x (length condition)) (sym q ∙ e) ∙ form-fault kind condition
+-- a condition's status, by that of its form
+module _ (kind : ℕ) (condition : List ℕ) {n : ℕ} (e : n ≡ formStatus (formOf kind condition)) where
+  pub form-wrong : (n ≡ 0 → ⊥) → n ≡ conditionFault kind condition
+  unfolding conditionFault
+  form-wrong h = e ∙ sym (pick-false _ _ (ne-eqb (formStatus (formOf kind condition)) 0 (λ q. h (e ∙ q))))
 
-  pub form-long : f ≡ Good → mostCondition < length condition → 7 ≡ conditionFault kind condition
-  unfolding formFault
-  form-long q h = sym (pick-true 7 0 (lt-ltb mostCondition (length condition) h)) ∙ of-form q
+  formed : n ≡ 0 → conditionFault kind condition ≡ pick (ltb mostCondition (length condition)) full 0
+  unfolding conditionFault
+  formed q = pick-true _ _ (eq-eqb (formStatus (formOf kind condition)) 0 (sym e ∙ q))
 
-  pub form-good : f ≡ Good → length condition ≤ mostCondition → 0 ≡ conditionFault kind condition
-  unfolding formFault
-  form-good q h = sym (pick-false 7 0 (le-ltb mostCondition (length condition) h)) ∙ of-form q
+  pub form-long : n ≡ 0 → mostCondition < length condition → 7 ≡ conditionFault kind condition
+  form-long q h = sym (formed q ∙ pick-true 7 0 (lt-ltb mostCondition (length condition) h))
 
-  pub form-malformed : f ≡ Malformed → 18 ≡ conditionFault kind condition
-  unfolding formFault
-  form-malformed q = of-form q
-
-  pub form-not-built : f ≡ NotBuilt → 17 ≡ conditionFault kind condition
-  unfolding formFault
-  form-not-built q = of-form q
-
-  pub form-unknown : f ≡ Unknown → 18 ≡ conditionFault kind condition
-  unfolding formFault
-  form-unknown q = of-form q
+  pub form-good : n ≡ 0 → length condition ≤ mostCondition → 0 ≡ conditionFault kind condition
+  form-good q h = sym (formed q ∙ pick-false 7 0 (le-ltb mostCondition (length condition) h))
 
 -- the monitor's status
 module _ (l : List ℕ) {t : Bool} (e : t ≡ settingsGood (getD l 1 0) (getD l 2 0) (getD l 3 0)) where
   pub fault-condition : {r : ℕ} → t ≡ true → r ≡ conditionFault (getD l 5 0) (take (length l - 6) (drop 6 l))
       → r ≡ faultOf (monitorOf l)
-  unfolding monitorOf
+  unfolding monitorOf faultOf
   fault-condition q s =
       let n : length (drop 6 l) ≡ length l - 6 = length-drop 6 l in
       s ∙ ap (conditionFault (getD l 5 0)) (take-all (length l - 6) (drop 6 l) (omega arith))
-      ∙ sym (fault-of (monitorOf l) ∙ pick-true _ invalid (sym e ∙ q))
+      ∙ sym (pick-true _ invalid (sym e ∙ q))
 
   pub fault-settings : t ≡ false → 18 ≡ faultOf (monitorOf l)
-  unfolding monitorOf
-  fault-settings q = sym (fault-of (monitorOf l) ∙ pick-false _ invalid (sym e ∙ q))
+  unfolding monitorOf faultOf
+  fault-settings q = sym (pick-false _ invalid (sym e ∙ q))
 
 -- 00
 module _ (l : List ℕ) {n : ℕ} (e : n ≡ paramsIn table 0) where

@@ -6,11 +6,10 @@ ghost use Prim.Native.Nat.{_+_, _≤_, _<_};
 ghost use mathlib.Core.Path.{_≡_};
 ghost use lib.ListN.{length};
 ghost use Rattle.model.specs.Level.{level, inRange};
-ghost use Rattle.model.specs.Monitors.{faultOf, monitorOf};
+ghost use Rattle.model.specs.Monitors.{settingsGood, conditionFault, faultOf, monitorOf};
 ghost use Rattle.model.specs.Commands.{table, paramsIn, answerIn, readStatus};
 ghost use Rattle.statuses.specs.Lookup.{Lengths};
-ghost use Rattle.statuses.specs.Statuses.{settingsGood, conditionFault, addOf, cancelOf, enableOf};
-use advert::Form;
+ghost use Rattle.statuses.specs.Statuses.{addOf, cancelOf, enableOf};
 use state::State;
 
 // A row of the table: a sub-opcode, its parameter length counting the sub-opcode (03: the least), and the number of
@@ -81,7 +80,7 @@ pub fn answer_of(sub: u8) -> u8
 }
 
 // Whether thresholds and interval are in range, and high is above low.
-fn settings_good(high: u8, low: u8, interval: u8) -> bool
+pub fn settings_good(high: u8, low: u8, interval: u8) -> bool
     ensures { λ r. ⌜ r ≡ settingsGood high low interval ⌝ }
 {
     let a = state::in_range(high);
@@ -96,17 +95,14 @@ fn condition_status(kind: u8, condition: &[u8]) -> u8
     ensures { λ r. ⌜ r ≡ conditionFault kind (now (condition .entry)) ⌝ }
 {
     let form = advert::condition_form(kind, condition);
-    match form {
-        Form::Good => {
-            if State::CONDITION < condition.len() {
-                return 0x07;
-            }
-            0
-        }
-        Form::Malformed => 0x12,
-        Form::NotBuilt => 0x11,
-        Form::Unknown => 0x12,
+    let status = advert::status_of(form);
+    if status != 0 {
+        return status;
     }
+    if State::CONDITION < condition.len() {
+        return 0x07;
+    }
+    0
 }
 
 // The status that the settings of a monitor give.

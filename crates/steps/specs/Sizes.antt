@@ -15,10 +15,11 @@ use Rattle.laws.specs.Loops.{every}
 use Rattle.octets.specs.Little.{octetsOf, isOctet, length-octets, octets-octets}
 use Rattle.rule.specs.Engine.{slot}
 use Rattle.rule.specs.Finds.{slot-some, Lowest}
-use Rattle.advert.specs.Condition.{wellFormed}
 use Rattle.model.specs.Types.{Model, Monitor, Packet, Pair}
 use Rattle.model.specs.Level.{mean, levels, inRange}
-use Rattle.model.specs.Monitors.{highAbove, faultOf, monitorOf}
+use Rattle.advert.specs.Condition.{formOf, formStatus}
+use Rattle.advert.specs.Laws.{status-below}
+use Rattle.model.specs.Monitors.{settingsGood, conditionFault, faultOf, monitorOf}
 use Rattle.model.specs.Commands.{table, paramsIn, present, subOf, readStatus, addStatus, cancelStatus, enableStatus}
 use Rattle.model.specs.Commands.{status, handleOr, newHandle, features, success, failure, returned}
 use Rattle.model.specs.Events.{complete, event, report, packetReport, windowReport}
@@ -45,15 +46,12 @@ over : (t : Bool) (a b : ℕ) → isOctet a ≡ true → isOctet b ≡ true → 
 over t a b p q = pick-both (λ n. isOctet n ≡ true) t a b (λ e. p) (λ e. q)
 
 pub fault-octet : (m : Monitor) → isOctet (faultOf m) ≡ true
-unfolding faultOf
+unfolding faultOf conditionFault
 fault-octet m =
-    over (not (inRange (m .high) && inRange (m .low))) 18 _ refl
-    (over (not (highAbove m)) 18 _ refl
-    (over (not (leb 1 (m .interval) && leb (m .interval) 60)) 18 _ refl
-    (over (not (leb 1 (m .kind) && leb (m .kind) 4)) 18 _ refl
-    (over (eqb (m .kind) 3) 17 _ refl
-    (over (not (wellFormed (m .kind) (m .condition))) 18 _ refl
-    (over (ltb mostCondition (length (m .condition))) 7 0 refl refl))))))
+    over (settingsGood (m .high) (m .low) (m .interval)) _ 18
+    (over (eqb (formStatus (formOf (m .kind) (m .condition))) 0) _ _ (over (ltb mostCondition (length (m .condition))) 7 0 refl refl)
+    (octet (formStatus (formOf (m .kind) (m .condition))) (status-below (formOf (m .kind) (m .condition)))))
+    refl
 
 pub status-octet : (m : Model) (l : List ℕ) → isOctet (status m l) ≡ true
 unfolding status readStatus addStatus cancelStatus enableStatus

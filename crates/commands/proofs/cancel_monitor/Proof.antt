@@ -1,3 +1,4 @@
+use Rattle.commands.specs.Replies.{answer-cancel}
 use Rattle.commands.specs.Owed.{cancel-handle}
 use Rattle.commands.specs.Ran.{cancel-done, cancel-failed}
 use mathlib.Core.Path.{refl}
@@ -27,8 +28,8 @@ cancel-requires c κs = let a = c .before .before .before .before .before .befor
           (c .before .before .cancel-status .ensures) (c .before .if1 .taken),
     )
 
-reply-requires : tie.Need-reply-requires
-reply-requires c κs = search needs
+reply-done-requires : tie.Need-reply-done-requires
+reply-done-requires c κs = (search needs, answer-cancel)
 
 same-length : tie.Need-same-length
 same-length c = search needs
@@ -47,10 +48,10 @@ returns c = let a = c .before .before .before .before .before .before .before .b
     .ensures) (c .before .before .before .before .before .before .before .before .before .before .live .ensures)
     (c .before .before .before .before .before .before .before .before .before .cancel-status .ensures)
     (c .before .before .before .before .before .before .before .before .if1 .taken)
-    (c .before .before .before .before .before .before .cancel .ensures m e q) (c .before .before .reply .ensures)
+    (c .before .before .before .before .before .before .cancel .ensures m e q) (c .before .before .reply-done .ensures)
 
-reply-requires-2 : tie.Need-reply-requires-2
-reply-requires-2 c κs = search needs
+reply-requires : tie.Need-reply-requires
+reply-requires c κs = search needs
 
 same-length-3 : tie.Need-same-length-3
 same-length-3 c = search needs
@@ -67,7 +68,7 @@ returns-2 c = let a = c .before .before .before .before .before .before .before 
     .before .pre .2) (c .before .before .before .before .before .before .before .before .get8 .ensures)
     (c .before .before .before .before .before .before .live .ensures)
     (c .before .before .before .before .before .cancel-status .ensures)
-    (c .before .before .before .before .if1 .left) refl (c .before .before .reply2 .ensures)
+    (c .before .before .before .before .if1 .left) refl (c .before .before .reply .ensures)
 
 pub cancel-monitor-spec : {M : Type 1} → statement M
 cancel-monitor-spec =
@@ -78,11 +79,11 @@ cancel-monitor-spec =
     live-requires
     cancel-status-requires
     cancel-requires
-    reply-requires
+    reply-done-requires
     same-length
     same-length-2
     returns
-    reply-requires-2
+    reply-requires
     same-length-3
     same-length-4
     returns-2)

@@ -1,3 +1,4 @@
+use Rattle.commands.specs.Replies.{answer-enable}
 use Rattle.commands.specs.Ran.{enable-done, enable-failed}
 use mathlib.Core.Path.{refl}
 use borrow.Author.Needs.{needs}
@@ -19,8 +20,8 @@ get8-requires c κs = search needs
 slice-write-s : tie.Need-slice-write-s
 slice-write-s c = search needs
 
-reply-requires : tie.Need-reply-requires
-reply-requires c κs = search needs
+reply-done-requires : tie.Need-reply-done-requires
+reply-done-requires c κs = (search needs, answer-enable)
 
 same-length : tie.Need-same-length
 same-length c = search needs
@@ -36,10 +37,10 @@ returns c = let a = c .before .before .before .before .before .before .before .b
     (c .before .before .before .before .before .before .before .before .before .before .before .before .before .pre
     .2) (c .before .before .before .before .before .before .enable-status .ensures)
     (c .before .before .before .before .before .if1 .taken) (c .before .before .before .before .get8 .ensures) refl
-    (c .before .before .reply .ensures)
+    (c .before .before .reply-done .ensures)
 
-reply-requires-2 : tie.Need-reply-requires-2
-reply-requires-2 c κs = search needs
+reply-requires : tie.Need-reply-requires
+reply-requires c κs = search needs
 
 same-length-3 : tie.Need-same-length-3
 same-length-3 c = search needs
@@ -54,7 +55,7 @@ returns-2 c = let a = c .before .before .before .before .before .before .before 
     (c .before .before .before .before .before .before .before .get16 .ensures)
     (c .before .before .before .before .before .before .before .before .before .before .before .before .pre .2)
     (c .before .before .before .before .before .enable-status .ensures)
-    (c .before .before .before .before .if1 .left) refl (c .before .before .reply2 .ensures)
+    (c .before .before .before .before .if1 .left) refl (c .before .before .reply .ensures)
 
 pub enable-filter-spec : {M : Type 1} → statement M
 enable-filter-spec =
@@ -65,11 +66,11 @@ enable-filter-spec =
     enable-status-requires
     get8-requires
     slice-write-s
-    reply-requires
+    reply-done-requires
     same-length
     same-length-2
     returns
-    reply-requires-2
+    reply-requires
     same-length-3
     same-length-4
     returns-2)

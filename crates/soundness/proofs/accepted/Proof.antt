@@ -1,4 +1,6 @@
-use Rattle.soundness.specs.Fields.{isGood}
+use Rattle.advert.specs.Condition.{formStatus}
+use lib.Dec.{eqb}
+use Prim.Native.Nat.{ℕ}
 use mathlib.Core.Path.{ap}
 use Rattle.soundness.specs.Code.{row-accepts}
 use mathlib.Core.Path.{_≡_, refl, sym, _∙_}
@@ -8,24 +10,24 @@ use Rattle.soundness.proofs.accepted.Tie as tie
 use Rattle.soundness.proofs.accepted.Reads as reads
 use Rattle.soundness.proofs.accepted.Lts as lts
 use Rattle.advert.proofs.condition_form.Reads as condition-form-reads
-use Rattle.soundness.proofs.is_good.Reads as is-good-reads
-use Rattle.soundness.proofs.ranges_sound.Reads as ranges-sound-reads
+use Rattle.advert.proofs.status_of.Reads as status-of-reads
+use Rattle.statuses.proofs.settings_good.Reads as settings-good-reads
 
 -- src/lib.rt:72:31
-shared-slice-read-ranges-sound : tie.Need-shared-slice-read-ranges-sound
-shared-slice-read-ranges-sound c = search needs
+shared-slice-read-settings-good : tie.Need-shared-slice-read-settings-good
+shared-slice-read-settings-good c = search needs
 
 -- src/lib.rt:72:37
-shared-slice-read-ranges-sound-2 : tie.Need-shared-slice-read-ranges-sound-2
-shared-slice-read-ranges-sound-2 c = search needs
+shared-slice-read-settings-good-2 : tie.Need-shared-slice-read-settings-good-2
+shared-slice-read-settings-good-2 c = search needs
 
 -- src/lib.rt:72:43
-shared-slice-read-ranges-sound-3 : tie.Need-shared-slice-read-ranges-sound-3
-shared-slice-read-ranges-sound-3 c = search needs
+shared-slice-read-settings-good-3 : tie.Need-shared-slice-read-settings-good-3
+shared-slice-read-settings-good-3 c = search needs
 
 -- src/lib.rt:72:9
-ranges-sound-requires : tie.Need-ranges-sound-requires
-ranges-sound-requires c κs = search needs
+settings-good-requires : tie.Need-settings-good-requires
+settings-good-requires c κs = search needs
 
 -- src/lib.rt:73:13
 add-e : tie.Need-add-e
@@ -52,26 +54,26 @@ condition-form-requires : tie.Need-condition-form-requires
 condition-form-requires c κs = search needs
 
 -- src/lib.rt:75:9
-is-good-requires : tie.Need-is-good-requires
-is-good-requires c κs = search needs
+status-of-requires : tie.Need-status-of-requires
+status-of-requires c κs = search needs
 
 -- src/lib.rt:68:1
 returns : tie.Need-returns
-returns c = let a = c .before .before .before .before .before .before .before .before .before .args in let p = c .before .before .before .before .before .before .before .before .before .pre in row-accepts (a .r .now) (a .n) (p .0) (p .1) (p .2) (c .before .before .before .before .ranges-sound .ensures) (c .is-good .ensures ∙ ap isGood (c .before .condition-form .ensures))
+returns c = let a = c .before .before .before .before .before .before .before .before .before .args in let p = c .before .before .before .before .before .before .before .before .before .pre in row-accepts (a .r .now) (a .n) (p .0) (p .1) (p .2) (c .before .before .before .before .settings-good .ensures) (ap (λ (n : ℕ). eqb n 0) (c .status-of .ensures ∙ ap formStatus (c .before .condition-form .ensures)))
 
 pub accepted-spec : {M : Type 1} → statement M
 accepted-spec =
     tie.close
     (tie.spec
-    shared-slice-read-ranges-sound
-    shared-slice-read-ranges-sound-2
-    shared-slice-read-ranges-sound-3
-    ranges-sound-requires
+    shared-slice-read-settings-good
+    shared-slice-read-settings-good-2
+    shared-slice-read-settings-good-3
+    settings-good-requires
     add-e
     shared-slice-read-condition-form
     sub-condition-form
     part-condition-form-start
     part-condition-form-end
     condition-form-requires
-    is-good-requires
+    status-of-requires
     returns)

@@ -1,4 +1,4 @@
-use Rattle.statuses.specs.Statuses.{settingsGood}
+use Rattle.model.specs.Monitors.{settingsGood, ordered}
 use borrow.Author.Needs.{needs}
 use Rattle.statuses.proofs.settings_good.Statement.{statement}
 use Rattle.statuses.proofs.settings_good.Tie as tie
@@ -16,7 +16,7 @@ level-of-requires-2 : tie.Need-level-of-requires-2
 level-of-requires-2 c κs = search needs
 
 returns : tie.Need-returns
-unfolding settingsGood
+unfolding settingsGood ordered
 returns c = rw (
   c .before .before .before .in-range .ensures,
   c .before .before .in-range2 .ensures,
