@@ -1,85 +1,230 @@
 -- Demand 3 over what the calls' contracts say: the block that `load` gives for an image saved in a session, and what `replay` reaches from it
--- into one output. Document 01, Sessions and failover. `demand3` of the crate failover is the claim; here its replay is that of the call
--- (`replayInto`, which Run of the crate engine cites) and its restore that of the call (`blockIn`). Assumes nothing.
+-- into one output. Document 01, Sessions and failover. `demand3` of the crate failover is the claim, over records; here it is carried to
+-- blocks by the law of that crate (Blocks), its replay is that of the call (`replayInto`, which Run of the crate engine cites) and its restore
+-- that of the call (`blockIn`). Assumes nothing.
 use Prim.Native.Nat.{ℕ, zero, suc, _+_, _≤_, _<_}
-use mathlib.Core.Path.{_≡_, refl, sym, ap, _∙_}
-use mathlib.Core.Bool.{Bool, true, false}
+use mathlib.Core.Path.{_≡_, refl, sym, ap, _∙_, subst}
+use mathlib.Core.Bool.{Bool, true, false, not}
 use mathlib.Core.Option.{Option, none, some}
-use mathlib.Core.List.{List, [], _∷_}
+use mathlib.Core.List.{List, [], _∷_, _++_, map, flatten}
+use native.Mathlib.Nat.{not-suc-le-zero}
 use native.Mathlib.Omega.{arith}
-use lib.ListN.{length, drop}
+use lib.Dec.{ltb}
+use lib.ListN.{length, drop, length-map, length-append}
+use lib.Seq.{drop-append-seam}
 use Rattle.laws.specs.Tests.{pick}
 use Rattle.laws.specs.Rows.{flat}
-use Rattle.rule.specs.Base.{none≢some, some-inj}
-use Rattle.sessions.specs.Machine.{answerRoom}
-use Rattle.sessions.specs.Session.{Call, walk, answers, journal}
-use Rattle.sessions.specs.Saved.{Replayed, SavedAfter, Failover, Enough, frames, replay}
-use Rattle.model.specs.Types.{Model}
-use Rattle.model.specs.Image.{isImage, heldIn, readImage}
-use Rattle.model.specs.Sound.{soundSettings}
+use Rattle.rule.specs.Base.{none≢some}
+use Rattle.rule.specs.Claim.{ByHistory}
+use Rattle.sessions.specs.Machine.{Outcome, refused, done, answerRoom, saveRoom}
+use Rattle.sessions.specs.Session.{Call, save, Entry, refuseIf, image, since, walk, trace, executed, answers, linesOf, journal}
+use Rattle.sessions.specs.Saved.{Replayed, SavedAfter, Failover, Enough, frames, replay, cut}
+use Rattle.sessions.specs.Cuts.{drop-map}
+use Rattle.sessions.specs.Runs.{Run, runs, walk-append, trace-append}
+use Rattle.sessions.specs.History.{walk-sound}
+use Rattle.model.specs.Types.{Model, fresh}
+use Rattle.model.specs.Frames.{Body, write}
+use Rattle.model.specs.Image.{imageText, isImage, heldIn}
+use Rattle.model.specs.Sound.{soundModel, soundSettings}
 use Rattle.model.specs.Block.{padded}
-use Rattle.model.specs.Engine.{engine, begin, decode, blockOf}
+use Rattle.model.specs.Engine.{engine, models, begin, onBlocks}
+use Rattle.model.specs.Radio.{radio}
+use Rattle.images.specs.Restores.{held-image, image-is}
+use Rattle.steps.specs.Keeps.{fresh-sound}
 use Rattle.replays.specs.Into.{Reached, replayInto}
+use Rattle.replays.specs.Ahead.{Ahead, saidBy}
+use Rattle.replays.specs.Turned.{session-ahead, session-gap}
 use Rattle.replays.specs.Whole.{Same, replay-whole}
 use Rattle.engine.specs.Public.{blockIn}
-use Rattle.failover.specs.Demand3.{Demand3}
-use Rattle.failover.specs.Proof.{demand3}
+use Rattle.failover.specs.Demand3.{Demand3, pastFrames, pairsIn}
+use Rattle.failover.specs.Proof.{laws, demand3}
+use Rattle.failover.specs.Blocks.{image-blocks, walk-blocks, trace-blocks, begin-blocks, encode-blocks}
+use Rattle.delivery.specs.Blocks.{onReached, replay-blocks}
+use Rattle.delivery.specs.Shown.{runs-through}
 
--- What replay into an output of `room` octets reached: a state, octets, and why it ended; not stopped for want of room.
+-- What replay into an output of `room` octets reached: a state, octets, and why it ended.
 pub record Ended (x : Reached (List ℕ)) (state wrote : List ℕ) (stop : Option ℕ) : Type 0 where
   pub state-is : x .state ≡ state
   pub wrote-is : x .wrote ≡ wrote
   pub stop-is : x .stop ≡ stop
 
 -- Demand 3 of the calls, for an image saved after frame k of the state `at`.
---   accepted: `load` accepts the image and gives the block `at`.
---   goes-on: replay of the journal from frame j, 1 to k + 1, with room for what it writes, ends at the unbroken run's state, with exactly its
---     answers to frames k + 1 to n, one after another.
---   gapped: for j above k + 1 and at most n it stops by 2, with nothing written and the block as it was.
-pub record Delivered (fresh : List ℕ) (calls : List Call) (k : ℕ) (img at : List ℕ) : Type 0 where
+--   accepted, loaded: `load` accepts the image and gives the block `at`.
+--   goes-on: replay of the journal from frame j, 1 to k + 1, into an output with 2,880 octets behind what is to be written, ends at the unbroken
+--     run's state, with exactly its answers to frames k + 1 to n, one after another.
+--   gapped: for j above k + 1 and at most n, with 2,880 octets lent, the first line is refused by 2: nothing is read or written, the block is as
+--     it was.
+--   watched: the pairs that the image of the unbroken run's block lists are those that its past frames put under watch, each once, in the order
+--     of their latest starts.
+pub record Delivered (opcode : ℕ) (prefix : List ℕ) (calls : List Call) (k : ℕ) (img at : List ℕ) : Type 0 where
   pub accepted : isImage img ≡ true
   pub loaded : blockIn (isImage img) img ≡ at
   pub goes-on :
-      (j : ℕ) → 1 ≤ j → j ≤ k + 1 → (room : ℕ) → (replayInto engine room at (journal engine fresh calls j) .stop ≡ some 3 → ⊥)
-      → Ended (replayInto engine room at (journal engine fresh calls j)) (walk engine fresh calls) (flat (drop k (answers engine fresh calls))) none
+      (j : ℕ) → 1 ≤ j → j ≤ k + 1 → (room : ℕ) → length (flat (drop k (answers engine (begin opcode prefix) calls))) + answerRoom ≤ room
+      → Ended (replayInto engine room at (journal engine (begin opcode prefix) calls j)) (walk engine (begin opcode prefix) calls)
+      (flat (drop k (answers engine (begin opcode prefix) calls))) none
   pub gapped :
-      (j : ℕ) → k + 1 < j → j ≤ frames engine fresh calls → (room : ℕ)
-      → (replayInto engine room at (journal engine fresh calls j) .stop ≡ some 3 → ⊥)
-      → Ended (replayInto engine room at (journal engine fresh calls j)) at [] (some 2)
+      (j : ℕ) → k + 1 < j → j ≤ frames engine (begin opcode prefix) calls → (room : ℕ) → answerRoom ≤ room
+      → replayInto engine room at (journal engine (begin opcode prefix) calls j) ≡ record { state = at; wrote = []; taken = 0; stop = some 2 }
+  pub watched : ByHistory radio (pastFrames opcode prefix calls) (pairsIn (engine .encode (walk engine (begin opcode prefix) calls)))
 
 -- every line is lent 2,880 octets
 enough : Enough (λ i. answerRoom)
 enough i = omega arith
 
-decoded : (img at : List ℕ) → decode img ≡ some at → (isImage img ≡ true) × (blockIn (isImage img) img ≡ at)
-unfolding decode readImage blockOf blockIn pick
-decoded img at e = go (isImage img) e
+-- an image saved of a block is saved of the record that it holds
+saved-record : (lent : ℕ) (m : Model) (img : List ℕ) → onBlocks (image models lent m) ≡ done (padded m) img → (image models lent m ≡ done m img) × (img ≡ imageText m)
+unfolding image refuseIf onBlocks
+saved-record lent m img e = go (not (soundModel m)) (ltb lent saveRoom) e
   where
-    go : (b : Bool) → blockOf (pick b (some (heldIn img)) none) ≡ some at → (b ≡ true) × (blockIn b img ≡ at)
-    go true q = (refl, some-inj q)
-    go false q = absurd (none≢some q)
+    go : (a b : Bool) → onBlocks (refuseIf a 7 (refuseIf b 3 (done m (imageText m)))) ≡ done (padded m) img
+        → (refuseIf a 7 (refuseIf b 3 (done m (imageText m))) ≡ done m img) × (img ≡ imageText m)
+    go true b q = let z : _≡_ {A = ℕ} 0 1 = cc in absurd (omega arith)
+    go false true q = let z : _≡_ {A = ℕ} 0 1 = cc in absurd (omega arith)
+    go false false q = let u : imageText m ≡ img = cc in (ap (done m) u, sym u)
 
-ended : (room : ℕ) (s t state : List ℕ) (said : List (List ℕ)) (stop : Option ℕ) → (replayInto engine room s t .stop ≡ some 3 → ⊥)
-    → replay engine (λ i. answerRoom) s t ≡ record { state = state; answers = said; stop = stop } → Ended (replayInto engine room s t) state (flat said) stop
-ended room s t state said stop n e =
-    let w : Same [] (replayInto engine room s t) (replay engine (λ i. answerRoom) s t) = replay-whole engine room s t (λ i. answerRoom) n enough in
-    record {
-      state-is = w .state ∙ ap (λ (r : Replayed (List ℕ)). r .state) e;
-      wrote-is = w .wrote ∙ ap (λ (r : Replayed (List ℕ)). flat (r .answers)) e;
-      stop-is = w .stop ∙ ap (λ (r : Replayed (List ℕ)). r .stop) e;
-    }
+module _ (opcode : ℕ) (prefix : List ℕ) (ok : soundSettings opcode prefix ≡ true) (calls : List Call) where
+  abbrev start : Model
+  start = fresh opcode prefix
+
+  abbrev block : List ℕ
+  block = begin opcode prefix
+
+  -- the session over blocks is the session over records
+  trace-is : (cs : List Call) → trace engine block cs ≡ trace models start cs
+  trace-is cs = ap (λ (s : List ℕ). trace engine s cs) (begin-blocks opcode prefix ok) ∙ trace-blocks start (fresh-sound opcode prefix ok) cs
+
+  walk-is : (cs : List Call) → walk engine block cs ≡ padded (walk models start cs)
+  walk-is cs = ap (λ (s : List ℕ). walk engine s cs) (begin-blocks opcode prefix ok) ∙ walk-blocks start (fresh-sound opcode prefix ok) cs
+
+  walk-good : (cs : List Call) → soundModel (walk models start cs) ≡ true
+  walk-good cs = walk-sound models laws start (fresh-sound opcode prefix ok) cs
+
+  answers-are : answers engine block calls ≡ answers models start calls
+  unfolding answers
+  answers-are = ap (λ (es : List (Entry Body)). map (λ e. e .wrote) es) (trace-is calls)
+
+  journal-is : (j : ℕ) → journal engine block calls j ≡ journal models start calls j
+  unfolding journal linesOf executed
+  journal-is j = ap (λ (es : List (Entry Body)). flatten (map write (since j (map (λ e. e .line) es)))) (trace-is calls)
+
+  frames-are : (cs : List Call) → frames engine block cs ≡ frames models start cs
+  unfolding frames executed
+  frames-are cs = ap (λ (es : List (Entry Body)). length (map (λ e. e .line) es)) (trace-is cs)
+
+  -- an image saved in it after frame k, of the state `at`
+  module _ (k : ℕ) (img at : List ℕ) (sv : SavedAfter engine block calls k img at) where
+    abbrev middle : Model
+    middle = walk models start (sv .before)
+
+    abbrev rest : List Call
+    rest = save (sv .lent) ∷ sv .later
+
+    abbrev es : List (Entry Body)
+    es = trace models start (sv .before)
+
+    abbrev fs : List (Entry Body)
+    fs = trace models middle rest
+
+    at-is : at ≡ padded middle
+    at-is = sv .state ∙ walk-is (sv .before)
+
+    saved-is : (image models (sv .lent) middle ≡ done middle img) × (img ≡ imageText middle)
+    saved-is =
+        saved-record (sv .lent) middle img (sym (image-blocks middle (walk-good (sv .before)) (sv .lent))
+        ∙ subst (λ (s : List ℕ). image engine (sv .lent) s ≡ done s img) at-is (sv .saved))
+
+    over-records : SavedAfter models start calls k img middle
+    over-records =
+        record {
+          before = sv .before;
+          lent = sv .lent;
+          later = sv .later;
+          split = sv .split;
+          count = sv .count ∙ frames-are (sv .before);
+          state = refl;
+          saved = saved-is .0;
+        }
+
+    split : trace models start calls ≡ es ++ fs
+    split = ap (λ (cs : List Call). trace models start cs) (sv .split) ∙ trace-append models start (sv .before) rest
+
+    counted : k ≡ length es
+    unfolding frames executed
+    counted = sv .count ∙ frames-are (sv .before) ∙ length-map es (λ e. e .line)
+
+    left-said : flat (drop k (answers engine block calls)) ≡ saidBy fs
+    unfolding answers
+    left-said =
+        ap (λ (a : List (List ℕ)). flat (drop k a)) answers-are
+        ∙ ap (λ (x : List (Entry Body)). flat (drop k (map (λ e. e .wrote) x))) split
+        ∙ ap flat (drop-map (λ (e : Entry Body). e .wrote) k (es ++ fs))
+        ∙ ap (λ (i : ℕ). saidBy (drop i (es ++ fs))) counted ∙ ap saidBy (drop-append-seam es fs)
+
+    origin : start .position ≡ 0
+    unfolding fresh
+    origin = refl
+
+    replay-is : (room j : ℕ) → replayInto engine room at (journal engine block calls j) ≡ onReached (replayInto models room middle (journal models start calls j))
+    replay-is room j =
+        ap (λ (s : List ℕ). replayInto engine room s (journal engine block calls j)) at-is
+        ∙ ap (replayInto engine room (padded middle)) (journal-is j)
+        ∙ replay-blocks room (λ p. true) middle (walk-good (sv .before)) (journal models start calls j)
+
+    through : (j : ℕ) → 1 ≤ j → j ≤ k + 1 → (room : ℕ) → length (flat (drop k (answers engine block calls))) + answerRoom ≤ room
+        → replayInto models room middle (journal models start calls j) .stop ≡ none
+    through zero h i room big = absurd (not-suc-le-zero h)
+    through (suc i) h q room big =
+        runs-through room middle (walk models middle rest) (journal models start calls (suc i)) fs
+        (session-ahead models laws start middle (walk models middle rest) calls es fs split (runs models laws start (sv .before))
+        (runs models laws middle rest) origin (walk-good (sv .before)) i (omega (arith, counted)))
+        (subst (λ (l : List ℕ). length l + answerRoom ≤ room) left-said big) .0
+
+    goes-there : (j : ℕ) → 1 ≤ j → j ≤ k + 1 → (room : ℕ) → length (flat (drop k (answers engine block calls))) + answerRoom ≤ room
+        → Ended (replayInto engine room at (journal engine block calls j)) (walk engine block calls) (flat (drop k (answers engine block calls))) none
+    unfolding onReached flat
+    goes-there j h i room big =
+        let t : List ℕ = journal models start calls j in
+        let f : Failover models start calls k img middle = demand3 opcode prefix ok calls .images k img middle over-records in
+        let r = f .goes-on j h i (λ n. answerRoom) enough in
+        let w : Same [] (replayInto models room middle t) (replay models (λ n. answerRoom) middle t) =
+        replay-whole models room middle t (λ n. answerRoom) (λ z. none≢some (sym (through j h i room big) ∙ z)) enough in
+        let y = replay-is room j in
+        record {
+          state-is = ap (λ (x : Reached (List ℕ)). x .state) y ∙ ap padded (w .state ∙ ap (λ (v : Replayed Model). v .state) r) ∙ sym (walk-is calls);
+          wrote-is = ap (λ (x : Reached (List ℕ)). x .wrote) y ∙ w .wrote ∙ ap (λ (v : Replayed Model). flat (v .answers)) r
+              ∙ ap (λ (a : List (List ℕ)). flat (drop k a)) (sym answers-are);
+          stop-is = ap (λ (x : Reached (List ℕ)). x .stop) y ∙ w .stop ∙ ap (λ (v : Replayed Model). v .stop) r;
+        }
+
+    gap-there : (j : ℕ) → k + 1 < j → j ≤ frames engine block calls → (room : ℕ) → answerRoom ≤ room
+        → replayInto engine room at (journal engine block calls j) ≡ record { state = at; wrote = []; taken = 0; stop = some 2 }
+    unfolding onReached frames executed
+    gap-there zero h i room big = absurd (not-suc-le-zero h)
+    gap-there (suc i) h q room big =
+        let n : length (map (λ (e : Entry Body). e .line) (trace engine block calls)) ≡ length es + length fs =
+        frames-are calls ∙ length-map (trace models start calls) (λ e. e .line) ∙ ap length split ∙ length-append es fs in
+        replay-is room (suc i)
+        ∙ ap onReached (session-gap models laws start middle (walk models middle rest) calls es fs split (runs models laws start (sv .before))
+        (runs models laws middle rest) origin (walk-good (sv .before)) i (omega (arith, counted)) (omega (arith, counted, n)) room big)
+        ∙ ap (λ (s : List ℕ). record { state = s; wrote = []; taken = 0; stop = some 2 }) (sym at-is)
+
+    holds : Delivered opcode prefix calls k img at
+    unfolding blockIn
+    holds =
+        let i : isImage img ≡ true = ap isImage (saved-is .1) ∙ image-is middle (walk-good (sv .before)) in
+        record {
+          accepted = i;
+          loaded = ap (λ (b : Bool). blockIn b img) i ∙ ap (λ (t : List ℕ). padded (heldIn t)) (saved-is .1)
+              ∙ ap padded (held-image middle (walk-good (sv .before))) ∙ sym at-is;
+          goes-on = goes-there;
+          gapped = gap-there;
+          watched = subst (λ (t : List ℕ). ByHistory radio (pastFrames opcode prefix calls) (pairsIn t))
+              (sym (ap (engine .encode) (walk-is calls) ∙ encode-blocks (walk models start calls) (walk-good calls)))
+              (demand3 opcode prefix ok calls .by-history);
+        }
 
 -- Demand 3 holds of the calls: for all settings in range, every list of calls and every image saved in it.
 pub delivered : (opcode : ℕ) (prefix : List ℕ) → soundSettings opcode prefix ≡ true → (calls : List Call) (k : ℕ) (img at : List ℕ)
-    → SavedAfter engine (begin opcode prefix) calls k img at → Delivered (begin opcode prefix) calls k img at
-unfolding flat
-delivered opcode prefix ok calls k img at s =
-    let f : Failover engine (begin opcode prefix) calls k img at = demand3 opcode prefix ok calls .images k img at s in
-    let d = decoded img at (f .restored) in
-    record {
-      accepted = d .0;
-      loaded = d .1;
-      goes-on = λ j a b room n. ended room at (journal engine (begin opcode prefix) calls j) (walk engine (begin opcode prefix) calls)
-          (drop k (answers engine (begin opcode prefix) calls)) none n (f .goes-on j a b (λ i. answerRoom) enough);
-      gapped = λ j a b room n. ended room at (journal engine (begin opcode prefix) calls j) at [] (some 2) n (f .gapped j a b (λ i. answerRoom) enough);
-    }
+    → SavedAfter engine (begin opcode prefix) calls k img at → Delivered opcode prefix calls k img at
+delivered opcode prefix ok calls k img at sv = holds opcode prefix ok calls k img at sv

@@ -1,22 +1,31 @@
 -- Demand 3 as firmware sees it through the library for C: what the calls' contracts say of the octets lent and left and of the numbers
 -- returned, call after call. Document 01, Sessions and failover. `delivered` is the claim over the definitions; here a session is what was
 -- seen of it, so that no step from the contracts to the claim is left to a reader. Assumes nothing.
-use Prim.Native.Nat.{ℕ, zero, suc, _+_, _≤_, _<_}
+use Prim.Native.Nat.{ℕ, zero, suc, _+_, _-_, _≤_, _<_}
 use mathlib.Core.Path.{_≡_}
+use mathlib.Core.Bool.{Bool, true}
 use mathlib.Core.Logic.{_⊎_}
-use mathlib.Core.List.{List, [], _∷_, _++_, map, flatten}
+use mathlib.Core.Option.{Option, none, some}
+use mathlib.Core.List.{List, [], _∷_, _++_, map, flatten, reverse}
+use lib.Dec.{ltb}
 use lib.ListN.{length, take, drop}
 use Rattle.laws.specs.Put.{put}
 use Rattle.laws.specs.Tests.{pick}
 use Rattle.laws.specs.Rows.{flat}
-use Rattle.sessions.specs.Machine.{Form}
+use Rattle.rule.specs.Radio.{Frame, other}
+use Rattle.rule.specs.Claim.{ByHistory}
+use Rattle.sessions.specs.Machine.{Form, Line, text, answerRoom}
 use Rattle.sessions.specs.Session.{Call, give, save, answer, image, since}
 use Rattle.sessions.specs.Saved.{cut}
+use Rattle.model.specs.Frames.{Body, read}
 use Rattle.model.specs.Image.{isImage}
+use Rattle.model.specs.Block.{held}
 use Rattle.model.specs.Engine.{engine}
-use Rattle.replays.specs.Into.{replayInto}
+use Rattle.model.specs.Radio.{radio, core}
+use Rattle.replays.specs.Into.{replayWhile, replayInto}
 use Rattle.engine.specs.Public.{blockIn}
 use Rattle.bournejade.specs.Gives.{Gave, Replayed}
+use Rattle.failover.specs.Demand3.{pairsIn}
 use Rattle.delivery.specs.Given.{lineGiven}
 
 -- What firmware saw of one call: of a frame its form and octets, the output before, the block and the output after, the count and the
@@ -69,6 +78,14 @@ keptFrom j hs = flatten (since j (map (λ (h : Heard). h .line) hs))
 unfoldable pub answersOf : List Heard → List ℕ
 answersOf hs = flat (map (λ (h : Heard). h .answer) hs)
 
+-- the past frames, read from the lines kept, the newest first
+unfoldable pub frameRead : Option (Line Body) → Frame radio
+frameRead none = other
+frameRead (some x) = core (x .body)
+
+unfoldable pub framesKept : List Heard → List (Frame radio)
+framesKept hs = reverse (map (λ (h : Heard). frameRead (read text (h .line))) hs)
+
 -- What firmware saw of one call of replay: the part of the journal that it showed, the output before, the block and the output after, how far
 -- was read, how much was written, the number.
 pub record Turn : Type 0 where
@@ -81,18 +98,31 @@ pub record Turn : Type 0 where
   pub number : ℕ
 
 -- calls of replay one after another, from the block s with the text t unread to the block u with v unread: each was shown a part of what was
--- unread, as long as firmware liked, with an output of its own, and kept its contract (`bournejade_replay`)
-abbrev pub Turns : List ℕ → List ℕ → List Turn → List ℕ → List ℕ → Type 0
-Turns s t [] u v = (s ≡ u) × (t ≡ v)
-Turns s t (x ∷ xs) u v =
+-- unread, as long as firmware liked, with an output of its own, and kept its contract
+abbrev pub TurnsWhile : (ℕ → Bool) → List ℕ → List ℕ → List Turn → List ℕ → List ℕ → Type 0
+TurnsWhile goes s t [] u v = (s ≡ u) × (t ≡ v)
+TurnsWhile goes s t (x ∷ xs) u v =
     ((hidden : List ℕ) × (t ≡ x .shown ++ hidden))
-    × Replayed (replayInto engine (length (x .out)) s (x .shown)) (x .out) (x .block) (x .left) (x .taken) (x .count) (x .number)
-    × Turns (x .block) (drop (x .taken) t) xs u v
+    × Replayed (replayWhile engine goes (length (x .out)) s (x .shown)) (x .out) (x .block) (x .left) (x .taken) (x .count) (x .number)
+    × TurnsWhile goes (x .block) (drop (x .taken) t) xs u v
+
+-- .. of `bournejade_replay`
+abbrev pub Turns : List ℕ → List ℕ → List Turn → List ℕ → List ℕ → Type 0
+Turns s t xs u v = TurnsWhile (λ p. true) s t xs u v
+
+-- .. of `bournejade_replay_to` with this last frame
+abbrev pub TurnsTo : ℕ → List ℕ → List ℕ → List Turn → List ℕ → List ℕ → Type 0
+TurnsTo last s t xs u v = TurnsWhile (λ p. ltb p last) s t xs u v
 
 -- each of them returned 0 or 3
 abbrev pub Go : List Turn → Type 0
 Go [] = Unit {0}
 Go (x ∷ xs) = ((x .number ≡ 0) ⊎ (x .number ≡ 3)) × Go xs
+
+-- each was lent 2,880 octets and shown a whole line
+abbrev pub Busy : List Turn → Type 0
+Busy [] = Unit {0}
+Busy (x ∷ xs) = (answerRoom ≤ length (x .out)) × (cut (x .shown) ≡ [] → ⊥) × Busy xs
 
 -- the octets that they wrote, one behind another
 unfoldable pub writtenIn : List Turn → List ℕ
@@ -102,21 +132,37 @@ writtenIn (x ∷ xs) = take (x .count) (x .left) ++ writtenIn xs
 -- A session of the library in which an image was saved: what was kept before it, the block then, what was kept after it, the block at the
 -- end. A standby that is given the image and the journal kept from frame j on:
 --   restored: restoring returns 0 and leaves the block as it was at the save.
---   goes-on: for j from 1 to k + 1, k frames being executed before the save, replay into one output, unless it returns 3 (the output has to
---     be emptied), returns 0, leaves the block of the unbroken run and writes exactly the answers given after the save.
+--   goes-on: for j from 1 to k + 1, k frames being executed before the save, replay into one output that has 2,880 octets behind what is to be
+--     written returns 0, leaves the block of the unbroken run and writes exactly the answers given after the save.
 --   in-turns: however the journal is cut and the outputs are lent, every call returns 0 or 3; once no whole line is left unread the block is
 --     that of the unbroken run, and what was written is exactly the answers given after the save, once each.
---   gapped: for a later j, n at most, replay returns 2 and leaves the block and the output as they were.
+--   ends: of calls that were lent 2,880 octets and shown a whole line there are at most as many as the journal has lines.
+--   once: with replay up to the frame d, whose answers are dropped, until the position is d or no whole line is left, and then replay, what
+--     the latter writes is exactly the answers to frames above d and above k, once each.
+--   gapped: for a later j, n at most, replay into 2,880 octets returns 2 at the first line, and leaves the block and the output as they were.
+--   watched: the pairs that an image of the block at the end lists are exactly those that the frames kept put under watch, each once, in the
+--     order of their latest starts.
 pub record TakenOver (before later : List Heard) (at end img : List ℕ) : Type 0 where
   pub restored : (b : List ℕ) (r : ℕ) → r ≡ pick (isImage img) 0 10 → b ≡ blockIn (isImage img) img → (r ≡ 0) × (b ≡ at)
   pub goes-on :
       (j : ℕ) → 1 ≤ j → j ≤ length before + 1 → (out b left : List ℕ) (m n r : ℕ)
-      → Replayed (replayInto engine (length out) at (keptFrom j (before ++ later))) out b left m n r → (r ≡ 3 → ⊥)
+      → Replayed (replayInto engine (length out) at (keptFrom j (before ++ later))) out b left m n r
+      → length (answersOf later) + answerRoom ≤ length out
       → (r ≡ 0) × (b ≡ end) × (left ≡ put out 0 (answersOf later)) × (n ≡ length (answersOf later))
   pub in-turns :
       (j : ℕ) → 1 ≤ j → j ≤ length before + 1 → (xs : List Turn) (b rest : List ℕ) → Turns at (keptFrom j (before ++ later)) xs b rest
       → Go xs × (cut rest ≡ [] → (b ≡ end) × (writtenIn xs ≡ answersOf later))
+  pub ends :
+      (j : ℕ) → 1 ≤ j → j ≤ length before + 1 → (xs : List Turn) (b rest : List ℕ) → Turns at (keptFrom j (before ++ later)) xs b rest
+      → Busy xs → length xs ≤ length (cut (keptFrom j (before ++ later)))
+  pub once :
+      (d j : ℕ) → 1 ≤ j → j ≤ length before + 1 → (xs ys : List Turn) (c b more rest : List ℕ)
+      → TurnsTo d at (keptFrom j (before ++ later)) xs c more → (d ≤ held c .position) ⊎ (cut more ≡ []) → Turns c more ys b rest
+      → Go xs × Go ys × (cut rest ≡ [] → (b ≡ end) × (writtenIn ys ≡ answersOf (drop (d - length before) later)))
   pub gapped :
       (j : ℕ) → length before + 1 < j → j ≤ length before + length later → (out b left : List ℕ) (m n r : ℕ)
-      → Replayed (replayInto engine (length out) at (keptFrom j (before ++ later))) out b left m n r → (r ≡ 3 → ⊥)
-      → (r ≡ 2) × (b ≡ at) × (left ≡ out) × (n ≡ 0)
+      → Replayed (replayInto engine (length out) at (keptFrom j (before ++ later))) out b left m n r → answerRoom ≤ length out
+      → (r ≡ 2) × (b ≡ at) × (left ≡ out) × (m ≡ 0) × (n ≡ 0)
+  pub watched :
+      (out left : List ℕ) (n : ℕ) → Gave (image engine (length out) end) end out end left n 0
+      → ByHistory radio (framesKept (before ++ later)) (pairsIn (take n left))

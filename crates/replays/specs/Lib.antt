@@ -3,3 +3,5 @@ pub mod Into
 pub mod Pieces
 pub mod Whole
 pub mod GoesOn
+pub mod Ahead
+pub mod Turned

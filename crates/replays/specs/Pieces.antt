@@ -15,7 +15,7 @@ use lib.Seq.{drop-append-seam}
 use Rattle.laws.specs.Rows.{flat, flat-append}
 use Rattle.rule.specs.Base.{none≢some}
 use Rattle.sessions.specs.Machine.{Machine, Outcome, refused, done, LF, NoLF, text}
-use Rattle.sessions.specs.Session.{answer}
+use Rattle.sessions.specs.Session.{answer, stateAfter}
 use Rattle.sessions.specs.Saved.{cut, cutFrom}
 use Rattle.replays.specs.Into.{Reached, begun, reach, lineFrom, linesWhile, linesFrom, replayWhile, replayInto}
 
@@ -92,6 +92,17 @@ flat-cut t = flat-from [] t
 pub drop-lines : (t : List ℕ) → drop (length (flat (cut t))) t ≡ rest t
 drop-lines t =
     ap (λ (l : List ℕ). drop (length (flat (cut t))) l) (sym (flat-cut t)) ∙ drop-append-seam (flat (cut t)) (rest t)
+
+-- the state after a line is that of its outcome
+pub reach-state : {S : Type 0} (r : Reached S) (n : ℕ) (o : Outcome S) → reach r n o .state ≡ stateAfter (r .state) o
+unfolding reach stateAfter
+reach-state r n (done t a) = refl
+reach-state {S} r n (refused k) = go (eqb k 1)
+  where
+    go : (b : Bool) → cond {A = Reached S} b (record { state = r .state; wrote = r .wrote; taken = r .taken + n; stop = none })
+        (record { state = r .state; wrote = r .wrote; taken = r .taken; stop = some k }) .state ≡ r .state
+    go true = refl
+    go false = refl
 
 -- a line that did not stop is read
 pub reach-taken : {S : Type 0} (r : Reached S) (n : ℕ) (o : Outcome S) → reach r n o .stop ≡ none → reach r n o .taken ≡ r .taken + n
