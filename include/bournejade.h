@@ -6,13 +6,28 @@
  * nothing undefined and to give what is said here, for all octets in its buffers ("document 01" is the scope).
  *
  * What the caller owes:
- *  - each pointer is valid for the length that stands behind it, and not NULL, also where that length is 0;
+ *  - each pointer is valid for the length that stands behind it. NULL is allowed where that length is 0, for what is
+ *    read (prefix, frame, line, image, journal) and for an output (it is then too short: 3), never for state, wrote,
+ *    taken;
  *  - a buffer that a call may write overlaps no other buffer of that call;
  *  - a state is used by one call at a time. Different states may be used by different threads at once.
  *
  * A state is a block of 4,761 octets of the caller's, lent to each call and changed in place. It has no pointers and no
  * padding: it may be copied by memcpy and compared by memcmp, and two states are equal exactly when all their octets
  * are. Any octets in it are met: a block that is not a sound state is refused by 7.
+ *
+ * The order of steps. A gateway, for each frame: submit it; append its line to the journal; make that durable; only
+ * then deliver the answer, with the frame's number. A standby: restore the newest image at or before the number of
+ * the last answer that the host has; replay up to that number and drop the answers; replay frame by frame and
+ * deliver. Before more is appended, the journal is cut behind its last LF. docs/OPERATIONS.md says why,
+ * examples/gateway does it, docs/FORMATS.md has the formats octet by octet.
+ *
+ * What a call needs. Octets of stack, measured over journals (reference/stack): write_line none, save 144, submit
+ * 376, submit_line 760, replay 840 (replay_to as much), begin 4,808, restore 14,768. No memory beside that and the
+ * caller's buffers: a state of 4,761 octets, outputs of 2,880, 9,770 and 527. The code is 22 KB and reentrant. By the
+ * System V calling convention it uses the general registers and those of SSE2 (xmm0 to xmm15), no x87, MMX or AVX: a
+ * kernel or an interrupt handler saves these first. Every call's work is bounded, that of the replays by the length
+ * of the journal.
  *
  * Every call returns 0 or the number of a refusal. A refused call writes no octet of its output and leaves the state
  * as it was; refused settings (9) and a refused image (10) leave the blank state. On success the octets of an output
@@ -68,18 +83,26 @@ size_t bournejade_answer_size(void);
 size_t bournejade_image_size(void);
 size_t bournejade_line_size(void);
 
-/* Begin with settings: the vendor opcode (0xFC00 to 0xFFFF) and the event prefix (0 to 32 octets). The state is fresh:
- * position 0, filter off, no monitors. 9 and the blank state (opcode 0xFC00, no prefix) where a setting is out of range.
- * What stood in the state before does not matter. Never refused otherwise. */
+/* A life begins here, at the start and at each HCI_Reset: that is no frame (its opcode is refused by 6). Frame numbers
+ * begin at 1 again, so an image and a journal of different lives must never be used together; give each life a name.
+ *
+ * Begin with settings: the vendor opcode (0xFC00 to 0xFFFF) and the event prefix (0 to 32 octets). The state is
+ * fresh: position 0, filter off, no monitors. 9 and the blank state (opcode 0xFC00, no prefix) where a setting is out
+ * of range. What stood in the state before does not matter. Never refused otherwise. */
 uint8_t bournejade_begin(bournejade_state *state, uint16_t opcode, const uint8_t *prefix, size_t prefix_size);
 
-/* The number of the last executed frame (0: none yet): the next frame has the number above it. Of a block that is not
- * sound, the number that stands there. */
+/* The number of the last executed frame (0: none yet): the next frame has the number above it. The last number is
+ * 4,294,967,295 (at 110 frames a second after 452 days): then every frame is seen (1), and only a new life leads on.
+ * Of a block that is not sound, the number that stands there. */
 uint32_t bournejade_position(const bournejade_state *state);
 
-/* Give a frame as octets: kind (1 command, 2 packet, 3 tick), number (4, least octet first), payload. Its answer, all
- * the HCI events that it causes one behind another, perhaps none, is written at the front of out, and *wrote is its length
- * (0 at a refusal). Refusals, in this order: 7, 3, 4, 1, 2, 5, 6. */
+/* Give a frame as octets: kind, number (4, least octet first), payload:
+ *  - 1 command: opcode (2, least octet first), parameter length (1 to 255), parameters, the first the sub-opcode;
+ *  - 2 packet: event type 0 to 3, address type 0 or 1, address (6, least octet first), data length n (0 to 31), data,
+ *    RSSI (signed, -127 to 20 dBm; 127, "not available", and -128 are refused by 5: drop such a packet);
+ *  - 3 tick: nothing. One is given every 100 ms; the engine has no clock.
+ * Its answer, all the HCI events that it causes one behind another, perhaps none, is written at the front of out, and
+ * *wrote is its length (0 at a refusal). Refusals, in this order: 7, 3, 4, 1, 2, 5, 6. */
 uint8_t bournejade_submit(bournejade_state *state, const uint8_t *frame, size_t frame_size, uint8_t *out,
                           size_t out_size, size_t *wrote);
 
@@ -109,12 +132,12 @@ uint8_t bournejade_restore(bournejade_state *state, const uint8_t *image, size_t
 uint8_t bournejade_replay(bournejade_state *state, const uint8_t *journal, size_t journal_size, uint8_t *out,
                           size_t out_size, size_t *taken, size_t *wrote);
 
-/* Replay up to the frame `last`: the same, but a further line is read only while the position is below `last`. A standby
- * that knows the number of the last delivered answer replays up to it, drops what was written, and hands on what
- * bournejade_replay then writes: each answer is delivered once.
- *  - 0: the position is `last` or more, with *taken behind the line of the frame that made it so (0 where it was so
- *    already: seen lines are not read then), or all whole lines were read.
- *  - 3 and any other: as above. 7 only where the position that stands in the block is below `last`. */
+/* Replay as far as a frame: as bournejade_replay, but a further line is read only while the position is below last. With it
+ * a standby delivers each answer once (`docs/OPERATIONS.md`): up to the number of the last answer that the host has, and
+ * the output is dropped; then up to the position + 1, and the output is the answer of that frame; and so on to the end.
+ *  - 0: the position is last or more, with *taken behind the line of the frame that made it so (0 where it was so already:
+ *    seen lines are not read then), or all whole lines were read. A next call goes on at *taken.
+ *  - 3 and any other: as above. 7 only where the position that stands in the block is below last. */
 uint8_t bournejade_replay_to(bournejade_state *state, uint32_t last, const uint8_t *journal, size_t journal_size,
                              uint8_t *out, size_t out_size, size_t *taken, size_t *wrote);
 
