@@ -96,6 +96,27 @@ def samplings():
             yield made
 
 
+def equal():
+    """High equal to low (T-01): a start at that value, packets there and one above, a watch of 10 ticks; low above high."""
+    for shared in (-60, 20, -127):
+        made = Session("high equal to low at %d" % shared, enable=1)
+        made.add(of_device(1), interval=1, high=max(shared - 1, -127), low=max(shared, -126))
+        made.add(of_device(1), interval=1, high=shared, low=shared)
+        made.packet(1, max(shared - 1, -127))
+        made.ticks(2)
+        made.packet(1, shared, SMALL)
+        made.ticks(9)
+        made.packet(1, shared, SMALL)
+        made.ticks(2)
+        made.packet(1, shared)
+        made.ticks(9)
+        made.packet(1, min(shared + 1, 20), SMALL)
+        made.ticks(9)
+        made.packet(1, shared, SMALL)
+        made.ticks(2)
+        yield made
+
+
 def switched():
     for first in (0, 1):
         for at in range(0, 5):
@@ -285,7 +306,7 @@ def read(path):
 
 def main():
     reference, sessions, lines = sys.argv[1], [], []
-    kinds = (in_full, full, sixteen, windows, samplings, switched, ends, longest, counted, refused)
+    kinds = (in_full, full, sixteen, windows, samplings, equal, switched, ends, longest, counted, refused)
     with tempfile.TemporaryDirectory() as folder:
         for kind in kinds + (conditions, characters, images):
             for made in kind():

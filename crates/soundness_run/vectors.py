@@ -37,7 +37,7 @@ def monitor(row, place):
     handle, high, low, interval, sampling, kind, n = row[0], signed(row[1:2]), signed(row[2:3]), *row[3:7]
     if handle != place or n > 64 or any(row[7 + n:]):
         return None
-    if not (-127 <= high <= 20 and -127 <= low <= 20 and high > low and 1 <= interval <= 60):
+    if not (-127 <= high <= 20 and -127 <= low <= 20 and high >= low and 1 <= interval <= 60):
         return None
     return (interval, sampling) if well_formed(kind, row[7:7 + n]) else None
 
@@ -114,7 +114,7 @@ vectors = [
     ("octet in an empty row", [(MONITORS + 5, b"\1")], 0), ("octet behind the condition", [mon(0), (MONITORS + 14, b"\1")], 0),
     ("last octet of a row", [mon(0), (MONITORS + 70, b"\1")], 0),
     ("high 20", [mon(0, high=20)], 1), ("high 21", [mon(0, high=21)], 0), ("low -127", [mon(0, low=0x81)], 1),
-    ("low -128", [mon(0, low=0x80)], 0), ("high at low", [mon(0, high=0xB0)], 0), ("high one above", [mon(0, high=0xB1)], 1),
+    ("low -128", [mon(0, low=0x80)], 0), ("high at low", [mon(0, high=0xB0)], 1), ("low one above high", [mon(0, low=0xC5)], 0),
     ("interval 0", [mon(0, interval=0)], 0), ("interval 1", [mon(0, interval=1)], 1),
     ("interval 60", [mon(0, interval=60)], 1), ("interval 61", [mon(0, interval=61)], 0),
     ("type 0", [mon(0, kind=0)], 0), ("type 3", [mon(0, kind=3, condition=bytes(16))], 0), ("type 5", [mon(0, kind=5)], 0),

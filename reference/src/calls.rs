@@ -7,10 +7,11 @@
 
 use crate::block;
 use crate::cases::given;
+use crate::engine::Engine;
 use crate::fault::Fault;
 use crate::generate;
 use crate::history::History;
-use crate::limits::{ANSWER, IMAGE};
+use crate::limits::{ANSWER, IMAGE, MONITORS};
 use crate::lines;
 use crate::random::Random;
 use crate::script::{self, Call, Outcome};
@@ -60,16 +61,30 @@ pub fn scripts(seed: u64, count: usize) -> Vec<Stored> {
 }
 
 /// Is this script taken for a place? Most are short, a fourth have journals; some restore images or take up
-/// blocks, some are long.
+/// blocks, some are long, in some monitors are added while 16 are live.
 fn wanted(place: usize, calls: &[Call]) -> bool {
     let size: usize = calls.iter().map(|call| 7 + octets(call).len()).sum();
     let images = || calls.iter().any(|call| matches!(call, Call::Restore { .. } | Call::Adopt(_)));
+    if place % 64 == 24 {
+        return size < 5000 && crowded(calls) >= 3;
+    }
     match place % 32 {
         0 => (4000..9000).contains(&size),
         4 | 12 | 20 | 28 => size < 4400 && images(),
         n if n % 4 == 1 => (600..1600).contains(&size),
         _ => size < 700,
     }
+}
+
+/// How many frames that add a monitor are executed while 16 are live.
+fn crowded(calls: &[Call]) -> usize {
+    let mut follower = Timers::default();
+    let mut adds = |call: &Call| {
+        let full = follower.state().monitor_count as usize == MONITORS;
+        let executed = script::call(&mut follower, call).refusal == 0;
+        full && executed && given(call).is_some_and(|frame| frame[0] == 1 && frame.get(8) == Some(&0x03))
+    };
+    calls.iter().filter(|call| adds(call)).count()
 }
 
 /// A call; after a state that is not sound also a replay and a failover, which leave it as it is.

@@ -111,7 +111,7 @@ fn add(view: &View, parameters: &[u8], right_length: bool, fault: Fault) -> Resu
     if !threshold_in_range(high, fault) || !threshold_in_range(low, fault) {
         return fail(Rule::AddThreshold, INVALID_PARAMETERS);
     }
-    if !(high > low || (high == low && fault == Fault::EqualThresholds)) {
+    if low > high || (low == high && fault == Fault::EqualRefused) {
         return fail(Rule::AddOrder, INVALID_PARAMETERS);
     }
     if !interval_in_range(interval, fault) {
@@ -141,6 +141,9 @@ fn add(view: &View, parameters: &[u8], right_length: bool, fault: Fault) -> Resu
         return fail(Rule::AddFull, MEMORY_EXCEEDED);
     }
     hit(Rule::AddSuccess);
+    if high == low {
+        hit(Rule::AddEqual);
+    }
     if view.live.leading_zeros() < view.live.count_zeros() {
         hit(Rule::AddReused);
     }

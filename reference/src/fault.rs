@@ -54,7 +54,7 @@ faults! {
     FailedReadLong: "a failed 00 answers with features and prefix",
     FailedAddShort: "a failed 03 answers two octets",
     OtherSubZero: "another sub-opcode answers 01, 00",
-    EqualThresholds: "high equal to low is accepted",
+    EqualRefused: "high equal to low is refused",
     Threshold21: "threshold 21 is accepted",
     Threshold20Refused: "threshold 20 is refused",
     Interval0: "interval 0x00 is accepted",
@@ -121,6 +121,10 @@ faults! {
     SumUnsigned: "an image's sum is written without its sign",
     QuietNotChecked: "an image with 10 x interval ticks since a good packet is taken",
     PacketsNotChecked: "an image with more packets than the position is taken",
+    // Document 02, T-01.
+    SharedRestarts: "under watch a packet at the value of equal thresholds restarts the low count",
+    SharedStartStops: "a start at the value of equal thresholds stops at once",
+    SharedStartOneTick: "a start at the value of equal thresholds stops at the next tick",
 }
 
 impl Fault {

@@ -88,7 +88,10 @@ fn bare(refusal: Option<u8>) -> Outcome {
     Outcome { refusal: refusal.unwrap_or(0), written: Vec::new(), rest_kept: true }
 }
 
-pub fn lending(lent: usize, make: impl FnOnce(&mut [u8]) -> Result<usize, crate::refusal::Refusal>) -> Outcome {
+pub fn lending(
+    lent: usize,
+    make: impl FnOnce(&mut [u8]) -> Result<usize, crate::refusal::Refusal>,
+) -> Outcome {
     let mut out = vec![BEFORE; lent];
     let (refusal, length) = match make(&mut out) {
         Ok(length) => (0, length),

@@ -203,7 +203,7 @@ fn texts_that_are_no_images() {
         good.replace("FC02", "FB02"),
         good.replace("001EFC", "021EFC"),
         good.replace("A100C4B0", "A110C4B0"),
-        good.replace("C4B003", "B0B003"),
+        good.replace("C4B003", "AFB003"),
         good.replace("C4B003", "C4B000"),
         good.replace("C4B003", "C4B03D"),
         good.replace("0300040700", "0300030700"),
@@ -219,4 +219,7 @@ fn texts_that_are_no_images() {
     }
     assert!(is_image(good.replace("030201000000000000", "0302011D0000000000").as_bytes()), "29 of 30");
     assert!(is_image(good.replace("C4B003000407", "C4B003FE0407").as_bytes()));
+    assert!(is_image(good.replace("C4B003", "B0B003").as_bytes()), "equal thresholds");
+    assert!(is_image(good.replace("C4B003", "818103").as_bytes()), "equal at -127");
+    assert!(is_image(good.replace("C4B003", "141403").as_bytes()), "equal at 20");
 }

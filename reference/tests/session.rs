@@ -136,7 +136,6 @@ fn p5_thresholds() {
         assert_eq!(host.add(21, 20, 1, 0, 4, &ADDRESS), [0x12, 0x03, 0]);
         assert_eq!(host.add(-126, -127, 1, 0, 4, &ADDRESS), [0x00, 0x03, 2]);
         assert_eq!(host.add(-126, -128, 1, 0, 4, &ADDRESS), [0x12, 0x03, 0]);
-        assert_eq!(host.add(-60, -60, 1, 0, 4, &ADDRESS), [0x12, 0x03, 0]);
         assert_eq!(host.add(-60, -61, 1, 0, 4, &ADDRESS), [0x00, 0x03, 3]);
         assert_eq!(host.add(-61, -60, 1, 0, 4, &ADDRESS), [0x12, 0x03, 0]);
         assert_eq!(host.add(127, -60, 1, 0, 4, &ADDRESS), [0x12, 0x03, 0]);

@@ -43,6 +43,8 @@ images =
     (a0 ∷ "A10FC4B00300040700060504030201\n" ∷ "AF0100\n" ∷ []) ∷
     (a0 ∷ "A100C4B03C00040700060504030201\n" ∷ "AF0100\n" ∷ []) ∷
     (a0 ∷ a1 ∷ a2 ∷ "A200010605040302010000000000000000000000000000000000\n" ∷ "AF0102\n" ∷ []) ∷
+    -- high equal to low (T-01)
+    (a0 ∷ "A100B0B00300040700060504030201\n" ∷ "AF0100\n" ∷ []) ∷
     -- 29 ticks since a good packet, of an interval of 3 seconds
     (a0 ∷ a1 ∷ "A200000605040302011D00000000000000000000000000000000\n" ∷ "AF0101\n" ∷ []) ∷
     -- a window of 2 ticks: a packet at −60 with data; at −127 and at 20; as many packets as frames, with 31 octets
@@ -97,8 +99,8 @@ others =
     ("A002000000001EFC034D53\n" ∷ "AF0000\n" ∷ []) ∷
     ("A002000000001EFC014D53\n" ∷ "AF0000\n" ∷ []) ∷
     ("A002000000001EFC214D4D4D4D4D4D4D4D4D4D4D4D4D4D4D4D4D4D4D4D4D4D4D4D4D4D4D4D4D4D4D4D4D\n" ∷ "AF0000\n" ∷ []) ∷
-    -- monitors that 03 would not accept: high not above low, interval 61, type 3, a malformed condition
-    (a0 ∷ "A100B0B00300040700060504030201\n" ∷ "AF0100\n" ∷ []) ∷
+    -- monitors that 03 would not accept: low one above high, interval 61, type 3, a malformed condition
+    (a0 ∷ "A100B0B10300040700060504030201\n" ∷ "AF0100\n" ∷ []) ∷
     (a0 ∷ "A100C4B03D00040700060504030201\n" ∷ "AF0100\n" ∷ []) ∷
     (a0 ∷ "A100C4B00300030700060504030201\n" ∷ "AF0100\n" ∷ []) ∷
     (a0 ∷ "A100C4B003000406000605040302\n" ∷ "AF0100\n" ∷ []) ∷

@@ -24,11 +24,11 @@ disallowed = 0x0C
 abbrev pub unknown : ℕ
 unknown = 0x01
 
--- "high not above low" is refused
+-- T-01: "Accept equality; low above high stays 0x12"
 unfoldable pub ordered : ℕ → ℕ → Bool
-ordered high low = ltb (level low) (level high)
+ordered high low = leb (level low) (level high)
 
--- Commands, 03: "a threshold outside −127 to 20, high not above low, interval outside 0x01 to 0x3C": none of these
+-- Commands, 03: "a threshold outside −127 to 20", low above high (T-01), "interval outside 0x01 to 0x3C": none of these
 unfoldable pub settingsGood : ℕ → ℕ → ℕ → Bool
 settingsGood high low interval = inRange high && inRange low && ordered high low && leb 1 interval && leb interval 0x3C
 
@@ -56,7 +56,8 @@ monitorOf l =
 unfoldable pub matches : Monitor → Packet → Bool
 matches m p = meets (m .kind) (m .condition) (p .kind) (p .address) (p .adv)
 
--- "A packet is good if its RSSI is above low."
+-- "A packet is good if its RSSI is above low." T-01: "While under watch, a packet at the shared value is low." A start packet is good
+-- whatever `low` is: a pair starts with no ticks since a good packet (Watch, `startPair`).
 unfoldable pub good : Monitor → Packet → Bool
 good m p = ltb (level (m .low)) (level (p .rssi))
 

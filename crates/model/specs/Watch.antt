@@ -102,7 +102,8 @@ holds qs h d = someOf (isPair h d) qs
 unfoldable pub begins : Monitor → Packet → ℕ → List Pair → Bool
 begins m p h qs = matches m p && (strong m p && (not (holds qs h (deviceOf p)) && ltb (length qs) mostPairs))
 
--- a pair at its start: "The start packet is in no window"
+-- a pair at its start: "The start packet is in no window". T-01: "A start packet now counts as good even when its RSSI is not above
+-- low": no ticks have passed since a good packet.
 unfoldable pub startPair : ℕ → Packet → Pair
 startPair h p =
     record { handle = h; kind = p .kind; address = p .address; silent = 0; ticks = 0; packets = 0; sum = 0; event = 0; adv = [] }

@@ -79,7 +79,7 @@ pub fn answer_of(sub: u8) -> u8
     r.answer
 }
 
-// Whether thresholds and interval are in range, and high is above low.
+// Whether thresholds and interval are in range, and low is not above high.
 pub fn settings_good(high: u8, low: u8, interval: u8) -> bool
     ensures { λ r. ⌜ r ≡ settingsGood high low interval ⌝ }
 {
@@ -87,7 +87,7 @@ pub fn settings_good(high: u8, low: u8, interval: u8) -> bool
     let b = state::in_range(low);
     let h = state::level_of(high);
     let l = state::level_of(low);
-    a & b & (l < h) & (1 <= interval) & (interval <= 0x3C)
+    a & b & (l <= h) & (1 <= interval) & (interval <= 0x3C)
 }
 
 // The status that a condition gives: its type, its form, its length.

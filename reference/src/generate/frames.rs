@@ -103,12 +103,17 @@ impl Generator {
             (-126, -127),
             (20, -127),
             (-30, -90),
+            (-60, -60),
+            (-60, -60),
+            (0, 0),
+            (20, 20),
+            (-127, -127),
         ]);
         if self.random.percent(90) {
             return (high, low);
         }
-        let low = self.random.between(-127, 19);
-        (self.random.between(low + 1, 20) as i8, low as i8)
+        let low = self.random.between(-127, 20);
+        (self.random.between(low, 20) as i8, low as i8)
     }
 
     fn valid_monitor(&mut self) -> Vec<u8> {
@@ -151,7 +156,7 @@ impl Generator {
     pub(super) fn add_edge(&mut self) {
         let (high, low) = self.thresholds();
         let (kind, condition) = conditions::well_formed(&mut self.random, &self.devices);
-        let parameters = match self.random.below(22) {
+        let parameters = match self.random.below(24) {
             0 => monitor(high, low, 1, 0, kind, &condition)[..1 + self.random.below(5)].to_vec(),
             1 => monitor(20, 19, 1, 0, kind, &condition),
             2 => monitor(21, low, 1, 0, kind, &condition),
@@ -162,6 +167,8 @@ impl Generator {
             7 => monitor(127, low, 1, 0, kind, &condition),
             8 => monitor(high, high, 1, 0, kind, &condition),
             9 => monitor(low, high, 1, 0, kind, &condition),
+            22 => monitor(low.max(-126) - 1, low.max(-126), 1, 0, kind, &condition),
+            23 => monitor(-127, -127, self.random.pick(&[1, 60]), 0, kind, &condition),
             10 => monitor(high, low, self.random.pick(&[0, 61, 255]), 0, kind, &condition),
             11 => monitor(high, low, self.random.pick(&[1, 60]), 0, kind, &condition),
             12 => monitor(high, low, 1, 0, self.random.pick(&[0, 5, 255]), &condition),

@@ -18,8 +18,11 @@ pub fn devices(random: &mut Random) -> Vec<Device> {
 }
 
 fn monitor(random: &mut Random, handle: u8, known: &[Device]) -> Monitor {
-    let low = random.between(-127, 19) as i8;
-    let high = random.between(low as i64 + 1, 20) as i8;
+    let low = random.between(-127, 20) as i8;
+    let high = match random.percent(20) {
+        true => low,
+        false => random.between(low as i64, 20) as i8,
+    };
     let (kind, condition) = match random.below(8) {
         0 => (1, conditions::longest(random)),
         1..=3 => conditions::flags(),
@@ -169,7 +172,7 @@ pub fn broken(random: &mut Random, sound: &State, way: usize) -> Option<State> {
         8 if monitors > 1 => s.monitors.swap(0, 1),
         9 if monitors > 1 && pairs == 0 => s.monitors[1] = s.monitors[0],
         10 => s.monitors[monitors - 1].handle = random.pick(&[16, 255]),
-        11 => s.monitors[m].high = s.monitors[m].low,
+        11 => (s.monitors[m].high, s.monitors[m].low) = (s.monitors[m].low, s.monitors[m].high),
         12 => s.monitors[m].high = random.pick(&[21, 127]),
         13 => s.monitors[m].low = -128,
         14 if pairs == 0 => s.monitors[m].interval = 0,

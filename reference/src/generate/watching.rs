@@ -95,6 +95,9 @@ impl Generator {
             };
             self.command(&parameters);
         }
+        for _ in 0..self.random.pick(&[0, 0, 2, 6]) {
+            self.add_edge();
+        }
         if self.random.percent(50) {
             self.command(&[0x05, 1]);
         }

@@ -41,14 +41,16 @@ impl Past<'_> {
         })
     }
 
-    /// "A packet is good if its RSSI is above low."
+    /// "A packet is good if its RSSI is above low." The packets after the start: at equal thresholds one at the
+    /// shared value is low.
     fn good<'s>(&'s self, start: &'s Start, upto: usize) -> impl Iterator<Item = usize> + 's {
         let low = self.monitor(start).low;
         self.counting(start, upto).filter(move |(_, packet)| packet.rssi > low).map(|(i, _)| i)
     }
 
-    /// The runs of ticks without a good packet since a start: their lengths, the last one still open. What
-    /// a pair of the base holds stands for the ticks before the first frame.
+    /// The runs of ticks without a good packet since a start: their lengths, the last one still open. "A start
+    /// packet now counts as good even when its RSSI is not above low" (T-01): the first run begins at the start.
+    /// What a pair of the base holds stands for the ticks before the first frame.
     fn runs(&self, start: &Start, upto: usize) -> Vec<usize> {
         let mut ends: Vec<usize> = self.good(start, upto).collect();
         ends.push(upto);

@@ -6,7 +6,7 @@ use crate::coverage::{hit, Rule};
 use crate::event;
 use crate::fault::Fault;
 use crate::frame::Packet;
-use crate::limits::{DATA, PAIRS};
+use crate::limits::{Seconds, DATA, PAIRS};
 use crate::state::{Device, Monitor, Pair};
 
 impl Timers {
@@ -56,6 +56,11 @@ impl Timers {
                 if !(filter_off && self.fault == Fault::NoStartWhileOff) {
                     answer.extend(self.device_event(&packet.device, monitor.handle, true));
                 }
+                if self.fault == Fault::SharedStartStops && at_shared(monitor, packet) {
+                    answer.extend(self.device_event(&packet.device, monitor.handle, false));
+                    self.state.pair_count -= 1;
+                    self.state.pairs[self.state.pair_count as usize] = Pair::NONE;
+                }
                 tally.starts += 1;
                 tally.quiet_starts += (monitor.sampling == 0xFF) as usize;
                 tally.reasons += !(monitor.sampling == 0xFF && self.fault == Fault::NoStartReport) as usize;
@@ -101,8 +106,14 @@ impl Timers {
     fn take(&mut self, place: usize, monitor: &Monitor, packet: &Packet) {
         let fault = self.fault;
         let filter_off = self.state.filter == 0;
-        let good = packet.rssi > monitor.low || (packet.rssi == monitor.low && fault == Fault::GoodAtLow);
+        let shared = at_shared(monitor, packet);
+        let good = packet.rssi > monitor.low
+            || (packet.rssi == monitor.low && fault == Fault::GoodAtLow)
+            || (shared && fault == Fault::SharedRestarts);
         hit(if good { Rule::GoodPacket } else { Rule::LowPacket });
+        if shared {
+            hit(Rule::LowShared);
+        }
         let pair = &mut self.state.pairs[place];
         if good || fault == Fault::AnyPacketRestarts {
             pair.quiet = 0;
@@ -122,10 +133,16 @@ impl Timers {
         gather(pair, packet, fault);
     }
 
-    /// A start takes its room at once; its packet is in no window.
+    /// A start takes its room at once; its packet is in no window, and is good whatever low is (T-01).
     fn begin(&mut self, monitor: &Monitor, packet: &Packet) {
         hit(Rule::Start);
         let mut pair = Pair { handle: monitor.handle, device: packet.device, ..Pair::NONE };
+        if at_shared(monitor, packet) {
+            hit(Rule::StartShared);
+            if self.fault == Fault::SharedStartOneTick {
+                pair.quiet = Seconds(monitor.interval).ticks().0 - 1;
+            }
+        }
         if self.fault == Fault::StartInWindow && monitor.period().is_some() {
             gather(&mut pair, packet, self.fault);
         }
@@ -153,6 +170,11 @@ impl Timers {
             }
         }
     }
+}
+
+/// Is the packet at the value of equal thresholds?
+fn at_shared(monitor: &Monitor, packet: &Packet) -> bool {
+    monitor.high == monitor.low && packet.rssi == monitor.low
 }
 
 /// What happened at one packet: reasons for a report, starts, and starts that found no room.

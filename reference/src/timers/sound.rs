@@ -39,13 +39,13 @@ fn monitors_sound(state: &State, fault: Fault) -> bool {
 
 /// Every monitor as 0x03 would accept it.
 fn monitor_sound(m: &Monitor, fault: Fault) -> bool {
-    let thresholds = rssi_in_range(m.high) && rssi_in_range(m.low) && m.high > m.low;
-    let equal = fault == Fault::EqualThresholds && m.high == m.low;
+    let refused = fault == Fault::EqualRefused && m.high == m.low;
+    let thresholds = rssi_in_range(m.high) && rssi_in_range(m.low) && m.high >= m.low && !refused;
     let above = fault == Fault::Threshold21 && (m.high == 21 || m.low == 21);
     let interval = (INTERVAL_LEAST..=INTERVAL_MOST).contains(&m.interval)
         || (fault == Fault::Interval0 && m.interval == 0)
         || (fault == Fault::Interval61 && m.interval == 61);
-    (thresholds || equal || above)
+    (thresholds || above)
         && interval
         && m.length as usize <= CONDITION
         && form(m.kind, m.condition()) == Form::WellFormed

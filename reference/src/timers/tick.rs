@@ -102,6 +102,9 @@ impl Timers {
         if pair.packets > 0 && monitor.period() == Some(pair.window_ticks.saturating_add(1)) {
             hit(Rule::StopWindow);
         }
+        if monitor.high == monitor.low {
+            hit(Rule::StopShared);
+        }
         if monitor.interval == 60 {
             hit(Rule::StopSixtySeconds);
         }
