@@ -57,7 +57,7 @@ extern "C" {
 #define BOURNEJADE_FRAME_SIZE 263
 #define BOURNEJADE_PREFIX_SIZE 32
 
-/* The refusal numbers of document 01. 8 is never given. */
+/* The refusal numbers of document 01. 8 is not used (it stood for a full window, which cannot be: request T-11). */
 enum bournejade_refusal {
     BOURNEJADE_DONE = 0,
     BOURNEJADE_SEEN = 1,          /* the frame's number is at most the position: it was executed before */

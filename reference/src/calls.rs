@@ -222,7 +222,7 @@ fn tag(call: &Call) -> u8 {
 pub struct Census {
     /// Calls of each kind, in the order of `NAMES`; the save at each script's end is not counted.
     pub calls: [usize; 9],
-    /// Calls with refusal n, at place n.
+    /// Calls with refusal n, at place n; the number 8 is not used.
     pub refusals: [usize; 11],
     /// Sizes of pieces that are smaller than their text.
     pub sizes: BTreeSet<usize>,
@@ -256,7 +256,8 @@ impl Census {
         for (name, count) in NAMES.iter().zip(self.calls) {
             text += &format!("{count:>8} {name}\n");
         }
-        for (number, count) in self.refusals.iter().enumerate() {
+        // The number 8 is not used (T-11).
+        for (number, count) in self.refusals.iter().enumerate().filter(|(number, _)| *number != 8) {
             text += &format!("{count:>8} calls with refusal {number}\n");
         }
         text += &format!("{:>8} sizes of pieces below their text's length\n", self.sizes.len());

@@ -80,8 +80,7 @@ pub fn reached(seed: u64, count: u64) -> Vec<(Rule, &'static str, u64)> {
         let rules = coverage::take();
         counts.iter_mut().zip(rules).for_each(|(sum, n)| *sum += n);
         for outcome in outcomes.iter().filter(|o| o.refusal > 0) {
-            // The first ten rules are the refusals, in order.
-            counts[outcome.refusal as usize - 1] += 1;
+            counts[coverage::refusal(outcome.refusal)] += 1;
         }
     };
     let counts = shared(count, work, || vec![0; RULES.len()]);

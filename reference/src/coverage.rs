@@ -19,7 +19,6 @@ rules! {
     Refusal5: "refusal 5, payload",
     Refusal6: "refusal 6, other opcode",
     Refusal7: "refusal 7, state not sound",
-    Refusal8: "refusal 8, full window",
     Refusal9: "refusal 9, settings",
     Refusal10: "refusal 10, not an image",
     ReadSuccess: "00: success",
@@ -102,6 +101,12 @@ rules! {
 
 thread_local! {
     static COUNTS: [Cell<u64>; RULES.len()] = const { [const { Cell::new(0) }; RULES.len()] };
+}
+
+/// The place in `RULES` of a refusal's number.
+pub fn refusal(number: u8) -> usize {
+    let words = format!("refusal {number},");
+    RULES.iter().position(|(_, rule)| rule.starts_with(&words)).expect("a refusal of the list")
 }
 
 /// Count one more for this rule.

@@ -125,6 +125,8 @@ faults! {
     SharedRestarts: "under watch a packet at the value of equal thresholds restarts the low count",
     SharedStartStops: "a start at the value of equal thresholds stops at once",
     SharedStartOneTick: "a start at the value of equal thresholds stops at the next tick",
+    // T-11.
+    CountWraps: "a window that holds one packet more than the position is taken, and its count passes 4 octets",
 }
 
 impl Fault {

@@ -1,4 +1,5 @@
-//! Document 01, "Refusal numbers".
+//! Document 01, "Refusal numbers". Document 02, T-11: 8 cannot be given and is not in the list; the number is not used
+//! again.
 
 #[derive(Clone, Copy, PartialEq, Eq, Debug, PartialOrd, Ord)]
 pub enum Refusal {
@@ -9,7 +10,6 @@ pub enum Refusal {
     Payload,
     OtherOpcode,
     Unsound,
-    FullWindow,
     Settings,
     NotAnImage,
 }
@@ -25,7 +25,6 @@ impl Refusal {
             Refusal::Payload => 5,
             Refusal::OtherOpcode => 6,
             Refusal::Unsound => 7,
-            Refusal::FullWindow => 8,
             Refusal::Settings => 9,
             Refusal::NotAnImage => 10,
         }

@@ -12,7 +12,7 @@ use reference::timers::Timers;
 const SEED: u64 = 31;
 const COUNT: usize = 2000;
 
-/// Every kind of call, every refusal but 8, every size of a piece, texts shown whole.
+/// Every kind of call, every refusal (8 is not used), every size of a piece, texts shown whole.
 #[test]
 fn what_occurs() {
     let census = calls::census(&calls::scripts(SEED, COUNT));

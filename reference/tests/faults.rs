@@ -1,7 +1,6 @@
-//! Wrong builds are noticed, and the sessions reach every rule but refusal 8.
+//! Wrong builds are noticed, and the sessions reach every rule.
 
 use reference::compare;
-use reference::coverage::Rule;
 use reference::fault::{Fault, FAULTS};
 use reference::generate;
 use reference::script;
@@ -37,8 +36,8 @@ fn fault_numbers() {
 }
 
 #[test]
-fn every_rule_but_refusal_8_is_reached() {
-    for (rule, words, count) in compare::reached(SEED, MOST) {
-        assert_eq!(count == 0, rule == Rule::Refusal8, "{words}: {count}");
+fn every_rule_is_reached() {
+    for (_, words, count) in compare::reached(SEED, MOST) {
+        assert!(count > 0, "{words}");
     }
 }

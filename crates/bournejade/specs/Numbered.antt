@@ -16,7 +16,6 @@ use Rattle.sessions.specs.Saved.{cut}
 use Rattle.model.specs.Types.{Model}
 use Rattle.model.specs.Frames.{Body, Typed, command, packet, tick, bad, typed, read}
 use Rattle.model.specs.Step.{act, actTyped, refusalTyped, stepTyped, answerTyped}
-use Rattle.model.specs.Watch.{windowFull}
 use Rattle.model.specs.Engine.{engine, actBlock, onBlocks}
 use Rattle.model.specs.Block.{held}
 use Rattle.replays.specs.Into.{Reached, begun, reach, lineFrom, linesWhile, replayWhile}
@@ -48,11 +47,7 @@ known-typed m (command o l) = go (eqb o (m .opcode))
     go : (b : Bool) → known (pick (eqb (pick b 0 6) 0) (done (stepTyped m (command o l)) (answerTyped m (command o l))) (refused (pick b 0 6))) ≡ true
     go true = refl
     go false = refl
-known-typed m (packet p) = go (windowFull m p)
-  where
-    go : (b : Bool) → known (pick (eqb (pick b 8 0) 0) (done (stepTyped m (packet p)) (answerTyped m (packet p))) (refused (pick b 8 0))) ≡ true
-    go true = refl
-    go false = refl
+known-typed m (packet p) = refl
 known-typed m tick = refl
 known-typed m bad = refl
 

@@ -1,9 +1,9 @@
 -- The number of each refusal (document 01, Refusal numbers). Assumes nothing.
 use Prim.Native.Nat.{ℕ}
 use Rattle.lines.specs.declared.Refusal.{Refusal}
-use Rattle.lines.specs.declared.Refusal.the-variants.{Seen, Gap, Short, NotLine, BadPayload, OtherOpcode, Unsound, WindowFull, BadSettings, NotImage}
+use Rattle.lines.specs.declared.Refusal.the-variants.{Seen, Gap, Short, NotLine, BadPayload, OtherOpcode, Unsound, BadSettings, NotImage}
 
--- document 01's number of a refusal, the first column of its table
+-- document 01's number of a refusal, the first column of its table; 8 is not used again (T-11)
 unfoldable pub number : Refusal → ℕ
 number Seen = 1
 number Gap = 2
@@ -12,6 +12,5 @@ number NotLine = 4
 number BadPayload = 5
 number OtherOpcode = 6
 number Unsound = 7
-number WindowFull = 8
 number BadSettings = 9
 number NotImage = 10

@@ -260,7 +260,6 @@ fn numbers() {
     show_number(Refusal::BadPayload);
     show_number(Refusal::OtherOpcode);
     show_number(Refusal::Unsound);
-    show_number(Refusal::WindowFull);
     show_number(Refusal::BadSettings);
     show_number(Refusal::NotImage);
 }

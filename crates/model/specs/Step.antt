@@ -1,4 +1,4 @@
--- One step: what a frame with the next number does. Document 01, Refusal numbers (5, 6, 8), Commands, Watching, by history.
+-- One step: what a frame with the next number does. Document 01, Refusal numbers (5, 6), Commands, Watching, by history.
 -- The refusals 7, 3, 4, 1, 2 come before, in `answer` of the crate sessions.
 use Prim.Native.Nat.{ℕ}
 use mathlib.Core.List.{List, []}
@@ -9,7 +9,7 @@ use Rattle.model.specs.Types.{Model, Packet, Pair, withLists, moved}
 use Rattle.model.specs.Frames.{Body, Typed, command, packet, tick, bad, typed}
 use Rattle.model.specs.Commands.{commanded, returned}
 use Rattle.model.specs.Events.{complete}
-use Rattle.model.specs.Watch.{packetPairs, packetAnswer, windowFull, tickPairs, tickAnswer}
+use Rattle.model.specs.Watch.{packetPairs, packetAnswer, tickPairs, tickAnswer}
 
 -- the state after a frame: "The position is the number of the last executed frame."
 unfoldable pub stepTyped : Model → Typed → Model
@@ -25,16 +25,16 @@ answerTyped m (packet p) = packetAnswer m p
 answerTyped m tick = tickAnswer m
 answerTyped m bad = []
 
--- the refusal of a frame, 5, 6 or 8, or 0 where it is executed
+-- the refusal of a frame, 5 or 6, or 0 where it is executed
 unfoldable pub refusalTyped : Model → Typed → ℕ
 refusalTyped m (command opcode l) = pick (eqb opcode (m .opcode)) 0 6
-refusalTyped m (packet p) = pick (windowFull m p) 8 0
+refusalTyped m (packet p) = 0
 refusalTyped m tick = 0
 refusalTyped m bad = 5
 
 unfoldable pub actTyped : Model → Typed → Outcome Model
 actTyped m f = pick (eqb (refusalTyped m f) 0) (done (stepTyped m f) (answerTyped m f)) (refused (refusalTyped m f))
 
--- a frame's body: refused by 5, 6 or 8, in this order, or executed
+-- a frame's body: refused by 5 or 6, in this order, or executed
 unfoldable pub act : Model → Body → Outcome Model
 act m b = actTyped m (typed b)

@@ -139,14 +139,6 @@ reported m p =
 unfoldable pub packetAnswer : Model → Packet → List ℕ
 packetAnswer m p = each (startEvent (m .prefix)) (startsOf m p) ++ when (reported m p) (packetReport p)
 
--- Refusal 8: "a sampling window already holds 4,294,967,295 packets and would take one more"
-unfoldable pub overfull : Option Monitor → Packet → Pair → Bool
-overfull none p q = false
-overfull (some m) p q = counts m p q && (windowed m && leb 4294967295 (q .packets))
-
-unfoldable pub windowFull : Model → Packet → Bool
-windowFull m p = someOf (λ q. overfull (find (m .mons) (q .handle)) p q) (m .pairs)
-
 -- the watch goes on over one tick more: "The tick that completes such a run ends the watch. Silence counts as low (H)."
 unfoldable pub goesOn : Monitor → Pair → Bool
 goesOn m q = ltb (q .silent + 1) (runOf m)

@@ -305,7 +305,7 @@ fn step(s: &mut [u8], payload: &[u8], out: &mut [u8]) -> usize
 // Where the block is not of 4,761 octets, out has under 2,880, or the payload is not of 10 + n octets with n at most 31, nothing
 // is changed and the answer is 0. Else, for a block that is of no sound state before the last number, or a payload that is of no
 // packet frame, it is not settled here what the block and out hold and what is answered; the answer is at most the length of out.
-// Refusal 8 is not asked for: no window of a sound state is full before the last number (crate steps, never-eight).
+// No window of a sound state is full before the last number (crate steps, Counts).
 pub fn packet(s: &mut [u8], payload: &[u8], out: &mut [u8]) -> usize
     ensures { λ r. ⌜ ((m : Model) → soundModel m ≡ true → now (s .entry) ≡ padded m → m .position < lastNumber → isPacket (now (payload .entry)) ≡ true → answerRoom ≤ length (now (out .entry)) → Stepped m (packetFrame (packetOf (now (payload .entry)))) (now (s .exit)) (now (out .entry)) (now (out .exit)) r) ⌝ }
     ensures within { λ r. ⌜ r ≤ length (now (out .entry)) ⌝ }

@@ -136,7 +136,7 @@ toySaved = record { at = 1; sum = 5 }
 -- Its second save is of frame 1 ..
 pub toy-saved : SavedAfter toy toyFresh toyCalls 1 (1 ∷ 5 ∷ []) toySaved
 unfolding frames executed trace walk ran after reply answer judge image refuseIf stateAfter entries
-    answerRoom saveRoom lastNumber
+    lastNumber
 toy-saved =
     record {
       before =
@@ -163,5 +163,5 @@ pub toy-replayed :
     ≡ record { state = record { at = 2; sum = 12 }; answers = (12 ∷ []) ∷ []; stop = none }
 unfolding replay replayLines resume withAnswer cut cutFrom journal linesOf flatten since
     executed trace ran after reply answer judge image refuseIf stateAfter entries
-    answerRoom saveRoom lastNumber
+    lastNumber
 toy-replayed = refl

@@ -18,7 +18,7 @@ use Rattle.model.specs.Types.{Model, Monitor, Packet, Pair, withLists, moved, f
 use Rattle.model.specs.Monitors.{windowed}
 use Rattle.model.specs.Frames.{Body, Typed, command, packet, tick, bad, typed}
 use Rattle.model.specs.Commands.{commanded}
-use Rattle.model.specs.Watch.{counts, overfull, windowFull, packetPairs, tickPairs}
+use Rattle.model.specs.Watch.{packetPairs, tickPairs}
 use Rattle.model.specs.Step.{stepTyped, answerTyped, refusalTyped, actTyped, act}
 use Rattle.model.specs.Sound.{soundSettings, soundModel}
 use Rattle.steps.specs.Lists.{all-weaken}
@@ -90,65 +90,3 @@ fresh-sound opcode prefix e =
 pub blank-sound : soundModel blank ≡ true
 unfolding blank soundSettings Rattle.model.specs.Sound.octetsUpTo every
 blank-sound = fresh-sound 64512 [] refl
-
--- Refusal 8: a window holds at most as many packets as frames were executed, so it is never full before the last
--- number.
-some-none : {A : Type 0} (f : A → Bool) (l : List A) → All (λ x. f x ≡ false) l → someOf f l ≡ false
-unfolding someOf
-some-none f [] a = refl
-some-none f (x ∷ l) a = rw (a .0, some-none f l (a .1))
-
-pub never-overfull : (k : ℕ) (m : Monitor) (p : Packet) (q : Pair) → k < 4294967295 → Kept k m q
-    → overfull (some m) p q ≡ false
-unfolding overfull
-never-overfull k m p q h s =
-    by-test (windowed m)
-    (λ w. let g : Gathers k m q = gathers-of k m q w (s .window) in
-    and-not-right (counts m p q) (windowed m && leb 4294967295 (q .packets))
-    (and-not-right (windowed m) (leb 4294967295 (q .packets))
-    (lt-leb 4294967295 (q .packets) (omega (arith, h, g .packets-most)))))
-    (λ w. and-not-right (counts m p q) (windowed m && leb 4294967295 (q .packets))
-    (and-not-left (windowed m) (leb 4294967295 (q .packets)) w))
-
-pub never-full : (m : Model) (p : Packet) → soundModel m ≡ true → m .position < lastNumber → windowFull m p ≡ false
-unfolding lastNumber windowFull
-never-full m p s h =
-    let f : Pair → Bool = λ q. overfull (find (m .mons) (q .handle)) p q in
-    some-none f (m .pairs)
-    (all-weaken (Held (m .position) (m .mons)) (λ q. f q ≡ false) one (m .pairs) (sound-of m s .pairs .held))
-  where
-    one : (q : Pair) → Held (m .position) (m .mons) q → overfull (find (m .mons) (q .handle)) p q ≡ false
-    one q t =
-        ap (λ (o : Option Monitor). overfull o p q) (t .live) ∙ never-overfull (m .position) (t .mon) p q h (t .kept)
-
--- every packet of right form is executed
-pub packet-passes : (m : Model) (p : Packet) → soundModel m ≡ true → m .position < lastNumber
-    → refusalTyped m (packet p) ≡ 0
-unfolding refusalTyped
-packet-passes m p s h = pick-false 8 0 (never-full m p s h)
-
--- a frame is refused by its refusal number
-pub refused-by : (m : Model) (b : Body) (n : ℕ) → act m b ≡ refused n → refusalTyped m (typed b) ≡ n
-unfolding act actTyped pick
-refused-by m b n e = go (typed b) (eqb (refusalTyped m (typed b)) 0) e
-  where
-    go : (f : Typed) (t : Bool)
-        → pick t (done (stepTyped m f) (answerTyped m f)) (refused (refusalTyped m f)) ≡ refused n
-        → refusalTyped m f ≡ n
-    go f true u = cc
-    go f false u = cc
-
--- so refusal 8 is never given to a sound state before the last number
-pub never-eight : (m : Model) (b : Body) → soundModel m ≡ true → m .position < lastNumber → act m b ≡ refused 8 → ⊥
-unfolding refusalTyped pick
-never-eight m b s h e = go (typed b) (refused-by m b 8 e)
-  where
-    at : (t : Bool) → pick {A = ℕ} t 0 6 ≡ 8 → ⊥
-    at true w = omega arith
-    at false w = omega arith
-
-    go : (f : Typed) → refusalTyped m f ≡ 8 → ⊥
-    go (command o l) w = at (eqb o (m .opcode)) w
-    go (packet p) w = let z : _≡_ {A = ℕ} 0 8 = sym (packet-passes m p s h) ∙ w in omega arith
-    go tick w = omega arith
-    go bad w = omega arith

@@ -9,6 +9,7 @@ pub mod Turns
 pub mod Orders
 pub mod Executed
 pub mod Keeps
+pub mod Counts
 pub mod Starts
 pub mod Sizes
 pub mod Answers

@@ -23,7 +23,7 @@ impl Default for Library {
 pub fn refusal(number: u8) -> Refusal {
     use Refusal::*;
     let all =
-        [Seen, Gap, ShortOutput, NotALine, Payload, OtherOpcode, Unsound, FullWindow, Settings, NotAnImage];
+        [Seen, Gap, ShortOutput, NotALine, Payload, OtherOpcode, Unsound, Settings, NotAnImage];
     all.into_iter().find(|r| r.number() == number).expect("the library gives numbers of document 01")
 }
 

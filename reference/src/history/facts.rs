@@ -128,21 +128,6 @@ impl Facts {
         }
         self.starts.extend(new);
     }
-
-    /// Refusal 8.
-    pub fn window_is_full(&self, base: &State, frames: &[Payload], packet: &Packet) -> bool {
-        let past = Past { base, frames, facts: self };
-        let now = frames.len();
-        let mask = self.matching_now(packet);
-        self.starts.iter().any(|start| {
-            let monitor = &self.lives[start.life].monitor;
-            start.device == packet.device
-                && mask >> monitor.handle & 1 == 1
-                && monitor.period().is_some()
-                && past.watched_since(start, now)
-                && past.open_window(start, now).count == u32::MAX as u64
-        })
-    }
 }
 
 /// The filter after these frames: what the last 05 with a valid enable asked for. (One that asks for the

@@ -10,14 +10,6 @@ use crate::limits::{Seconds, DATA, PAIRS};
 use crate::state::{Device, Monitor, Pair};
 
 impl Timers {
-    /// Refusal 8: a sampling window that holds 4,294,967,295 packets would take one more.
-    pub(super) fn window_is_full(&self, packet: &Packet) -> bool {
-        self.matching(packet).iter().any(|monitor| {
-            let held = self.held(monitor.handle, &packet.device).map(|place| &self.state.pairs[place]);
-            monitor.period().is_some() && held.is_some_and(|pair| pair.packets == u32::MAX)
-        })
-    }
-
     /// The live monitors whose condition the packet matches, handles ascending.
     fn matching(&self, packet: &Packet) -> Vec<Monitor> {
         let matches = |m: &&Monitor| condition::matches(m.kind, m.condition(), packet, self.fault);
@@ -202,10 +194,15 @@ impl Tally {
     }
 }
 
-/// Put a packet into a pair's window: count, sum, and the latest packet.
+/// Put a packet into a pair's window: count, sum, and the latest packet. A window holds no more packets than the
+/// position, and a frame is executed only below the last number, so the count fits 4 octets (T-11).
 fn gather(pair: &mut Pair, packet: &Packet, fault: Fault) {
     let first = pair.packets == 0;
-    pair.packets += if fault == Fault::InventedCount { 2 } else { 1 };
+    pair.packets = match fault {
+        Fault::InventedCount => pair.packets.wrapping_add(2),
+        Fault::CountWraps | Fault::PacketsNotChecked => pair.packets.wrapping_add(1),
+        _ => pair.packets.checked_add(1).expect("a count of 4 octets"),
+    };
     pair.sum += packet.rssi as i64;
     if fault == Fault::WindowKeepsFirst && !first {
         return;

@@ -55,10 +55,15 @@ fn monitor_sound(m: &Monitor, fault: Fault) -> bool {
 fn pair_sound(state: &State, pair: &Pair, fault: Fault) -> bool {
     let Some(monitor) = state.monitor(pair.handle) else { return false };
     let packets = pair.packets as i64;
+    let packets_taken = match fault {
+        Fault::PacketsNotChecked => true,
+        Fault::CountWraps => packets == state.position as i64 + 1,
+        _ => false,
+    };
     let window = match monitor.period() {
         Some(period) => {
             pair.window_ticks < period
-                && (pair.packets <= state.position || fault == Fault::PacketsNotChecked)
+                && (pair.packets <= state.position || packets_taken)
                 && pair.sum >= -127 * packets
                 && pair.sum <= 20 * packets
         }
