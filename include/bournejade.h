@@ -23,15 +23,16 @@
  * examples/gateway does it, docs/FORMATS.md has the formats octet by octet.
  *
  * What a call needs. Octets of stack, measured over journals (reference/stack): write_line none, save 144, submit
- * 376, submit_line 760, replay 840 (replay_to as much), begin 4,808, restore 14,768. No memory beside that and the
+ * 376, submit_line 760, replay and replay_to 904, begin 4,808, restore 14,768. No memory beside that and the
  * caller's buffers: a state of 4,761 octets, outputs of 2,880, 9,770 and 527. The code is 22 KB and reentrant. By the
  * System V calling convention it uses the general registers and those of SSE2 (xmm0 to xmm15), no x87, MMX or AVX: a
  * kernel or an interrupt handler saves these first. Every call's work is bounded, that of the replays by the length
  * of the journal.
  *
  * Every call returns 0 or the number of a refusal. A refused call writes no octet of its output and leaves the state
- * as it was; refused settings (9) and a refused image (10) leave the blank state. On success the octets of an output
- * past those written stay as they were.
+ * as it was; refused settings (9) and a refused image (10) leave the blank state. A replay that returns a refusal may
+ * have executed lines before the one refused: the state and the output then hold what those lines left. The octets of
+ * an output past those written stay as they were.
  */
 #ifndef BOURNEJADE_H
 #define BOURNEJADE_H

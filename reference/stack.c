@@ -8,9 +8,10 @@
 #include <string.h>
 #include <ucontext.h>
 
-enum { BEGIN, SUBMIT, SUBMIT_LINE, WRITE_LINE, REPLAY, SAVE, RESTORE, NOTHING, FILL = 0x5A };
+enum { BEGIN, SUBMIT, SUBMIT_LINE, WRITE_LINE, REPLAY_TO, REPLAY, SAVE, RESTORE, NOTHING, FILL = 0x5A };
 
-static const char *const names[] = {"begin", "submit", "submit_line", "write_line", "replay", "save", "restore"};
+static const char *const names[] = {"begin", "submit", "submit_line", "write_line", "replay_to", "replay", "save",
+                                    "restore"};
 static uint8_t stack[1 << 16] __attribute__((aligned(16)));
 static ucontext_t here, there;
 static bournejade_state state;
@@ -30,6 +31,8 @@ static void call(void)
         bournejade_submit_line(&state, text, line_size, out, sizeof out, &wrote);
     else if (which == WRITE_LINE)
         bournejade_write_line(frame, frame_size, out, sizeof out, &wrote);
+    else if (which == REPLAY_TO)
+        bournejade_replay_to(&state, UINT32_MAX, text, line_size, out, sizeof out, &taken, &wrote);
     else if (which == REPLAY)
         bournejade_replay(&state, text, line_size, out, sizeof out, &taken, &wrote);
     else if (which == SAVE)
@@ -67,6 +70,8 @@ static void one_line(void)
     measure(SUBMIT);
     state = before;
     measure(SUBMIT_LINE);
+    state = before;
+    measure(REPLAY_TO);
     state = before;
     measure(REPLAY);
 }

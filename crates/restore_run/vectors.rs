@@ -4,40 +4,9 @@
 use reference::engine::Engine;
 use reference::generate::{states, texts};
 use reference::random::Random;
-use reference::state::State;
 use reference::timers::Timers;
-use reference::{image, lines};
+use reference::{block, image, lines};
 use std::{env, fs, path::Path};
-
-/// The block of a state: A0's fields in 40 octets, a row of 71 for each handle, rows of 56 for the pairs, their number.
-fn block(s: &State) -> Vec<u8> {
-    let mut b = vec![0; 4761];
-    b[0..4].copy_from_slice(&s.position.to_le_bytes());
-    b[4] = s.filter;
-    b[5..7].copy_from_slice(&s.opcode.to_le_bytes());
-    b[7] = s.prefix_length;
-    b[8..8 + s.prefix().len()].copy_from_slice(s.prefix());
-    for m in s.monitors() {
-        let row = &mut b[40 + 71 * m.handle as usize..][..71];
-        row[..7].copy_from_slice(&[m.handle, m.high as u8, m.low as u8, m.interval, m.sampling, m.kind, m.length]);
-        row[7..7 + m.condition().len()].copy_from_slice(m.condition());
-    }
-    for (i, p) in s.pairs().iter().enumerate() {
-        let row = &mut b[1176 + 56 * i..][..56];
-        row[0] = p.handle;
-        row[1] = p.device.kind;
-        row[2..8].copy_from_slice(&p.device.address);
-        row[8..10].copy_from_slice(&p.quiet.to_le_bytes());
-        row[10] = p.window_ticks;
-        row[11..15].copy_from_slice(&p.packets.to_le_bytes());
-        row[15..23].copy_from_slice(&p.sum.to_le_bytes());
-        row[23] = p.event_type;
-        row[24] = p.n;
-        row[25..25 + p.latest().len()].copy_from_slice(p.latest());
-    }
-    b[4760] = s.pair_count;
-    b
-}
 
 fn mix(d: u64, x: u64) -> u64 {
     ((d % 1000003) * 31 + x % 1000003 + 1) % 1000003
@@ -51,7 +20,7 @@ fn digest(octets: &[u8]) -> u64 {
 fn answer(text: &[u8]) -> u64 {
     let mut engine = Timers::default();
     match engine.restore(text) {
-        Ok(()) => 1 + mix(digest(&block(&engine.state())), digest(&image::text(&engine.state()))),
+        Ok(()) => 1 + mix(digest(&block::of(&engine.state()).expect("the block of a restored state")), digest(&image::text(&engine.state()))),
         Err(_) => 0,
     }
 }

@@ -8,7 +8,11 @@ with 16 monitors and 64 pairs; with `fresh`, 65,535 checks of a fresh one.
 """
 import sys
 
-MONITORS, PAIRS, COUNT, SIZE = 40, 1176, 4760, 4761
+# The block (docs/DESIGN.md): the head, sixteen rows of monitors, sixty-four rows of pairs, their number.
+HEAD, MONITOR, PAIR = 40, 71, 56
+MONITORS, PAIRS = HEAD, HEAD + 16 * MONITOR
+COUNT = PAIRS + 64 * PAIR
+SIZE = COUNT + 1
 
 
 def signed(octets):
@@ -62,10 +66,10 @@ def pair(row, monitors, position):
 def sound(b):
     if len(b) != SIZE or b[4] > 1 or int.from_bytes(b[5:7], "little") < 0xFC00 or b[7] > 32 or any(b[8 + b[7]:40]):
         return False
-    monitors = [monitor(b[MONITORS + 71 * h:MONITORS + 71 * h + 71], h) for h in range(16)]
-    if None in monitors or b[COUNT] > 64 or any(b[PAIRS + 56 * b[COUNT]:COUNT]):
+    monitors = [monitor(b[MONITORS + MONITOR * h:MONITORS + MONITOR * h + MONITOR], h) for h in range(16)]
+    if None in monitors or b[COUNT] > 64 or any(b[PAIRS + PAIR * b[COUNT]:COUNT]):
         return False
-    rows = [b[PAIRS + 56 * i:PAIRS + 56 * i + 56] for i in range(b[COUNT])]
+    rows = [b[PAIRS + PAIR * i:PAIRS + PAIR * i + PAIR] for i in range(b[COUNT])]
     if len({r[:8] for r in rows}) != len(rows):
         return False
     position = int.from_bytes(b[0:4], "little")
@@ -86,11 +90,11 @@ def text(parts, times=1):
 
 
 def mon(h, high=0xC4, low=0xB0, interval=3, sampling=5, kind=4, condition=bytes.fromhex("00060504030201")):
-    return (MONITORS + 71 * h, bytes([h, high, low, interval, sampling, kind, len(condition)]) + condition)
+    return (MONITORS + MONITOR * h, bytes([h, high, low, interval, sampling, kind, len(condition)]) + condition)
 
 
 def watch(i, handle=0, kind=0, address="060504030201", silent=0, ticks=0, packets=0, total=0, event=0, data=b""):
-    return (PAIRS + 56 * i, bytes([handle, kind]) + bytes.fromhex(address) + silent.to_bytes(2, "little") + bytes([ticks])
+    return (PAIRS + PAIR * i, bytes([handle, kind]) + bytes.fromhex(address) + silent.to_bytes(2, "little") + bytes([ticks])
             + packets.to_bytes(4, "little") + total.to_bytes(8, "little", signed=True) + bytes([event, len(data)]) + data)
 
 
@@ -110,7 +114,7 @@ vectors = [
     ("opcode 0xFC00", [(5, b"\x00\xFC")], 1), ("opcode 0xFBFF", [(5, b"\xFF\xFB")], 0),
     ("prefix of 32", [(7, b"\x20" + b"P" * 32)], 1), ("prefix of 33", [(7, b"\x21" + b"P" * 32)], 0),
     ("octet behind the prefix", [(39, b"\1")], 0), ("prefix shorter", [(7, b"\1")], 0),
-    ("a monitor", [mon(0)], 1), ("a monitor at 15", [mon(15)], 1), ("at another place", [(MONITORS + 71, mon(0)[1])], 0),
+    ("a monitor", [mon(0)], 1), ("a monitor at 15", [mon(15)], 1), ("at another place", [(MONITORS + MONITOR, mon(0)[1])], 0),
     ("octet in an empty row", [(MONITORS + 5, b"\1")], 0), ("octet behind the condition", [mon(0), (MONITORS + 14, b"\1")], 0),
     ("last octet of a row", [mon(0), (MONITORS + 70, b"\1")], 0),
     ("high 20", [mon(0, high=20)], 1), ("high 21", [mon(0, high=21)], 0), ("low -127", [mon(0, low=0x81)], 1),
@@ -147,7 +151,7 @@ vectors = [
 everything = [position(9)] + [mon(h, kind=1, condition=pattern[:1] + bytes([62]) + pattern[2:64]) for h in range(16)] + [count(64)] \
     + [watch(i, handle=i % 16, address=i.to_bytes(6, "little").hex(), packets=3, total=-99, data=bytes(31)) for i in range(64)]
 vectors += [("16 monitors, 64 pairs", everything, 1),
-            ("the last pair again", everything + [(PAIRS + 56 * 63, bytes([14]) + bytes([0]) + (62).to_bytes(6, "little"))], 0)]
+            ("the last pair again", everything + [(PAIRS + PAIR * 63, bytes([14]) + bytes([0]) + (62).to_bytes(6, "little"))], 0)]
 
 
 def block(parts):

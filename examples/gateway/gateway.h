@@ -27,14 +27,14 @@ void stop(int status, const char *words, ...) __attribute__((noreturn, format(pr
 int open_file(const char *name); /* to append; created where it is not there */
 void write_all(int file, const char *name, const void *octets, size_t size);
 void make_durable(int file, const char *name);
-void write_anew(const char *name, const void *octets, size_t size); /* by a new name, durable, renamed, folder durable */
+void write_anew(const char *name, const void *octets, size_t size); /* new name, durable, renamed, folder durable */
 void cut_file(const char *name, size_t size);
 void remove_file(const char *name);
 char *read_file(const char *name, size_t *size); /* with a 0 behind it, to be freed; NULL: no such file */
 
 /* link.c. Lines of the host, and lines to it, which gather until they are sent. */
 char *link_line(void);  /* with a 0 for its LF; NULL at the end */
-int link_waiting(void); /* does more of the host wait to be read? */
+int link_waiting(void); /* has another line of the host come? */
 void link_answer(uint32_t number, const uint8_t *answer, size_t size);
 void link_life(const char *life, uint32_t position);
 void link_send(void);

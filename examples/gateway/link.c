@@ -5,32 +5,45 @@
 static char in[4096], out[1 << 17];
 static size_t in_from, in_size, out_size;
 
+/* Reads what has come behind what is not taken yet; 0 at the end. */
+static size_t fill(void)
+{
+    ssize_t got;
+    memmove(in, in + in_from, in_size - in_from);
+    in_size -= in_from;
+    in_from = 0;
+    if (in_size == sizeof in)
+        stop(BROKEN, "the host's line is longer than any");
+    do {
+        got = read(STDIN_FILENO, in + in_size, sizeof in - in_size);
+    } while (got < 0 && errno == EINTR);
+    in_size += got < 0 ? 0 : (size_t)got;
+    return got < 0 ? 0 : (size_t)got;
+}
+
+static char *line_end(void)
+{
+    return memchr(in + in_from, '\n', in_size - in_from);
+}
+
 char *link_line(void)
 {
-    for (;;) {
-        char *line = in + in_from, *end = memchr(line, '\n', in_size - in_from);
-        ssize_t got;
-        if (end != NULL) {
-            *end = 0;
-            in_from = (size_t)(end + 1 - in);
-            return line;
-        }
-        memmove(in, line, in_size - in_from);
-        in_size -= in_from;
-        in_from = 0;
-        if (in_size == sizeof in)
-            stop(BROKEN, "the host's line is longer than any");
-        got = read(STDIN_FILENO, in + in_size, sizeof in - in_size);
-        if (got == 0 || (got < 0 && errno != EINTR))
+    char *line, *end;
+    while ((end = line_end()) == NULL)
+        if (fill() == 0)
             return NULL;
-        in_size += got < 0 ? 0 : (size_t)got;
-    }
+    line = in + in_from;
+    *end = 0;
+    in_from = (size_t)(end + 1 - in);
+    return line;
 }
 
 int link_waiting(void)
 {
     struct pollfd host = {.fd = STDIN_FILENO, .events = POLLIN};
-    return memchr(in + in_from, '\n', in_size - in_from) != NULL || poll(&host, 1, 0) > 0;
+    if (line_end() == NULL && poll(&host, 1, 0) > 0)
+        fill();
+    return line_end() != NULL;
 }
 
 void link_answer(uint32_t number, const uint8_t *answer, size_t size)

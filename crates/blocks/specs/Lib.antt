@@ -6,6 +6,7 @@ pub mod Tables
 pub mod Monitors
 pub mod Pairs
 pub mod Block
+pub mod Laid
 pub mod Updates
 pub mod Held
 pub mod Places

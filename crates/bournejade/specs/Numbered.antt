@@ -19,7 +19,7 @@ use Rattle.model.specs.Step.{act, actTyped, refusalTyped, stepTyped, answerType
 use Rattle.model.specs.Engine.{engine, actBlock, onBlocks}
 use Rattle.model.specs.Block.{held}
 use Rattle.replays.specs.Into.{Reached, begun, reach, lineFrom, linesWhile, replayWhile}
-use Rattle.engine.specs.Calls.{caseOf}
+use Rattle.engine.specs.Calls.{caseOf, caseFrom, cases}
 
 -- whether a number is a refusal's
 unfoldable pub isNumber : ℕ → Bool
@@ -41,7 +41,7 @@ known-if false n o e f = f
 
 -- what a frame with the next number gives
 known-typed : (m : Model) (f : Typed) → known (actTyped m f) ≡ true
-unfolding known actTyped refusalTyped pick isNumber caseOf number
+unfolding known actTyped refusalTyped pick isNumber caseOf caseFrom cases number
 known-typed m (command o l) = go (eqb o (m .opcode))
   where
     go : (b : Bool) → known (pick (eqb (pick b 0 6) 0) (done (stepTyped m (command o l)) (answerTyped m (command o l))) (refused (pick b 0 6))) ≡ true
@@ -61,17 +61,17 @@ unfolding actBlock act
 known-act s b = known-blocks (actTyped (held s) (typed b)) ∙ known-typed (held s) (typed b)
 
 known-judge : (s : List ℕ) (x : Option (Line Body)) → known (judge engine s x) ≡ true
-unfolding judge known isNumber caseOf number pick
+unfolding judge known isNumber caseOf caseFrom cases number pick
 known-judge s none = refl
 known-judge s (some x) = known-if _ 1 _ refl (known-if _ 2 _ refl (known-act s (x .body)))
 
 -- a frame, a save
 pub known-answer : (lent : ℕ) (s : List ℕ) (w : Form) (raw : List ℕ) → known (answer engine lent s w raw) ≡ true
-unfolding answer isNumber caseOf number pick
+unfolding answer isNumber caseOf caseFrom cases number pick
 known-answer lent s w raw = known-if _ 7 _ refl (known-if _ 3 _ refl (known-judge s (read w raw)))
 
 pub known-image : (lent : ℕ) (s : List ℕ) → known (image engine lent s) ≡ true
-unfolding image isNumber caseOf number pick known
+unfolding image isNumber caseOf caseFrom cases number pick known
 known-image lent s = known-if _ 7 _ refl (known-if _ 3 _ refl refl)
 
 -- what stopped a replay

@@ -14,7 +14,7 @@ ghost use Rattle.model.specs.Image.{isImage};
 ghost use Rattle.model.specs.Block.{held};
 ghost use Rattle.model.specs.Engine.{engine, begin};
 ghost use Rattle.replays.specs.Into.{replayInto, replayTo};
-ghost use Rattle.engine.specs.Public.{blockIn};
+ghost use Rattle.model.specs.Engine.{blockIn};
 ghost use Rattle.bournejade.specs.Gives.{numberIn, countIn, stopNumber, startNumber, loadNumber, Gave, Replayed};
 use engine::Loaded;
 use engine::Ran;

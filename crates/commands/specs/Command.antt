@@ -1,4 +1,4 @@
--- The contract of a vendor command on the lent block, and what it takes to meet it. Document 01, Commands. Assumes
+-- What it takes to meet the contract of a vendor command on the lent block. Document 01, Commands. Assumes
 -- nothing.
 use Prim.Native.Nat.{ℕ, _+_, _≤_, _<_}
 use mathlib.Core.Path.{_≡_, refl, sym, ap, _∙_}
@@ -23,23 +23,11 @@ use Rattle.model.specs.Block.{padded, advanced}
 use Rattle.blocks.specs.Block.{padded-length}
 use Rattle.blocks.specs.Updates.{advanced-moved}
 use Rattle.steps.specs.Executed.{commanded-same}
-use Rattle.stepped.specs.Stepped.{Stepped}
+use Rattle.steps.specs.Stepped.{Steps}
 use Rattle.statuses.specs.Answers.{octet-at}
 use Rattle.commands.specs.Replies.{Replied}
-use Rattle.commands.specs.Ran.{Ran, ran-failed, opcode-at}
+use Rattle.commands.specs.Ran.{Ran, Runs, ran-failed, opcode-at}
 use Rattle.model.specs.Layout.{blockSize, opcodeAt, positionAt}
-
--- whether the block and the output have their lengths
-unfoldable pub fits : List ℕ → List ℕ → Bool
-fits s out = eqb (length s) blockSize && leb answerRoom (length out)
-
--- The command l took the block from s to `after` and the output from `out` to `wrote`, n octets of it written: on the
--- block of a sound state that has a frame number left, the model's step; where a length is wrong, nothing.
-pub record Answered (l s after out wrote : List ℕ) (n : ℕ) : Type 0 where
-  pub stepped : (m : Model) → soundModel m ≡ true → s ≡ padded m → m .position < lastNumber
-      → answerRoom ≤ length out → (o : ℕ)
-      → Stepped m (command o l) after out wrote n
-  pub refused : fits s out ≡ false → (after ≡ s) × (wrote ≡ out) × (n ≡ 0)
 
 -- the sub-opcode that was read
 pub sub-is : (l : List ℕ) (n : ℕ) {k : ℕ} → k ≡ numberAt 1 l 0 → k ≡ n → subOf l ≡ n
@@ -69,31 +57,16 @@ pub position-moved : (s : List ℕ) {t : List ℕ} → length s ≡ blockSize �
 position-moved s l e m q h = e ∙ advanced-moved m s q (omega arith) (omega arith)
 
 -- the whole: executed, then moved
-pub answered : (l s out : List ℕ) {s1 s2 wrote : List ℕ} {n : ℕ} → length s ≡ blockSize → answerRoom ≤ length out
-    → ((m : Model) → soundModel m ≡ true → s ≡ padded m → Ran m l s1 out wrote n)
-    → ((m : Model) → s1 ≡ padded m → m .position < 4294967295 → s2 ≡ padded (moved m)) → Answered l s s2 out wrote n
-unfolding fits stepTyped answerTyped lastNumber
-answered l s out h b f g =
+pub answered : (l s out : List ℕ) {s1 s2 wrote : List ℕ} {n : ℕ} → Runs l s s1 out wrote n
+    → ((m : Model) → s1 ≡ padded m → m .position < 4294967295 → s2 ≡ padded (moved m))
+    → (o : ℕ) → Steps (command o l) s s2 out wrote n
+unfolding stepTyped answerTyped lastNumber
+answered l s out f g o =
+    λ m e q p.
+    let x = f .0 m e q in
+    let k : commanded m l .position ≡ m .position = commanded-same m l .position in
     record {
-      stepped = λ m e q p r o.
-          let x = f m e q in
-          let k : commanded m l .position ≡ m .position = commanded-same m l .position in
-          record {
-            block = g (commanded m l) (x .block) (omega arith);
-            octets = x .reply .octets;
-            count = x .reply .count;
-          };
-      refused = λ t. absurd (false≢true (sym t ∙ and-both (eq-eqb (length s) blockSize h) (le-leb answerRoom (length out) b)));
+      block = g (commanded m l) (x .block) (omega arith);
+      octets = x .reply .octets;
+      count = x .reply .count;
     }
-
--- nothing done where a length is wrong
-module _ (l s out : List ℕ) where
-  pub wrong-block : (length s ≡ blockSize → ⊥) → Answered l s s out out 0
-  wrong-block h =
-      record {
-        stepped = λ m e q p r o. absurd (h (ap length q ∙ padded-length m e));
-        refused = λ t. (refl, refl, refl);
-      }
-
-  pub wrong-room : length out < answerRoom → Answered l s s out out 0
-  wrong-room h = record { stepped = λ m e q p r o. absurd (omega arith); refused = λ t. (refl, refl, refl) }

@@ -26,6 +26,7 @@ use Rattle.blocks.specs.Block.{measured, padded-length, opcode-read, read-filte
 use Rattle.blocks.specs.Updates.{put-monitor, set-filter}
 use Rattle.statuses.specs.Statuses.{addOf, cancelOf, enableOf, add-of, cancel-of, enable-of}
 use Rattle.statuses.specs.Answers.{octet-at}
+use Rattle.steps.specs.Stepped.{Within}
 use Rattle.commands.specs.Handles.{liveAt, lowest, live-present, slot-room, slot-handle, slot-free}
 use Rattle.commands.specs.Handles.{slot-added}
 use Rattle.commands.specs.Replies.{Replied, featuresOf, prefixIn, prefix-read}
@@ -37,9 +38,10 @@ pub record Ran (m : Model) (l after out wrote : List ℕ) (n : ℕ) : Type 0 whe
   pub block : after ≡ padded (commanded m l)
   pub reply : Replied out wrote n (complete (m .opcode) (returned m l))
 
--- The same of the block s of whatever sound state.
+-- The same of the block s of whatever sound state; and of any block, that the octets past what is written are as they were.
 abbrev pub Runs : List ℕ → List ℕ → List ℕ → List ℕ → List ℕ → ℕ → Type 0
-Runs l s after out wrote n = (m : Model) → soundModel m ≡ true → s ≡ padded m → Ran m l after out wrote n
+Runs l s after out wrote n =
+    ((m : Model) → soundModel m ≡ true → s ≡ padded m → Ran m l after out wrote n) × Within out wrote n
 
 -- what each sub-opcode says
 module _ (m : Model) (l : List ℕ) where

@@ -22,12 +22,19 @@ use Rattle.blocks.specs.Facts.{SoundModel, sound-facts}
 use Rattle.blocks.specs.Block.{read-count, read-prefix}
 use Rattle.commands.specs.Stored.{put-made}
 use Rattle.sessions.specs.Machine.{answerRoom}
-use Rattle.model.specs.Layout.{blockSize, mostPrefix, prefixAt, prefixLengthAt}
+use Rattle.steps.specs.Stepped.{Within, within-put}
+use Rattle.model.specs.Layout.{blockSize, commandMost, mostPrefix, prefixAt, prefixLengthAt}
 
 -- an answer written at the front of the output, and its length
 pub record Replied (out wrote : List ℕ) (n : ℕ) (a : List ℕ) : Type 0 where
   pub octets : wrote ≡ put out 0 a
   pub count : n ≡ length a
+  pub most : n ≤ commandMost
+
+-- so the octets past it are as they were
+pub replied-within : (out : List ℕ) {wrote a : List ℕ} {n : ℕ} → answerRoom ≤ length out → Replied out wrote n a
+    → Within out wrote n
+replied-within out {wrote} {a} h r = within-put out a (r .octets) (r .count) (omega (arith, r .most))
 
 -- what comes before the return parameters, of which there are n
 unfoldable pub headOf : ℕ → ℕ → List ℕ
@@ -99,6 +106,7 @@ module _ (out : List ℕ) (opcode : ℕ) {o1 : List ℕ} (h : answerRoom ≤ len
         octets = q ∙ ap (put out 0) (append-assoc (headOf opcode 2) (a ∷ []) (b ∷ [])
             ∙ complete-of opcode (a ∷ b ∷ []) 2 refl);
         count = sym (length-complete opcode (a ∷ b ∷ []));
+        most = omega arith;
       }
 
   pub reply-three : (a b c : ℕ) → o1 ≡ put out 0 (headOf opcode 3)
@@ -118,6 +126,7 @@ module _ (out : List ℕ) (opcode : ℕ) {o1 : List ℕ} (h : answerRoom ≤ len
       record {
         octets = t ∙ ap (put out 0) (z ∙ complete-of opcode (a ∷ b ∷ c ∷ []) 3 refl);
         count = sym (length-complete opcode (a ∷ b ∷ c ∷ []));
+        most = omega arith;
       }
 
 -- the number of octets of the prefix, 32 where the octet says more; and the prefix
@@ -172,6 +181,7 @@ reply-features out opcode s {o1} {o2} {o4} {r2} {r4} {n} h l c b e1 e2 e4 =
     record {
       octets = q4 ∙ ap (put out 0) (z ∙ ap (λ (x : List ℕ). a0 ++ x) g ∙ complete-of opcode ret (11 + n) (sym t));
       count = let u = length-complete opcode ret in omega arith;
+      most = omega arith;
     } in
     rw v at done
 

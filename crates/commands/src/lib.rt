@@ -1,7 +1,7 @@
 // Vendor commands executed on the lent block (document 01, Commands): the status, the change in place, the Command
 // Complete written into the lent output, the position moved. The block is laid out as the model's `padded` says.
 use state::State;
-ghost use Prim.Native.Nat.{_+_, _-_, _*_, _≤_, _<_};
+ghost use Prim.Native.Nat.{ℕ, _+_, _-_, _*_, _≤_, _<_};
 ghost use mathlib.Core.Path.{_≡_};
 ghost use mathlib.Core.Bool.{true};
 ghost use mathlib.Core.List.{[], _∷_};
@@ -19,7 +19,8 @@ ghost use Rattle.commands.specs.Kept.{keptOctets, keptCount};
 ghost use Rattle.commands.specs.Cancelled.{Compacted, Forgotten};
 ghost use Rattle.commands.specs.Replies.{Replied, headOf, prefixIn, featuresOf};
 ghost use Rattle.commands.specs.Ran.{Runs};
-ghost use Rattle.commands.specs.Command.{Answered};
+ghost use Rattle.model.specs.Frames.{command as vendor};
+ghost use Rattle.steps.specs.Stepped.{Taken};
 ghost use Rattle.model.specs.Layout.{paramsMost, returnMost};
 ghost use Rattle.sessions.specs.Machine.{answerRoom};
 ghost use Rattle.model.specs.Layout.{blockSize, countAt, monitorSize, monitorsAt, mostMonitors, mostPairs, mostPrefix, pairSize, pairsAt};
@@ -287,18 +288,15 @@ fn execute(s: &mut [u8], params: &[u8], out: &mut [u8]) -> usize
 }
 
 // Executes the vendor command with these parameters, the first of them the sub-opcode: changes the block, writes the
-// Command Complete at the front of the output, and answers its length. Where the block is not 4,761 octets or the
-// output shorter than 2,880, nothing is done and the answer is 0. What is not settled: the contents of the block and
-// of the output, and the answer, where the block is no sound state's or its position is the last frame number. The
-// call then ends all the same, and nothing is undefined.
+// Command Complete at the front of the output, and answers its length. Where the block is not of 4,761 octets or at the
+// last frame number, or the output has under 2,880 octets, nothing is done and the answer is 0. Of a block that is of no
+// sound state the contents, what is written and how much are free; the lengths stay, the answer is at most the output's
+// length, and the octets past it are as they were.
 pub fn command(s: &mut [u8], params: &[u8], out: &mut [u8]) -> usize
-    ensures { λ r. ⌜ Answered (now (params .entry)) (now (s .entry)) (now (s .exit)) (now (out .entry))
-        (now (out .exit)) r ⌝ }
+    ensures { λ r. ⌜ ((o : ℕ) → Taken (vendor o (now (params .entry))) true (now (s .entry)) (now (s .exit)) (now (out .entry))
+        (now (out .exit)) r) ⌝ }
 {
-    if s.len() != State::SIZE {
-        return 0;
-    }
-    if out.len() < State::ANSWER {
+    if !state::ready(s, out) {
         return 0;
     }
     let n = execute(s, params, out);

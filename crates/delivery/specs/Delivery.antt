@@ -35,7 +35,7 @@ use Rattle.replays.specs.Into.{Reached, replayInto}
 use Rattle.replays.specs.Ahead.{Ahead, saidBy}
 use Rattle.replays.specs.Turned.{session-ahead, session-gap}
 use Rattle.replays.specs.Whole.{Same, replay-whole}
-use Rattle.engine.specs.Public.{blockIn}
+use Rattle.model.specs.Engine.{blockIn}
 use Rattle.failover.specs.Demand3.{Demand3, pastFrames, pairsIn}
 use Rattle.failover.specs.Proof.{laws, demand3}
 use Rattle.failover.specs.Blocks.{image-blocks, walk-blocks, trace-blocks, begin-blocks, encode-blocks}

@@ -23,7 +23,7 @@ use Rattle.model.specs.Block.{held}
 use Rattle.model.specs.Engine.{engine}
 use Rattle.model.specs.Radio.{radio, core}
 use Rattle.replays.specs.Into.{replayWhile, replayInto}
-use Rattle.engine.specs.Public.{blockIn}
+use Rattle.model.specs.Engine.{blockIn}
 use Rattle.bournejade.specs.Gives.{Gave, Replayed}
 use Rattle.failover.specs.Demand3.{pairsIn}
 use Rattle.delivery.specs.Given.{lineGiven}
@@ -119,10 +119,11 @@ abbrev pub Go : List Turn → Type 0
 Go [] = Unit {0}
 Go (x ∷ xs) = ((x .number ≡ 0) ⊎ (x .number ≡ 3)) × Go xs
 
--- each was lent 2,880 octets and shown a whole line
-abbrev pub Busy : List Turn → Type 0
-Busy [] = Unit {0}
-Busy (x ∷ xs) = (answerRoom ≤ length (x .out)) × (cut (x .shown) ≡ [] → ⊥) × Busy xs
+-- each was lent 2,880 octets and shown a whole line, on a block whose position passes the test
+abbrev pub Busy : (ℕ → Bool) → List ℕ → List Turn → Type 0
+Busy goes s [] = Unit {0}
+Busy goes s (x ∷ xs) =
+    (answerRoom ≤ length (x .out)) × (cut (x .shown) ≡ [] → ⊥) × (goes (held s .position) ≡ true) × Busy goes (x .block) xs
 
 -- the octets that they wrote, one behind another
 unfoldable pub writtenIn : List Turn → List ℕ
@@ -136,7 +137,8 @@ writtenIn (x ∷ xs) = take (x .count) (x .left) ++ writtenIn xs
 --     written returns 0, leaves the block of the unbroken run and writes exactly the answers given after the save.
 --   in-turns: however the journal is cut and the outputs are lent, every call returns 0 or 3; once no whole line is left unread the block is
 --     that of the unbroken run, and what was written is exactly the answers given after the save, once each.
---   ends: of calls that were lent 2,880 octets and shown a whole line there are at most as many as the journal has lines.
+--   ends: of calls, of either replay, that were lent 2,880 octets and shown a whole line, with the position below the frame that they are held
+--     to, there are at most as many as the journal has lines.
 --   once: with replay up to the frame d, whose answers are dropped, until the position is d or no whole line is left, and then replay, what
 --     the latter writes is exactly the answers to frames above d and above k, once each.
 --   gapped: for a later j, n at most, replay into 2,880 octets returns 2 at the first line, and leaves the block and the output as they were.
@@ -153,8 +155,8 @@ pub record TakenOver (before later : List Heard) (at end img : List ℕ) : Type 
       (j : ℕ) → 1 ≤ j → j ≤ length before + 1 → (xs : List Turn) (b rest : List ℕ) → Turns at (keptFrom j (before ++ later)) xs b rest
       → Go xs × (cut rest ≡ [] → (b ≡ end) × (writtenIn xs ≡ answersOf later))
   pub ends :
-      (j : ℕ) → 1 ≤ j → j ≤ length before + 1 → (xs : List Turn) (b rest : List ℕ) → Turns at (keptFrom j (before ++ later)) xs b rest
-      → Busy xs → length xs ≤ length (cut (keptFrom j (before ++ later)))
+      (goes : ℕ → Bool) (j : ℕ) → 1 ≤ j → j ≤ length before + 1 → (xs : List Turn) (b rest : List ℕ)
+      → TurnsWhile goes at (keptFrom j (before ++ later)) xs b rest → Busy goes at xs → length xs ≤ length (cut (keptFrom j (before ++ later)))
   pub once :
       (d j : ℕ) → 1 ≤ j → j ≤ length before + 1 → (xs ys : List Turn) (c b more rest : List ℕ)
       → TurnsTo d at (keptFrom j (before ++ later)) xs c more → (d ≤ held c .position) ⊎ (cut more ≡ []) → Turns c more ys b rest

@@ -6,3 +6,4 @@ pub mod Shown
 pub mod Seen
 pub mod Linked
 pub mod Delivery
+pub mod Contracts

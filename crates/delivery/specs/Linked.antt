@@ -35,7 +35,7 @@ use Rattle.steps.specs.Keeps.{fresh-sound}
 use Rattle.replays.specs.Into.{Reached, replayInto}
 use Rattle.replays.specs.Ahead.{Ahead, saidBy}
 use Rattle.replays.specs.Turned.{session-ahead, session-gap}
-use Rattle.engine.specs.Public.{blockIn}
+use Rattle.model.specs.Engine.{blockIn}
 use Rattle.bournejade.specs.Gives.{stopIn, Gave, Replayed}
 use Rattle.failover.specs.Demand3.{Demand3, pastFrames, pairsIn}
 use Rattle.failover.specs.Proof.{laws, demand3}
@@ -247,7 +247,8 @@ module _ (opcode : ℕ) (prefix : List ℕ) (ok : soundSettings opcode prefix �
         in-turns = λ j h i xs c rest k.
             let d = turns-done (λ p. true) at (keptFrom j (heardIn before ++ heardIn later)) xs c rest middle final fs at-is (ahead j h i) k in
             (d .go, λ e. let z = turned-all middle fs xs c rest d e in (z .0, z .1 ∙ sym later-said));
-        ends = λ j h i xs c rest k busy. turns-few at (keptFrom j (heardIn before ++ heardIn later)) xs c rest middle final fs at-is (ahead j h i) k busy;
+        ends = λ goes j h i xs c rest k busy.
+            turns-few goes at (keptFrom j (heardIn before ++ heardIn later)) xs c rest middle final fs at-is (ahead j h i) k busy;
         once = λ d j h i xs ys c u more rest k e f. above d j h i xs ys c u more rest k e f;
         gapped = λ j h i o c r m k w p big. gap o c r m k w j h i p big;
         watched = λ o r m k. watched-there o r m k;

@@ -22,7 +22,7 @@ use Rattle.model.specs.Image.{imageText}
 use Rattle.model.specs.Block.{held, sound}
 use Rattle.model.specs.Engine.{engine, models}
 use Rattle.model.specs.Radio.{radio, core}
-use Rattle.engine.specs.Calls.{caseOf}
+use Rattle.engine.specs.Calls.{caseOf, caseFrom, cases}
 use Rattle.bournejade.specs.Numbered.{isNumber, known, known-answer}
 use Rattle.bournejade.specs.Gives.{numberOf, Gave}
 use Rattle.failover.specs.Demand3.{pastFrames}
@@ -46,7 +46,7 @@ heardOf e = record { line = write (e .line); answer = e .wrote }
 -- .. and so is what is kept of it
 module _ (s : List ℕ) (w : Form) (raw out t left : List ℕ) (n r : ℕ) where
   silent : (k : ℕ) → isNumber k ≡ true → r ≡ k → heard (gave w raw out t left n r) ≡ []
-  unfolding heard isNumber caseOf number pick
+  unfolding heard isNumber caseOf caseFrom cases number pick
   silent k e q = go r q
     where
       go : (x : ℕ) → x ≡ k → heard (gave w raw out t left n x) ≡ []
@@ -66,7 +66,7 @@ module _ (s : List ℕ) (w : Form) (raw out t left : List ℕ) (n r : ℕ) where
       go (suc y) q = cc
 
   unread : (a b : Bool) → Gave (refuseIf a 7 (refuseIf b 3 (refused 4))) s out t left n r → heard (gave w raw out t left n r) ≡ []
-  unfolding refuseIf numberOf isNumber caseOf number pick
+  unfolding refuseIf numberOf isNumber caseOf caseFrom cases number pick
   unread true b g = silent 7 refl (g .number)
   unread false true g = silent 3 refl (g .number)
   unread false false g = silent 4 refl (g .number)

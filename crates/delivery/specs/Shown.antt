@@ -16,7 +16,8 @@ use Rattle.sessions.specs.Saved.{cut}
 use Rattle.sessions.specs.Runs.{Run, lineOf, run-append}
 use Rattle.model.specs.Types.{Model}
 use Rattle.model.specs.Frames.{Body}
-use Rattle.model.specs.Block.{padded}
+use Rattle.model.specs.Block.{held as heldIn, padded}
+use Rattle.blocks.specs.Block.{held-padded}
 use Rattle.model.specs.Engine.{engine, models}
 use Rattle.replays.specs.Into.{Reached, replayWhile, replayInto}
 use Rattle.replays.specs.Ahead.{Ahead, saidBy}
@@ -141,19 +142,22 @@ turns-done goes s t (x ∷ xs) u v m end es b a k =
     (then goes s t (k .0 .0) x m end es b (k .0 .1) (k .1) a) (k .2))
 
 -- calls that were lent 2,880 octets and shown a whole line: each reads one at least
-pub turns-few : (s t : List ℕ) (xs : List Turn) (u v : List ℕ) (m end : Model) (es : List (Entry Body)) → s ≡ padded m
-    → Ahead models m (cut t) es end → TurnsWhile (λ p. true) s t xs u v → Busy xs → length xs ≤ length (cut t)
-turns-few s t [] u v m end es b a k y = omega arith
-turns-few s t (x ∷ xs) u v m end es b a k y =
-    let w = one (λ p. true) s t (k .0 .0) x m end es b (k .0 .1) (k .1) a in
-    let f : length (cut (drop (reached (λ p. true) s t (k .0 .0) x m end es b (k .0 .1) (k .1) a .taken) (x .shown ++ k .0 .0))) < length (cut (x .shown ++ k .0 .0)) =
-    w .fewer (y .1) refl (y .0) in
-    let c : length (cut (drop (x .taken) t)) ≡ length (cut (drop (reached (λ p. true) s t (k .0 .0) x m end es b (k .0 .1) (k .1) a .taken) (x .shown ++ k .0 .0))) =
-    ap (λ (l : List ℕ). length (cut l)) (left-is (λ p. true) s t (k .0 .0) x m end es b (k .0 .1) (k .1) a) in
-    let d : length (cut t) ≡ length (cut (x .shown ++ k .0 .0)) = ap (λ (l : List ℕ). length (cut l)) (k .0 .1) in
+pub turns-few : (goes : ℕ → Bool) (s t : List ℕ) (xs : List Turn) (u v : List ℕ) (m end : Model) (es : List (Entry Body)) → s ≡ padded m
+    → Ahead models m (cut t) es end → TurnsWhile goes s t xs u v → Busy goes s xs → length xs ≤ length (cut t)
+turns-few goes s t [] u v m end es b a k y = omega arith
+turns-few goes s t (x ∷ xs) u v m end es b a k y =
+    let hidden : List ℕ = k .0 .0 in
+    let r : Reached Model = reached goes s t hidden x m end es b (k .0 .1) (k .1) a in
+    let w = one goes s t hidden x m end es b (k .0 .1) (k .1) a in
+    let p : goes (m .position) ≡ true =
+    subst (λ (n : Model). goes (n .position) ≡ true) (ap heldIn b ∙ held-padded m (a .good)) (y .2) in
+    let f : length (cut (drop (r .taken) (x .shown ++ hidden))) < length (cut (x .shown ++ hidden)) = w .fewer (y .1) p (y .0) in
+    let c : length (cut (drop (x .taken) t)) ≡ length (cut (drop (r .taken) (x .shown ++ hidden))) =
+    ap (λ (l : List ℕ). length (cut l)) (left-is goes s t hidden x m end es b (k .0 .1) (k .1) a) in
+    let d : length (cut t) ≡ length (cut (x .shown ++ hidden)) = ap (λ (l : List ℕ). length (cut l)) (k .0 .1) in
     let h : length xs ≤ length (cut (drop (x .taken) t)) =
-    turns-few (x .block) (drop (x .taken) t) xs u v (reached (λ p. true) s t (k .0 .0) x m end es b (k .0 .1) (k .1) a .state) end (w .hs)
-    (block-is (λ p. true) s t (k .0 .0) x m end es b (k .0 .1) (k .1) a) (then (λ p. true) s t (k .0 .0) x m end es b (k .0 .1) (k .1) a) (k .2) (y .2) in
+    turns-few goes (x .block) (drop (x .taken) t) xs u v (r .state) end (w .hs)
+    (block-is goes s t hidden x m end es b (k .0 .1) (k .1) a) (then goes s t hidden x m end es b (k .0 .1) (k .1) a) (k .2) (y .3) in
     omega arith
 
 -- no line is left: nothing is ahead

@@ -24,6 +24,7 @@ use Rattle.model.specs.Frames.{Body, Typed, command, packet as packetFrame, tic
 use Rattle.model.specs.Monitors.{matches, good, strong, runOf, windowed, accepts, faultOf, monitorOf, invalid, full}
 use Rattle.model.specs.Commands.{status, addStatus, cancelStatus, commanded, changed, added, cancelled, ofOther, subOf, paramsIn, table, present}
 use Rattle.model.specs.Watch
+use Rattle.steps.specs.Starts.{turn-none, turn-pick}
 use Rattle.model.specs.Step.{stepTyped, refusalTyped}
 use Rattle.model.specs.Sound.{soundModel, soundPair, soundOf}
 use Rattle.model.specs.Radio.{radio, core, coreTyped, coreCommand}
@@ -65,9 +66,9 @@ begins-view m p h qs = rw (held-holds qs h (deviceOf p), length-view qs)
 
 pub turn-view : (o : Option Monitor) (p : Packet) (h : ℕ) (qs : List Pair)
     → map viewPair (Watch.turn o p h qs) ≡ started radio o p h (map viewPair qs)
-unfolding Watch.turn pick viewPair Watch.startPair watched deviceOf
-turn-view none p h qs = refl
-turn-view (some m) p h qs = rw (begins-view m p h qs) (go (Watch.begins m p h qs))
+unfolding pick viewPair Watch.startPair watched deviceOf
+turn-view none p h qs = ap (map viewPair) (turn-none p h qs)
+turn-view (some m) p h qs = ap (map viewPair) (turn-pick m p h qs) ∙ rw (begins-view m p h qs) (go (Watch.begins m p h qs))
   where
     go : (b : Bool) → map viewPair (pick b (qs ++ (Watch.startPair h p ∷ [])) qs)
         ≡ cond b (map viewPair qs ++ ((h, deviceOf p, zero) ∷ [])) (map viewPair qs)

@@ -77,7 +77,7 @@ fn mark_in(acts: &mut [u8], s: &[u8], payload: &[u8])
 
 // Whether octets are those of a packet frame by their lengths: event type, address type, address (6), data length n of at most 31,
 // n octets, RSSI.
-pub fn is_framed(payload: &[u8]) -> bool
+fn is_framed(payload: &[u8]) -> bool
     ensures { λ r. ⌜ r ≡ framed (now (payload .entry)) ⌝ }
 {
     let n = payload.len();

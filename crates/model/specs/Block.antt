@@ -13,10 +13,11 @@ use Rattle.laws.specs.Rows.{rows, flat}
 use Rattle.laws.specs.Put.{putIf}
 use Rattle.octets.specs.Little.{little, octetsOf}
 use Rattle.rule.specs.Engine.{find}
+use Rattle.sessions.specs.Machine.{answerRoom, lastNumber}
 use Rattle.model.specs.Types.{Model, Monitor, Pair}
 use Rattle.model.specs.Image.{headRow, monitorRow, pairRow, monitorIn, pairIn}
 use Rattle.model.specs.Sound.{soundModel}
-use Rattle.model.specs.Layout.{monitorSize, pairSize, headSize, countAt, monitorsAt, pairsAt, filterAt, intervalAt, mostMonitors, mostPairs, opcodeAt, positionAt, prefixAt, prefixLengthAt}
+use Rattle.model.specs.Layout.{blockSize, monitorSize, pairSize, headSize, countAt, monitorsAt, pairsAt, filterAt, intervalAt, mostMonitors, mostPairs, opcodeAt, positionAt, prefixAt, prefixLengthAt}
 
 -- a row with zeros behind it, up to n octets
 unfoldable pub padTo : ℕ → List ℕ → List ℕ
@@ -68,3 +69,7 @@ sound s = soundModel (held s) && sames (padded (held s)) s
 -- one frame further: the position of a block is 1 more, and 0 behind the last number; a block too short to have one stays as it is
 unfoldable pub advanced : List ℕ → List ℕ
 advanced s = putIf (leb 4 (length s)) s positionAt (octetsOf 4 (little 4 s positionAt + 1))
+
+-- a frame may be taken: the block has its size, the output room for the longest answer, and a frame number is left
+unfoldable pub ready : List ℕ → List ℕ → Bool
+ready s out = eqb (length s) blockSize && (leb answerRoom (length out) && ltb (little 4 s positionAt) lastNumber)

@@ -135,7 +135,7 @@ unfolding p2good p2low p3 p4sixty p4image p4minus p4plus p5 p6 p7 p8 readPrefix 
     Rattle.model.specs.Frames.frameOf Rattle.model.specs.Frames.rawOf Rattle.model.specs.Frames.readRaw Rattle.model.specs.Frames.read Rattle.model.specs.Frames.write Rattle.model.specs.Frames.isCommand Rattle.model.specs.Frames.isPacket Rattle.model.specs.Frames.packetOf Rattle.model.specs.Frames.isTick Rattle.model.specs.Frames.typed
     Rattle.model.specs.Monitors.ordered Rattle.model.specs.Monitors.settingsGood Rattle.model.specs.Monitors.conditionFault Rattle.model.specs.Monitors.faultOf Rattle.model.specs.Monitors.accepts Rattle.model.specs.Monitors.monitorOf Rattle.model.specs.Monitors.matches Rattle.model.specs.Monitors.good Rattle.model.specs.Monitors.strong Rattle.model.specs.Monitors.runOf Rattle.model.specs.Monitors.windowed
     Rattle.model.specs.Commands.table Rattle.model.specs.Commands.paramsIn Rattle.model.specs.Commands.answerIn Rattle.model.specs.Commands.present Rattle.model.specs.Commands.subOf Rattle.model.specs.Commands.readStatus Rattle.model.specs.Commands.addStatus Rattle.model.specs.Commands.cancelStatus Rattle.model.specs.Commands.enableStatus Rattle.model.specs.Commands.status Rattle.model.specs.Commands.handleOr Rattle.model.specs.Commands.newHandle Rattle.model.specs.Commands.features Rattle.model.specs.Commands.success Rattle.model.specs.Commands.failure Rattle.model.specs.Commands.returned Rattle.model.specs.Commands.ofOther Rattle.model.specs.Commands.cancelled Rattle.model.specs.Commands.added Rattle.model.specs.Commands.changed Rattle.model.specs.Commands.commanded
-    Rattle.model.specs.Watch.withSilent Rattle.model.specs.Watch.gathered Rattle.model.specs.Watch.withTicks Rattle.model.specs.Watch.emptied Rattle.model.specs.Watch.counts Rattle.model.specs.Watch.refreshed Rattle.model.specs.Watch.windowTakes Rattle.model.specs.Watch.atPacket Rattle.model.specs.Watch.packetMove Rattle.model.specs.Watch.isPair Rattle.model.specs.Watch.holds Rattle.model.specs.Watch.begins Rattle.model.specs.Watch.startPair Rattle.model.specs.Watch.turn Rattle.model.specs.Watch.turns Rattle.model.specs.Watch.packetPairs Rattle.model.specs.Watch.startsOf Rattle.model.specs.Watch.wants Rattle.model.specs.Watch.reported Rattle.model.specs.Watch.packetAnswer Rattle.model.specs.Watch.goesOn Rattle.model.specs.Watch.closes Rattle.model.specs.Watch.windowTick Rattle.model.specs.Watch.atTick Rattle.model.specs.Watch.tickPairs Rattle.model.specs.Watch.windowSays Rattle.model.specs.Watch.tickOctets Rattle.model.specs.Watch.tickAnswer
+    Rattle.model.specs.Watch.withSilent Rattle.model.specs.Watch.gathered Rattle.model.specs.Watch.withTicks Rattle.model.specs.Watch.emptied Rattle.model.specs.Watch.counts Rattle.model.specs.Watch.refreshed Rattle.model.specs.Watch.windowTakes Rattle.model.specs.Watch.atPacket Rattle.model.specs.Watch.packetMove Rattle.model.specs.Watch.isPair Rattle.model.specs.Watch.holds Rattle.model.specs.Watch.begins Rattle.model.specs.Watch.startPair Rattle.model.specs.Watch.startOf Rattle.model.specs.Watch.startsBelow Rattle.model.specs.Watch.turn Rattle.model.specs.Watch.turns Rattle.model.specs.Watch.packetPairs Rattle.model.specs.Watch.startsOf Rattle.model.specs.Watch.wants Rattle.model.specs.Watch.reported Rattle.model.specs.Watch.packetAnswer Rattle.model.specs.Watch.goesOn Rattle.model.specs.Watch.closes Rattle.model.specs.Watch.windowTick Rattle.model.specs.Watch.atTick Rattle.model.specs.Watch.tickPairs Rattle.model.specs.Watch.windowSays Rattle.model.specs.Watch.tickOctets Rattle.model.specs.Watch.tickAnswer
     Rattle.model.specs.Events.complete Rattle.model.specs.Events.event Rattle.model.specs.Events.startEvent Rattle.model.specs.Events.stopEvent Rattle.model.specs.Events.report Rattle.model.specs.Events.packetReport Rattle.model.specs.Events.windowReport
     Rattle.model.specs.Step.stepTyped Rattle.model.specs.Step.answerTyped Rattle.model.specs.Step.refusalTyped Rattle.model.specs.Step.actTyped Rattle.model.specs.Step.act
     Rattle.model.specs.Sound.octetsUpTo Rattle.model.specs.Sound.soundSettings Rattle.model.specs.Sound.soundMonitor Rattle.model.specs.Sound.soundMonitors Rattle.model.specs.Sound.soundWindow Rattle.model.specs.Sound.soundEmpty Rattle.model.specs.Sound.soundFields Rattle.model.specs.Sound.soundOf Rattle.model.specs.Sound.soundPair Rattle.model.specs.Sound.apart Rattle.model.specs.Sound.soundModel

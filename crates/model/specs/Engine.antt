@@ -1,5 +1,6 @@
 -- The engine of document 01 as a machine of the crate sessions: its state is the block of octets.
 use Prim.Native.Nat.{ℕ}
+use mathlib.Core.Bool.{Bool, true, false}
 use mathlib.Core.List.{List}
 use mathlib.Core.Option.{Option, none, some}
 use Rattle.laws.specs.Tests.{pick}
@@ -8,7 +9,7 @@ use Rattle.model.specs.Types.{Model, fresh, blank}
 use Rattle.model.specs.Frames.{Body, read, write}
 use Rattle.model.specs.Step.{act}
 use Rattle.model.specs.Sound.{soundSettings, soundModel}
-use Rattle.model.specs.Image.{imageText, readImage}
+use Rattle.model.specs.Image.{imageText, readImage, heldIn}
 use Rattle.model.specs.Block.{held, padded, sound}
 
 -- an outcome on models, as an outcome on blocks
@@ -27,6 +28,11 @@ blockOf (some m) = some (padded m)
 
 unfoldable pub decode : List ℕ → Option (List ℕ)
 decode t = blockOf (readImage t)
+
+-- the block that a text gives, being an image or not: "9 and 10 return the blank state"
+unfoldable pub blockIn : Bool → List ℕ → List ℕ
+blockIn true t = padded (heldIn t)
+blockIn false t = padded blank
 
 abbrev pub engine : Machine
 engine =

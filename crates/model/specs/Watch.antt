@@ -4,7 +4,7 @@ use mathlib.Core.Bool.{Bool, true, false, _&&_, _||_, not}
 use mathlib.Core.List.{List, [], _∷_, _++_, map}
 use mathlib.Core.Option.{Option, none, some}
 use lib.Dec.{leb, ltb, eqb}
-use lib.ListN.{length, drop}
+use lib.ListN.{length}
 use Rattle.laws.specs.Tests.{pick, sames}
 use Rattle.laws.specs.Loops.{some as someOf, each, when}
 use Rattle.rule.specs.Engine.{find}
@@ -108,23 +108,31 @@ unfoldable pub startPair : ℕ → Packet → Pair
 startPair h p =
     record { handle = h; kind = p .kind; address = p .address; silent = 0; ticks = 0; packets = 0; sum = 0; event = 0; adv = [] }
 
--- one handle's turn: "monitors take one packet in handle order, and a start takes its room at once"
-unfoldable pub turn : Option Monitor → Packet → ℕ → List Pair → List Pair
-turn none p h qs = qs
-turn (some m) p h qs = pick (begins m p h qs) (qs ++ (startPair h p ∷ [])) qs
+-- one handle's turn gives its start, if it has one
+unfoldable pub startOf : Option Monitor → Packet → ℕ → List Pair → List Pair
+startOf none p h qs = []
+startOf (some m) p h qs = when (begins m p h qs) (startPair h p ∷ [])
 
--- the turns of the handles below n
+-- the pairs after it: "monitors take one packet in handle order, and a start takes its room at once"
+unfoldable pub turn : Option Monitor → Packet → ℕ → List Pair → List Pair
+turn o p h qs = qs ++ startOf o p h qs
+
+-- the turns of the handles below n, and the starts that they give, by handle
 unfoldable pub turns : List (ℕ × Monitor) → Packet → ℕ → List Pair → List Pair
 turns mons p zero qs = qs
 turns mons p (suc n) qs = turn (find mons n) p n (turns mons p n qs)
+
+unfoldable pub startsBelow : List (ℕ × Monitor) → Packet → ℕ → List Pair → List Pair
+startsBelow mons p zero qs = []
+startsBelow mons p (suc n) qs = startsBelow mons p n qs ++ startOf (find mons n) p n (turns mons p n qs)
 
 -- the pairs after a packet: those held, moved, and then the starts by handle
 unfoldable pub packetPairs : Model → Packet → List Pair
 packetPairs m p = turns (m .mons) p mostMonitors (map (packetMove (m .mons) p) (m .pairs))
 
--- the starts of a packet: the pairs behind those that were held
+-- the starts of a packet
 unfoldable pub startsOf : Model → Packet → List Pair
-startsOf m p = drop (length (m .pairs)) (packetPairs m p)
+startsOf m p = startsBelow (m .mons) p mostMonitors (map (packetMove (m .mons) p) (m .pairs))
 
 -- "some matching monitor has sampling 0 and the pair under watch"
 unfoldable pub wants : List Pair → Packet → ℕ × Monitor → Bool
@@ -133,7 +141,7 @@ wants qs p x = eqb (x .1 .sampling) 0 && (matches (x .1) p && holds qs (x .0) (d
 -- "one report .. if the filter is off, or some matching monitor has sampling 0 and the pair under watch, or the packet is a start"
 unfoldable pub reported : Model → Packet → Bool
 reported m p =
-    eqb (m .filter) 0 || (someOf (wants (packetPairs m p) p) (m .mons) || ltb (length (m .pairs)) (length (packetPairs m p)))
+    eqb (m .filter) 0 || (someOf (wants (packetPairs m p) p) (m .mons) || leb 1 (length (startsOf m p)))
 
 -- "Packet, handles ascending: a start event for each start. Then one report with the packet's RSSI"
 unfoldable pub packetAnswer : Model → Packet → List ℕ

@@ -12,6 +12,7 @@ use Rattle.laws.specs.Tests.{pick, and-both}
 use Rattle.laws.specs.Loops.{each, each-take, when, when-true, when-false}
 use Rattle.laws.specs.Put.{put, putIf, put-nil, put-then}
 use Rattle.model.specs.Types.{Model, Pair}
+use Rattle.steps.specs.Stepped.{rest-put}
 use Rattle.model.specs.Frames.{packetOf}
 use Rattle.model.specs.Events.{startEvent, packetReport, event, report}
 use Rattle.model.specs.Block.{padded}
@@ -93,6 +94,19 @@ event-most out at pre r8 {r} h b e = go (eventFits (length out) at pre r8 1) e
     go : (t : Bool) → r ≡ pick t (length (eventOctets pre r8 1)) 0 → r ≤ eventMost
     go true e = omega (arith, length-event pre r8 1 b)
     go false e = omega arith
+
+-- octets past an event are as they were, whatever the octets
+pub event-rest : (out : List ℕ) (at : ℕ) (pre r8 : List ℕ) {o : List ℕ} {r : ℕ} → at ≤ length out
+    → (r ≡ pick (eventFits (length out) at pre r8 1) (length (eventOctets pre r8 1)) 0)
+    × (o ≡ putIf (eventFits (length out) at pre r8 1) out at (eventOctets pre r8 1))
+    → drop (at + r) o ≡ drop (at + r) out
+unfolding pick putIf
+event-rest out at pre r8 {o} {r} h e = go (eventFits (length out) at pre r8 1) e
+  where
+    go : (t : Bool) → (r ≡ pick t (length (eventOctets pre r8 1)) 0) × (o ≡ putIf t out at (eventOctets pre r8 1))
+        → drop (at + r) o ≡ drop (at + r) out
+    go true x = rest-put out at (eventOctets pre r8 1) h (x .1) (ap (λ (k : ℕ). at + k) (x .0))
+    go false x = ap (drop (at + r)) (x .1)
 
 -- a turn of the loop over the starts
 module _ (m : Model) (s : List ℕ) (from count : ℕ) (w : Holding m s (from + count)) where

@@ -1,7 +1,7 @@
 -- One pair, one handle and one report over a packet, by the handle's octet. Document 01, Watching, by history.
 -- Assumes nothing.
 use Prim.Native.Nat.{ℕ}
-use mathlib.Core.Path.{_≡_, refl, sym}
+use mathlib.Core.Path.{_≡_, refl, sym, _∙_}
 use mathlib.Core.Bool.{Bool, true, false, _&&_, not}
 use mathlib.Core.List.{List, [], _∷_, _++_}
 use mathlib.Core.Option.{Option, none, some}
@@ -13,6 +13,7 @@ use Rattle.model.specs.Types.{Monitor, Packet, Pair, deviceOf, watched}
 use Rattle.model.specs.Monitors.{matches, strong}
 use Rattle.model.specs.Watch.{withSilent, gathered, counts, refreshed, windowTakes, atPacket, packetMove, holds, begins}
 use Rattle.model.specs.Watch.{startPair, turn, wants}
+use Rattle.steps.specs.Starts.{turn-none, turn-pick}
 use Rattle.marks.specs.Marks.{refreshes, takes, opens, tells, markOf, mark}
 use Rattle.marks.specs.Marks.{mark-refreshes, mark-takes, mark-opens, mark-tells}
 use Rattle.model.specs.Layout.{mostPairs}
@@ -54,9 +55,9 @@ starts a h p qs = opens a && (not (holds qs h (deviceOf p)) && ltb (length qs) m
 
 pub turn-starts : (o : Option Monitor) (p : Packet) (h : ℕ) (qs : List Pair)
     → turn o p h qs ≡ pick (starts (mark o p) h p qs) (qs ++ (startPair h p ∷ [])) qs
-unfolding turn mark starts begins opens pick
-turn-starts none p h qs = refl
-turn-starts (some m) p h qs = go (matches m p) refl
+unfolding mark starts begins opens pick
+turn-starts none p h qs = turn-none p h qs
+turn-starts (some m) p h qs = turn-pick m p h qs ∙ go (matches m p) refl
   where
     go : (t : Bool) → matches m p ≡ t
         → pick (matches m p && (strong m p && (not (holds qs h (deviceOf p)) && ltb (length qs) mostPairs)))

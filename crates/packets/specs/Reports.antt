@@ -9,13 +9,14 @@ use mathlib.Core.Option.{none, some}
 use native.Mathlib.Omega.{arith}
 use lib.Dec.{eqb}
 use lib.ListN.{length, getD}
-use borrow.Author.Tests.{eq-eqb, ne-eqb, lt-ltb, le-ltb}
+use borrow.Author.Tests.{eq-eqb, ne-eqb, le-leb, lt-leb}
 use Rattle.laws.specs.Tests.{cases-le, and-not-left}
 use Rattle.laws.specs.Loops.{some as someOf}
 use Rattle.rule.specs.Engine.{find}
 use Rattle.rule.specs.Finds.{find-above}
 use Rattle.model.specs.Types.{Model, Monitor, Packet, Pair, deviceOf}
-use Rattle.model.specs.Watch.{holds, wants, packetPairs, reported}
+use Rattle.model.specs.Watch.{holds, wants, packetPairs, startsOf, reported}
+use Rattle.steps.specs.Starts.{starts-count}
 use Rattle.blocks.specs.Facts.{SoundMonitors, SoundModel, monitors-tail, monitors-from, monitors-over}
 use Rattle.marks.specs.Marks.{tells, mark, marks, getD-marks}
 use Rattle.packets.specs.Changes.{wants-tells}
@@ -124,8 +125,8 @@ module _ (m : Model) (p : Packet) where
   pub reported-start : length (m .pairs) < length (packetPairs m p) → true ≡ reported m p
   unfolding reported
   reported-start h =
-      go (eqb (m .filter) 0) (someOf (wants (packetPairs m p) p) (m .mons)) _ (lt-ltb (length (m .pairs)) (length
-      (packetPairs m p)) h)
+      go (eqb (m .filter) 0) (someOf (wants (packetPairs m p) p) (m .mons)) _
+      (le-leb 1 (length (startsOf m p)) (omega (arith, starts-count m p)))
     where
       go : (a b c : Bool) → c ≡ true → true ≡ (a || (b || c))
       go true b c e = refl
@@ -139,7 +140,7 @@ module _ (m : Model) (p : Packet) where
   reported-wants {r} acts f e n h q =
       q ∙ sym (wants-handles (packetPairs m p) p (m .mons) acts (f .mons-sound) e)
       ∙ sym (go (eqb (m .filter) 0) (someOf (wants (packetPairs m p) p) (m .mons)) _ (ne-eqb (m .filter) 0 n)
-      (le-ltb (length (m .pairs)) (length (packetPairs m p)) h))
+      (lt-leb 1 (length (startsOf m p)) (omega (arith, starts-count m p))))
     where
       go : (a b c : Bool) → a ≡ false → c ≡ false → (a || (b || c)) ≡ b
       go a true c e f = rw e

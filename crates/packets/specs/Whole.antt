@@ -1,5 +1,4 @@
--- The whole of a packet's step: what is asked of the lengths, what a sound state and a packet frame give the loops,
--- and how the parts of the answer and of the block are put together. Document 01, Lines (02), Watching, by history.
+-- The whole of a packet's step: what a sound state and a packet frame give the loops, and how the parts of the answer and of the block are put together. Document 01, Lines (02), Watching, by history.
 -- Assumes nothing.
 use Prim.Native.Nat.{ℕ, suc, _+_, _-_, _/_, _%_, _^_, _≤_, _<_}
 use mathlib.Core.Path.{_≡_, refl, sym, ap, _∙_}
@@ -14,7 +13,6 @@ use Rattle.laws.specs.Tests.{and-left, and-right, and-both, and-not-left, and-n
 use Rattle.laws.specs.Loops.{every, each, when}
 use Rattle.laws.specs.Put.{put, put-then}
 use Rattle.octets.specs.Little.{little, octetsOf, isOctet, octets-mod}
-use Rattle.sessions.specs.Machine.{answerRoom}
 use Rattle.model.specs.Types.{Model, Packet, Pair, withLists}
 use Rattle.model.specs.Level.{inRange}
 use Rattle.model.specs.Frames.{packet, isPacket, packetOf}
@@ -28,20 +26,17 @@ use Rattle.blocks.specs.Bounds.{Window, window-facts}
 use Rattle.blocks.specs.Block.{Measured, sound-measured, getD-count, read-filter, padded-length, length-padded}
 use Rattle.blocks.specs.Updates.{advanced-moved}
 use Rattle.steps.specs.Facts.{and-five}
+use Rattle.steps.specs.Starts.{starts-behind}
 use Rattle.steps.specs.Typed.{packet-sent}
-use Rattle.stepped.specs.Stepped.{Stepped}
+use Rattle.steps.specs.Stepped.{Stepped, Within, rest-put, rest-further}
 use Rattle.marks.specs.Marks.{marksAt, marks-padded}
 use Rattle.packets.specs.Keys.{payload-device}
 use Rattle.packets.specs.Held.{Given, Roomy}
 use Rattle.packets.specs.Starts.{Holding, Turned, turns-measured}
 use Rattle.packets.specs.Reports.{anyFrom, wantsAt, reported-off, reported-start, reported-wants}
 use Rattle.packets.specs.Answers.{Wrote}
-use Rattle.marks.specs.Fields.{Clamped, Framed, framed, framed-facts, facts-framed}
+use Rattle.marks.specs.Fields.{Clamped, Framed}
 use Rattle.model.specs.Layout.{blockSize, countAt, filterAt, mostData, mostMonitors, mostPairs, positionAt}
-
--- the lengths that a packet's step asks for: a block, the octets of a packet frame, room for the longest answer
-unfoldable pub lengthsFit : List ℕ → List ℕ → List ℕ → Bool
-lengthsFit s l out = eqb (length s) blockSize && (leb answerRoom (length out) && framed l)
 
 -- a packet frame of octets
 pub octets-known : (l : List ℕ) → ((i : ℕ) → getD l i 0 < 256) → every isOctet l ≡ true
@@ -183,17 +178,16 @@ module _ (m : Model) (s l acts : List ℕ) (dev n : ℕ) (b : Begun m s l acts d
       → Wrote o w (when told (packetReport (packetOf l))) v r
       → u ≡ advanced t
       → Stepped m (packet (packetOf l)) u out v (w + r)
-  unfolding stepTyped answerTyped packetAnswer startsOf afterStarts withLists
+  unfolding stepTyped answerTyped packetAnswer afterStarts withLists
   packet-stepped {t} {u} {out} {o} {v} {k} {w} {r} {told} h e x y q =
       let p : Packet = packetOf l in
       let g : Model = withLists m (m .mons) (packetPairs m p) in
       let a : List ℕ = each (startEvent (m .prefix)) (drop n (packetPairs m p)) in
       let c : List ℕ = when told (packetReport p) in
-      let ans : a ++ c ≡ each (startEvent (m .prefix)) (drop (length (m .pairs)) (packetPairs m p)) ++ when
-      (reported m p) (packetReport p) =
+      let ans : a ++ c ≡ each (startEvent (m .prefix)) (startsOf m p) ++ when (reported m p) (packetReport p) =
       ap (λ (j : ℕ). each (startEvent (m .prefix)) (drop j (packetPairs m p)) ++ c) (b .count)
-      ∙ ap (λ (j : Bool). each (startEvent (m .prefix)) (drop (length (m .pairs)) (packetPairs m p)) ++ when j
-      (packetReport p)) e in
+      ∙ ap (λ (x : List Pair). each (startEvent (m .prefix)) x ++ c) (starts-behind m p)
+      ∙ ap (λ (j : Bool). each (startEvent (m .prefix)) (startsOf m p) ++ when j (packetReport p)) e in
       let n : length t ≡ blockSize = ap length (h .block) ∙ length-padded g (h .measured) in
       record {
         block = q ∙ advanced-moved g t (h .block) (omega arith) (omega (arith, b .below));
@@ -202,36 +196,12 @@ module _ (m : Model) (s l acts : List ℕ) (dev n : ℕ) (b : Begun m s l acts d
             ∙ ap (λ (z : List ℕ). length z) ans;
       }
 
--- the lengths that do not fit
-module _ (s l out : List ℕ) where
-  pub fit-block : (length s ≡ blockSize → ⊥) → false ≡ lengthsFit s l out
-  unfolding lengthsFit
-  fit-block n = sym (and-not-left _ _ (ne-eqb (length s) blockSize n))
-
-  pub fit-out : length out < answerRoom → false ≡ lengthsFit s l out
-  unfolding lengthsFit
-  fit-out n = sym (and-not-right (eqb (length s) blockSize) _ (and-not-left _ _ (lt-leb answerRoom (length out) n)))
-
-  pub fit-frame : {r : Bool} → length s ≡ blockSize → answerRoom ≤ length out → r ≡ framed l → r ≡ lengthsFit s l out
-  unfolding lengthsFit
-  fit-frame a b e = e ∙ sym (rw (eq-eqb (length s) blockSize a, le-leb answerRoom (length out) b))
-
-  pub fit-facts : lengthsFit s l out ≡ true → (length s ≡ blockSize) × (answerRoom ≤ length out) × Framed l
-  unfolding lengthsFit
-  fit-facts e =
-      let a = eqb (length s) blockSize in
-      let b = leb answerRoom (length out) in
-      let e1 = and-right a (b && framed l) e in (
-        eqb-true (length s) blockSize (and-left a (b && framed l) e),
-        leb-true answerRoom (length out) (and-left b (framed l) e1),
-        framed-facts l (and-right b (framed l) e1),
-      )
-
-  pub facts-fit : length s ≡ blockSize → answerRoom ≤ length out → Framed l → lengthsFit s l out ≡ true
-  facts-fit a b f = sym (fit-frame a b refl) ∙ facts-framed l f
-
--- a sound block, a packet frame and room for the answer fit
-pub packet-fits : (m : Model) (s l out : List ℕ) → soundModel m ≡ true → s ≡ padded m → isPacket l ≡ true
-    → answerRoom ≤ length out → lengthsFit s l out ≡ true
-packet-fits m s l out e b k h =
-    facts-fit s l out (ap (λ (x : List ℕ). length x) b ∙ padded-length m e) h (packet-framed l k)
+-- octets past the start events and the report are as they were
+pub answer-within : (out : List ℕ) {o v : List ℕ} {w r : ℕ} (ys : List ℕ) → w + r ≤ length out → length o ≡ length out
+    → drop w o ≡ drop w out → Wrote o w ys v r → Within out v (w + r)
+answer-within out {o} {v} {w} {r} ys h l e x =
+    record {
+      count = h;
+      rest = rest-put o w ys (omega arith) (x .octets) (ap (λ (k : ℕ). w + k) (x .count))
+          ∙ rest-further o out w (w + r) (omega arith) e;
+    }

@@ -19,7 +19,7 @@ ghost use Rattle.model.specs.Watch.{packetMove, holds, turns, reported};
 ghost use Rattle.model.specs.Events.{startEvent, packetReport};
 ghost use Rattle.model.specs.Block.{padded};
 ghost use Rattle.steps.specs.Typed.{Sent};
-ghost use Rattle.stepped.specs.Stepped.{Stepped};
+ghost use Rattle.steps.specs.Stepped.{Steps, Within, Taken};
 ghost use Rattle.marks.specs.Marks.{tells};
 ghost use Rattle.marks.specs.Fields.{Framed};
 ghost use Rattle.packets.specs.Changes.{freshened, collected, changed};
@@ -28,7 +28,7 @@ ghost use Rattle.packets.specs.Windows.{takenBy};
 ghost use Rattle.packets.specs.Moves.{AtPair, pairAt, withPair};
 ghost use Rattle.packets.specs.Held.{Given};
 ghost use Rattle.packets.specs.Starts.{Holding, Sought, Turned, after};
-ghost use Rattle.packets.specs.Whole.{Begun, afterMoves, afterStarts, lengthsFit};
+ghost use Rattle.packets.specs.Whole.{Begun, afterMoves, afterStarts};
 ghost use Rattle.packets.specs.Reports.{anyFrom, wantsAt};
 ghost use Rattle.packets.specs.Answers.{Wrote};
 ghost use Rattle.model.specs.Layout.{eventMost, packetMost, reportMost, startsMost};
@@ -228,7 +228,7 @@ fn is_told(s: &[u8], n: usize, k: usize, acts: &[u8], dev: u64) -> bool
 // The start event of pair i, written into out at an index. Answers how many octets that is.
 fn put_start(s: &[u8], i: usize, out: &mut [u8], at: usize) -> usize
     requires { ⌜ (length (now s) ≡ blockSize) × (i < mostPairs) ⌝ }
-    ensures { λ r. ⌜ (r ≤ eventMost) × ((m : Model) → AtPair m (now (s .entry)) i → at + eventMost ≤ length (now (out .entry)) → Wrote (now (out .entry)) at (startEvent (m .prefix) (pairAt m i)) (now (out .exit)) r) ⌝ }
+    ensures { λ r. ⌜ (r ≤ eventMost) × (at ≤ length (now (out .entry)) → drop (at + r) (now (out .exit)) ≡ drop (at + r) (now (out .entry))) × ((m : Model) → AtPair m (now (s .entry)) i → at + eventMost ≤ length (now (out .entry)) → Wrote (now (out .entry)) at (startEvent (m .prefix) (pairAt m i)) (now (out .exit)) r) ⌝ }
 {
     let end = State::PREFIX_AT + octets::at_most(s[State::PREFIX_LENGTH_AT], State::PREFIX);
     let from = State::PAIRS_AT + State::PAIR_ROW * i;
@@ -239,7 +239,7 @@ fn put_start(s: &[u8], i: usize, out: &mut [u8], at: usize) -> usize
 // The start events of the pairs from an index on.
 fn put_starts(s: &[u8], from: usize, count: usize, out: &mut [u8]) -> usize
     requires { ⌜ (length (now s) ≡ blockSize) × (from + count ≤ mostPairs) × (answerRoom ≤ length (now out)) ⌝ }
-    ensures { λ r. ⌜ (r ≤ startsMost) × ((m : Model) → Holding m (now (s .entry)) (from + count) → Wrote (now (out .entry)) 0 (each (startEvent (m .prefix)) (drop from (m .pairs))) (now (out .exit)) r) ⌝ }
+    ensures { λ r. ⌜ (r ≤ startsMost) × (drop r (now (out .exit)) ≡ drop r (now (out .entry))) × ((m : Model) → Holding m (now (s .entry)) (from + count) → Wrote (now (out .entry)) 0 (each (startEvent (m .prefix)) (drop from (m .pairs))) (now (out .exit)) r) ⌝ }
 {
     let mut w = 0;
     let mut j = 0;
@@ -270,21 +270,10 @@ fn put_told(out: &mut [u8], at: usize, told: bool, payload: &[u8]) -> usize
     0
 }
 
-fn fits(s: &[u8], payload: &[u8], out: &[u8]) -> bool
-    ensures { λ r. ⌜ r ≡ lengthsFit (now (s .entry)) (now (payload .entry)) (now (out .entry)) ⌝ }
-{
-    if s.len() != State::SIZE {
-        return false;
-    }
-    if out.len() < State::ANSWER {
-        return false;
-    }
-    marks::is_framed(payload)
-}
-
+// A packet frame on a block of the right length.
 fn step(s: &mut [u8], payload: &[u8], out: &mut [u8]) -> usize
     requires { ⌜ (length (now s) ≡ blockSize) × (answerRoom ≤ length (now out)) × Framed (now payload) ⌝ }
-    ensures { λ r. ⌜ (r ≤ packetMost) × ((m : Model) → soundModel m ≡ true → now (s .entry) ≡ padded m → m .position < 4294967295 → isPacket (now (payload .entry)) ≡ true → Stepped m (packetFrame (packetOf (now (payload .entry)))) (now (s .exit)) (now (out .entry)) (now (out .exit)) r) ⌝ }
+    ensures { λ r. ⌜ Within (now (out .entry)) (now (out .exit)) r × (isPacket (now (payload .entry)) ≡ true → Steps (packetFrame (packetOf (now (payload .entry)))) (now (s .entry)) (now (s .exit)) (now (out .entry)) (now (out .exit)) r) ⌝ }
 {
     let mut acts = [0u8; State::MONITORS];
     marks::mark_all(&mut acts, s, payload);
@@ -302,16 +291,17 @@ fn step(s: &mut [u8], payload: &[u8], out: &mut [u8]) -> usize
 // A packet frame, executed: the pairs of its device refreshed and their windows given the packet, the starts appended by handle,
 // the position moved; the start events and the report written into out. The payload is event type, address type, address (6),
 // data length n, n octets and RSSI. Answers how many octets were written.
-// Where the block is not of 4,761 octets, out has under 2,880, or the payload is not of 10 + n octets with n at most 31, nothing
-// is changed and the answer is 0. Else, for a block that is of no sound state before the last number, or a payload that is of no
-// packet frame, it is not settled here what the block and out hold and what is answered; the answer is at most the length of out.
+// Where the block is not of 4,761 octets or at the last frame number, out has under 2,880 octets, or the payload is of no packet
+// frame, nothing is changed and the answer is 0. Of a block that is of no sound state the contents, what is written and how much are
+// free; the lengths stay, the answer is at most the length of out, and the octets past it are as they were.
 // No window of a sound state is full before the last number (crate steps, Counts).
 pub fn packet(s: &mut [u8], payload: &[u8], out: &mut [u8]) -> usize
-    ensures { λ r. ⌜ ((m : Model) → soundModel m ≡ true → now (s .entry) ≡ padded m → m .position < lastNumber → isPacket (now (payload .entry)) ≡ true → answerRoom ≤ length (now (out .entry)) → Stepped m (packetFrame (packetOf (now (payload .entry)))) (now (s .exit)) (now (out .entry)) (now (out .exit)) r) ⌝ }
-    ensures within { λ r. ⌜ r ≤ length (now (out .entry)) ⌝ }
-    ensures refused { λ r. ⌜ (lengthsFit (now (s .entry)) (now (payload .entry)) (now (out .entry)) ≡ false → (r ≡ 0) × (now (s .exit) ≡ now (s .entry)) × (now (out .exit) ≡ now (out .entry))) ⌝ }
+    ensures { λ r. ⌜ Taken (packetFrame (packetOf (now (payload .entry)))) (isPacket (now (payload .entry))) (now (s .entry)) (now (s .exit)) (now (out .entry)) (now (out .exit)) r ⌝ }
 {
-    if !fits(s, payload, out) {
+    if !state::ready(s, out) {
+        return 0;
+    }
+    if !frames::packet_form(payload) {
         return 0;
     }
     step(s, payload, out)

@@ -8,11 +8,13 @@ use native.Mathlib.Omega.{arith}
 use borrow.Author.Tests.{eq-eqb, ne-eqb}
 use lib.Dec.{eqb}
 use lib.ListN.{length}
-use Rattle.laws.specs.Tests.{and-left, and-right, and-not-right, sames, sames-eq, eq-sames}
+use Rattle.laws.specs.Tests.{pick, pick-true, pick-false, and-left, and-right, and-not-left, sames, sames-eq, eq-sames}
 use Rattle.model.specs.Types.{Model}
 use Rattle.model.specs.Sound.{soundModel}
 use Rattle.model.specs.Image.{imageText, heldIn, isImage}
 use Rattle.model.specs.Block.{padded, held, sound}
+use Rattle.model.specs.Engine.{blockIn}
+use Rattle.state.specs.Start.{blankIn, blank-is}
 use Rattle.blocks.specs.Block.{sound-padded, sound-held, padded-held}
 use Rattle.images.specs.Exactly.{image-exactly}
 use Rattle.images.specs.Sizes.{image-most}
@@ -75,28 +77,45 @@ module _ (t s : List ℕ) (q : (m : Model) → soundModel m ≡ true → t ≡ i
 unfoldable pub restores : List ℕ → ℕ → Bool
 restores t n = eqb n blockSize && isImage t
 
--- what restore answers and leaves; where it answers false, what stands in the block is not said
-abbrev pub Restored : List ℕ → List ℕ → List ℕ → Bool → Type 0
-Restored t s after r = (r ≡ restores t (length s)) × (restores t (length s) ≡ true → after ≡ padded (heldIn t))
+-- what then stands in the block: the state that the text holds, the blank state where the text is refused; a block of another length
+-- stays as it is
+unfoldable pub restored : List ℕ → List ℕ → List ℕ
+restored t s = pick (eqb (length s) blockSize) (blockIn (isImage t) t) s
 
-module _ (t s : List ℕ) {after : List ℕ} where
-  pub restored-not-block : (length s ≡ blockSize → ⊥) → Restored t s after false
-  unfolding restores
+-- what reading a text's lines answers and leaves; where it answers false, what stands in the block is not said
+abbrev pub Read : List ℕ → List ℕ → Bool → Type 0
+Read t after r = (r ≡ isImage t) × (isImage t ≡ true → after ≡ padded (heldIn t))
+
+module _ (t : List ℕ) {after : List ℕ} where
+  pub read-refused : isImage t ≡ false → Read t after false
+  read-refused h = (sym h, λ i. absurd (false≢true (sym h ∙ i)))
+
+  pub read-done : {r : Bool} → ((m : Model) → soundModel m ≡ true → t ≡ imageText m → after ≡ padded m)
+      → sound after ≡ true → r ≡ sames (savedText after) t → Read t after r
+  read-done q u e = (e ∙ image-again t after q u, image-block t after q)
+
+module _ (t s : List ℕ) where
+  pub restored-not-block : (length s ≡ blockSize → ⊥) → (false ≡ restores t (length s)) × (s ≡ restored t s)
+  unfolding restores restored
   restored-not-block h =
       let e : eqb (length s) blockSize ≡ false = ne-eqb (length s) blockSize h in
-      (rw e, λ i. absurd (false≢true (rw e at i)))
+      (sym (and-not-left _ (isImage t) e), sym (pick-false (blockIn (isImage t) t) s e))
 
-  pub restored-refused : isImage t ≡ false → Restored t s after false
-  unfolding restores
-  restored-refused h =
-      let e : (eqb (length s) blockSize && isImage t) ≡ false = and-not-right (eqb (length s) blockSize) (isImage t) h in
-      (sym e, λ i. absurd (false≢true (sym e ∙ i)))
+  module _ (h : length s ≡ blockSize) {r : Bool} {mid : List ℕ} (w : Read t mid r) where
+    is : r ≡ restores t (length s)
+    unfolding restores
+    is = w .0 ∙ rw (eq-eqb (length s) blockSize h)
 
-  pub restored-done : {r : Bool} → length s ≡ blockSize
-      → ((m : Model) → soundModel m ≡ true → t ≡ imageText m → after ≡ padded m) → sound after ≡ true
-      → r ≡ sames (savedText after) t → Restored t s after r
-  unfolding restores
-  restored-done h q u e = (
-    e ∙ image-again t after q u ∙ rw (eq-eqb (length s) blockSize h),
-    λ i. image-block t after q (and-right (eqb (length s) blockSize) (isImage t) i),
-  )
+    there : (b : Bool) → isImage t ≡ b → blockIn b t ≡ restored t s
+    unfolding restored
+    there b e =
+        ap (λ (x : Bool). blockIn x t) (sym e) ∙ sym (pick-true (blockIn (isImage t) t) s (eq-eqb (length s) blockSize h))
+
+    pub restored-in : r ≡ true → (r ≡ restores t (length s)) × (mid ≡ restored t s)
+    unfolding blockIn
+    restored-in e = (is, w .1 (sym (w .0) ∙ e) ∙ there true (sym (w .0) ∙ e))
+
+    pub restored-blank : {after : List ℕ} → r ≡ false → length mid ≡ blockSize → after ≡ blankIn mid
+        → (r ≡ restores t (length s)) × (after ≡ restored t s)
+    unfolding blockIn
+    restored-blank e l q = (is, q ∙ blank-is mid l ∙ there false (sym (w .0) ∙ e))

@@ -23,6 +23,7 @@ use Rattle.model.specs.Types.{Model, Monitor, Pair, withLists}
 use Rattle.model.specs.Sound.{soundModel}
 use Rattle.model.specs.Image.{headRow, monitorRow, pairRow, endRow, records, imageText}
 use Rattle.model.specs.Block.{padTo, monitorPlace, monitorBlock, pairBlock, padded}
+use Rattle.blocks.specs.Laid.{empty-padded}
 use Rattle.blocks.specs.Rows.{length-headRow, length-monitorRow, length-pairRow, octets-cons}
 use Rattle.blocks.specs.Facts.{SoundMonitor, SoundMonitors, SoundModel, sound-facts, monitors-tail}
 use Rattle.blocks.specs.Bounds.{Fits, pairs-fit, sound-headRow, sound-monitorRow, fits-pairRow}
@@ -64,8 +65,6 @@ name-of name r = refl
 -- A0 in an empty block
 pub head-stored : (m : Model) → length (m .prefix) ≤ mostPrefix
     → stored (replicate blockSize 0) (padTo lineRow (0xA0 ∷ headRow m)) ≡ padded (withLists m [] [])
-unfolding padded withLists headRow monitorBlock monitorPlace
-    pairBlock upTo flat
 head-stored m h =
     let n : length (headRow m) ≡ 8 + length (m .prefix) = length-headRow m in
     let l : List ℕ = padTo lineRow (0xA0 ∷ headRow m) in
@@ -75,6 +74,7 @@ head-stored m h =
     ∙ ap (λ (x : List ℕ). put x 0 (padTo headSize (headRow m))) (sym (replicate-append-replicate headSize bodySize 0))
     ∙ put-left (replicate headSize 0) (replicate bodySize 0) 0 (padTo headSize (headRow m)) (omega arith)
     ∙ ap (λ (x : List ℕ). x ++ replicate bodySize 0) (put-whole (replicate headSize 0) (padTo headSize (headRow m)) (sym k))
+    ∙ sym (empty-padded m)
 
 -- monitors by handle, one more behind the others
 find-same : (l : List (ℕ × Monitor)) (h : ℕ) (n : Monitor) → All (λ y. y .0 < h) l

@@ -16,11 +16,11 @@ ghost use Rattle.rule.specs.Base.{All};
 ghost use Rattle.save.specs.Text.{savedText};
 ghost use Rattle.model.specs.Types.{Model};
 ghost use Rattle.model.specs.Sound.{soundModel};
-ghost use Rattle.model.specs.Image.{imageText, heldIn};
+ghost use Rattle.model.specs.Image.{imageText};
 ghost use Rattle.model.specs.Block.{padded};
 ghost use Rattle.restore.specs.Lines.{lineIn, storedMonitor, storedPair, stored, storedAll, lineLength};
 ghost use Rattle.restore.specs.Rows.{Row};
-ghost use Rattle.restore.specs.Accept.{restores};
+ghost use Rattle.restore.specs.Accept.{restores, restored, Read};
 ghost use Rattle.model.specs.Layout.{blockSize, lineRow, monitorSize, pairSize};
 
 const LF: u8 = 10;
@@ -130,16 +130,12 @@ fn is_saved(s: &[u8], text: &[u8]) -> bool
     parts::same(&out[..n], text)
 }
 
-// Reads an image into s: the answer is whether s has 4,761 octets and the text is an image of a sound state. Where it
-// is, s is then the block of the state that the text holds; where not, what s holds is free, and the caller begins a
-// blank state.
-pub fn read_image(text: &[u8], s: &mut [u8]) -> bool
-    ensures { λ r. ⌜ r ≡ restores (now (text .entry)) (length (now (s .entry))) ⌝ }
-    ensures { λ _. ⌜ (restores (now (text .entry)) (length (now (s .entry))) ≡ true → now (s .exit) ≡ padded (heldIn (now (text .entry)))) ⌝ }
+// Reads an image into s: the answer is whether the text is an image of a sound state. Where it is, s is then the block of
+// the state that the text holds; where not, what s holds is not said.
+fn take_image(text: &[u8], s: &mut [u8]) -> bool
+    requires { ⌜ length (now s) ≡ blockSize ⌝ }
+    ensures { λ r. ⌜ Read (now (text .entry)) (now (s .exit)) r ⌝ }
 {
-    if s.len() != State::SIZE {
-        return false;
-    }
     if State::IMAGE < text.len() {
         return false;
     }
@@ -148,4 +144,20 @@ pub fn read_image(text: &[u8], s: &mut [u8]) -> bool
         return is_saved(s, text);
     }
     false
+}
+
+// Restores an image into s: the answer is whether s has 4,761 octets and the text is an image of a sound state. Where it
+// is, s is then the block of the state that the text holds; where the text is refused, the blank state's. A block of
+// another length stays as it is.
+pub fn read_image(text: &[u8], s: &mut [u8]) -> bool
+    ensures { λ r. ⌜ (r ≡ restores (now (text .entry)) (length (now (s .entry)))) × (now (s .exit) ≡ restored (now (text .entry)) (now (s .entry))) ⌝ }
+{
+    if s.len() != State::SIZE {
+        return false;
+    }
+    let image = take_image(text, s);
+    if !image {
+        state::put_blank(s);
+    }
+    image
 }

@@ -22,6 +22,7 @@ use Rattle.model.specs.Image.{headRow, pairRow, pairIn}
 use Rattle.model.specs.Watch.{isPair}
 use Rattle.model.specs.Sound.{soundOf, soundPair}
 use Rattle.model.specs.Block.{padTo, pairBlock, padded, held, sound}
+use Rattle.blocks.specs.Laid.{take-head}
 use Rattle.blocks.specs.Rows.{length-headRow, length-pairRow, headRow-filter, headRow-opcode, headRow-count, getD-past}
 use Rattle.blocks.specs.Facts.{SoundMonitor, SoundModel}
 use Rattle.blocks.specs.Bounds.{Fits, live-handle, live-monitor, pairs-fit, pair-at, pair-fits, fits-in}
@@ -136,10 +137,6 @@ free-part s c l h =
     ∙ sym (drop-at (take (pairSize * c) t) (take (pairsSize - pairSize * c) (drop (pairSize * c) t)) (pairSize * c) a)
     ∙ ap (λ (x : List ℕ). drop (pairSize * c) x) (sym (take-add (pairSize * c) (pairsSize - pairSize * c) t))
     ∙ ap (λ (j : ℕ). drop (pairSize * c) (take j t)) (sym v)
-
-take-head : (m : Model) → Measured m → take headSize (padded m) ≡ padTo headSize (headRow m)
-unfolding padded
-take-head m f = take-at (padTo headSize (headRow m)) (tables m) headSize (length-head m (f .prefix-most))
 
 module _ (s : List ℕ) (e : sound s ≡ true) where
   l : length s ≡ blockSize

@@ -20,6 +20,7 @@ use Rattle.model.specs.Image.{pairRow, pairIn}
 use Rattle.model.specs.Watch.{isPair}
 use Rattle.model.specs.Sound.{soundOf, soundPair, apart}
 use Rattle.model.specs.Block.{padTo, monitorBlock, pairBlock, padded, held, sound}
+use Rattle.blocks.specs.Laid.{padded-parts}
 use Rattle.blocks.specs.Facts.{SoundModel, facts-sound, monitors-facts}
 use Rattle.blocks.specs.Tables.{from, length-from}
 use Rattle.soundness.specs.Below.{all-below}
@@ -148,7 +149,6 @@ module _ (s : List ℕ) (o : every isOctet s ≡ true) (f : Clauses s) where
       }
 
   held-padded : padded (held s) ≡ s
-  unfolding padded
   held-padded =
       let c : ℕ = getD s countAt 0 in
       let l : length s ≡ blockSize = f .size in
@@ -161,7 +161,8 @@ module _ (s : List ℕ) (o : every isOctet s ≡ true) (f : Clauses s) where
       let e : c ∷ [] ≡ drop countAt s = ap (λ (x : List ℕ). c ∷ x) (sym z) ∙ one-cut s countAt (omega arith) in
       let pairs : pb ≡ w =
       ap pairBlock pairs-now ∙ block-pairs s l c (f .few) pair-place (f .free) in
-      ap (λ (x : List ℕ). x ++ (mb ++ (pb ++ (length (held s .pairs) ∷ [])))) (head-row s (omega arith) o (f .head))
+      padded-parts (held s)
+      ∙ ap (λ (x : List ℕ). x ++ (mb ++ (pb ++ (length (held s .pairs) ∷ [])))) (head-row s (omega arith) o (f .head))
       ∙ ap (λ (x : List ℕ). u ++ (x ++ (pb ++ (length (held s .pairs) ∷ [])))) (block-live s l o (f .monitors))
       ∙ ap (λ (x : List ℕ). u ++ (v ++ (x ++ (length (held s .pairs) ∷ [])))) pairs
       ∙ ap (λ (n : ℕ). u ++ (v ++ (w ++ (n ∷ [])))) pairs-length

@@ -6,24 +6,25 @@ use mathlib.Core.Bool.{Bool, true, false, _&&_}
 use mathlib.Core.List.{List, [], _∷_, _++_, append-assoc}
 use native.Mathlib.Omega.{arith}
 use native.Mathlib.Nat.{mod-eq-of-lt}
-use lib.Dec.{leb}
+use lib.Dec.{leb, eqb}
 use lib.ListN.{length, take, drop, getD, replicate, length-append, length-replicate, replicate-append-replicate}
 use lib.Seq.{take-at, drop-at}
-use borrow.Author.Tests.{le-leb, lt-leb, lt-ltb}
+use borrow.Author.Tests.{le-leb, lt-leb, lt-ltb, eq-eqb, ne-eqb}
 use Rattle.laws.specs.Tests.{pick, pick-true, pick-false, and-both, and-not-left, and-not-right}
 use Rattle.laws.specs.Put.{put, putIf, put-of, put-then}
-use Rattle.laws.specs.Loops.{every, upTo}
-use Rattle.laws.specs.Rows.{flat}
+use Rattle.laws.specs.Loops.{every}
+use Rattle.laws.specs.Rows.{put-whole}
 use Rattle.octets.specs.Little.{octetsOf, isOctet, length-octets}
 use Rattle.lines.specs.declared.Refusal.the-variants.{BadSettings}
-use Rattle.model.specs.Types.{fresh, blank}
+use Rattle.model.specs.Types.{fresh, blank, withLists}
 use Rattle.model.specs.Sound.{octetsUpTo, soundSettings}
 use Rattle.model.specs.Image.{headRow}
-use Rattle.model.specs.Block.{padTo, monitorPlace, monitorBlock, pairBlock, padded}
+use Rattle.model.specs.Block.{padTo, padded}
+use Rattle.blocks.specs.Laid.{empty-padded}
 use Rattle.model.specs.Engine.{begin}
 use Rattle.state.specs.declared.Start.{Start}
 use Rattle.state.specs.declared.Start.the-variants.{Fresh, Refused}
-use Rattle.model.specs.Layout.{blockSize, headSize, monitorSize, monitorsSize, mostMonitors, mostPairs, mostPrefix, pairSize, pairsSize}
+use Rattle.model.specs.Layout.{blockSize, bodySize, headSize, mostPrefix}
 
 -- "9: settings out of range"
 unfoldable pub settingsOf : ℕ → List ℕ → Start
@@ -57,22 +58,10 @@ unfolding put
 zeros-put n at ys h = rw (zeros-take at n (omega arith), zeros-drop (at + length ys) n h)
 
 -- zeros behind zeros
-zeros-join : (xs : List ℕ) (a b c d : ℕ) → a + (b + (c + 1)) ≡ d
-    → xs ++ replicate a 0 ++ (replicate b 0 ++ (replicate c 0 ++ (0 ∷ []))) ≡ xs ++ replicate d 0
-zeros-join xs a b c d e =
-    ap (λ (l : List ℕ). xs ++ replicate a 0 ++ (replicate b 0 ++ l)) (replicate-append-replicate c 1 0)
-    ∙ ap (λ (l : List ℕ). xs ++ replicate a 0 ++ l) (replicate-append-replicate b (c + 1) 0)
-    ∙ append-assoc xs (replicate a 0) (replicate (b + (c + 1)) 0)
-    ∙ ap (λ (l : List ℕ). xs ++ l) (replicate-append-replicate a (b + (c + 1)) 0)
+zeros-join : (xs : List ℕ) (a b d : ℕ) → a + b ≡ d → xs ++ replicate a 0 ++ replicate b 0 ≡ xs ++ replicate d 0
+zeros-join xs a b d e =
+    append-assoc xs (replicate a 0) (replicate b 0) ∙ ap (λ (l : List ℕ). xs ++ l) (replicate-append-replicate a b 0)
     ∙ ap (λ (k : ℕ). xs ++ replicate k 0) e
-
-no-monitors : monitorBlock [] ≡ replicate monitorsSize 0
-unfolding monitorBlock monitorPlace upTo
-no-monitors = refl
-
-no-pairs : pairBlock [] ≡ replicate pairsSize 0
-unfolding pairBlock flat
-no-pairs = refl
 
 -- the block of a fresh state: zeros, with its settings
 front : (opcode : ℕ) (prefix : List ℕ) → headRow (fresh opcode prefix) ≡ replicate 5 0 ++ settingsRow opcode prefix
@@ -81,16 +70,15 @@ front opcode prefix = refl
 
 whole : (opcode : ℕ) (prefix : List ℕ) → length prefix ≤ mostPrefix → padded (fresh opcode prefix)
     ≡ replicate 5 0 ++ settingsRow opcode prefix ++ replicate (blockSize - (5 + length (settingsRow opcode prefix))) 0
-unfolding padded fresh padTo headRow
+unfolding fresh padTo withLists
 whole opcode prefix h =
     let ys : List ℕ = settingsRow opcode prefix in
     let n : length ys ≡ 3 + length prefix = length-settings opcode prefix in
     let r : headRow (fresh opcode prefix) ≡ replicate 5 0 ++ ys = front opcode prefix in
     let l : length (headRow (fresh opcode prefix)) ≡ 5 + length ys = ap (λ (x : List ℕ). length x) r ∙ omega arith in
     let b : List ℕ = headRow (fresh opcode prefix) in
-    ap (λ (x : List ℕ). padTo headSize b ++ (x ++ (pairBlock [] ++ (0 ∷ [])))) no-monitors
-    ∙ ap (λ (x : List ℕ). padTo headSize b ++ (replicate monitorsSize 0 ++ (x ++ (0 ∷ [])))) no-pairs
-    ∙ zeros-join b (headSize - length b) monitorsSize pairsSize (blockSize - (5 + length ys)) (omega arith)
+    empty-padded (fresh opcode prefix)
+    ∙ zeros-join b (headSize - length b) bodySize (blockSize - (5 + length ys)) (omega arith)
     ∙ ap (λ (x : List ℕ). x ++ replicate (blockSize - (5 + length ys)) 0) r
 
 pub fresh-block : (opcode : ℕ) (prefix : List ℕ) → length prefix ≤ mostPrefix
@@ -142,6 +130,27 @@ not-started opcode prefix e q = (
 pub blank-block : {l : List ℕ} → l ≡ put (replicate blockSize 0) 5 (settingsRow 0xFC00 []) → l ≡ padded blank
 unfolding blank
 blank-block q = q ∙ fresh-block 0xFC00 [] (omega arith)
+
+-- the blank state's block in the place of another
+unfoldable pub blankIn : List ℕ → List ℕ
+blankIn s = pick (eqb (length s) blockSize) (padded blank) s
+
+pub blank-not : (s : List ℕ) → (length s ≡ blockSize → ⊥) → s ≡ blankIn s
+unfolding blankIn
+blank-not s n = sym (pick-false (padded blank) s (ne-eqb (length s) blockSize n))
+
+pub blank-is : (s : List ℕ) → length s ≡ blockSize → blankIn s ≡ padded blank
+unfolding blankIn
+blank-is s h = pick-true (padded blank) s (eq-eqb (length s) blockSize h)
+
+pub blank-put : (s : List ℕ) {l m : List ℕ} {b : Bool} → length s ≡ blockSize → b ≡ leb (0 + blockSize) (length s)
+    → l ≡ putIf b s 0 (replicate blockSize 0) → m ≡ put l 5 (settingsRow 0xFC00 []) → m ≡ blankIn s
+blank-put s {l} {m} h e q r =
+    let zeros : List ℕ = replicate blockSize 0 in
+    let n : length zeros ≡ blockSize = length-replicate {A = ℕ} blockSize 0 in
+    let w : l ≡ replicate blockSize 0 =
+    put-of s 0 (replicate blockSize 0) blockSize (length s) e (omega arith) q ∙ put-whole s zeros (h ∙ sym n) in
+    blank-block (r ∙ ap (λ (x : List ℕ). put x 5 (settingsRow 0xFC00 [])) w) ∙ sym (blank-is s h)
 
 -- opcode, prefix length and prefix, written one after another
 pub settings-put : (l : List ℕ) (opcode : ℕ) (prefix : List ℕ) {m n o : List ℕ} {a b c : Bool} → length prefix ≤ mostPrefix

@@ -8,9 +8,9 @@ ghost use lib.ListN.{length};
 ghost use Rattle.laws.specs.Put.{put};
 ghost use Rattle.model.specs.Types.{ticksOf, blank};
 ghost use Rattle.model.specs.Level.{level, inRange};
-ghost use Rattle.model.specs.Block.{padded, advanced};
+ghost use Rattle.model.specs.Block.{padded, advanced, ready as isReady};
 ghost use Rattle.model.specs.Engine.{begin};
-ghost use Rattle.state.specs.Start.{settingsOf, settingsRow};
+ghost use Rattle.state.specs.Start.{settingsOf, settingsRow, blankIn};
 ghost use Rattle.model.specs.Layout.{headSize, mostPrefix};
 
 // Seconds of the low interval.
@@ -65,6 +65,31 @@ pub fn advance(block: &mut [u8])
     );
 }
 
+// Whether a frame may be taken: the block has its size, the output room for the longest answer, and a frame number is left.
+pub fn ready(block: &[u8], out: &[u8]) -> bool
+    ensures { λ r. ⌜ r ≡ isReady (now (block .entry)) (now (out .entry)) ⌝ }
+{
+    if block.len() != State::SIZE {
+        return false;
+    }
+    if out.len() < State::ANSWER {
+        return false;
+    }
+    octets::get32(block, State::POSITION_AT) < State::LAST
+}
+
+// The blank state, in a lent block of the right length; another is left as it is.
+pub fn put_blank(block: &mut [u8])
+    ensures { λ _. ⌜ now (block .exit) ≡ blankIn (now (block .entry)) ⌝ }
+{
+    if block.len() != State::SIZE {
+        return;
+    }
+    let none = [0u8; 0];
+    parts::fill(block, 0, State::SIZE, 0);
+    set_settings(block, State::LEAST_OPCODE, &none);
+}
+
 // What is said of settings: in range, or why not.
 pub enum Start {
     Fresh,
@@ -106,6 +131,8 @@ impl State {
     pub const MOST_LEVEL: u8 = 147;
     // The least vendor opcode; the greatest is 0xFFFF.
     pub const LEAST_OPCODE: u16 = 0xFC00;
+    // The last frame number.
+    pub const LAST: u32 = 0xFFFFFFFF;
     // The longest answer, image and line.
     pub const ANSWER: usize = 2880;
 

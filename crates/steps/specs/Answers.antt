@@ -25,7 +25,7 @@ use Rattle.steps.specs.Facts.{Settings, settings-of, Fields, fields-of}
 use Rattle.steps.specs.Whole.{Row, Held, Sound, sound-of}
 use Rattle.steps.specs.Typed.{Params, Sent, Formed, typed-formed}
 use Rattle.steps.specs.Executed.{Executed, executed}
-use Rattle.steps.specs.Starts.{Started, Starts, packet-starts}
+use Rattle.steps.specs.Starts.{Started, Below, packet-starts}
 use Rattle.steps.specs.Sizes.{Octets, returned-short, complete-short, event-short, packet-report-short}
 use Rattle.steps.specs.Sizes.{window-report-short}
 use Rattle.model.specs.Layout.{commandMost, eventMost, reportMost}
@@ -53,7 +53,7 @@ module _ (m : Model) (s : Sound m) where
   pub packet-short : (p : Packet) → Sent p → Octets 749 (packetAnswer m p)
   unfolding packetAnswer
   packet-short p t =
-      let w : Starts m p = packet-starts m p in
+      let w : Below p mostMonitors (startsOf m p) = packet-starts m p in
       let all : All (λ q. Octets eventMost (startEvent (m .prefix) q)) (startsOf m p) =
       all-weaken (Started p mostMonitors) (λ q. Octets eventMost (startEvent (m .prefix) q)) (λ q u. start-short p q t u)
       (startsOf m p) (w .starts) in

@@ -1,4 +1,5 @@
--- One step of the model: it keeps a sound state sound, moves the position by one, and writes at most 2,880 octets.
+-- One step of the model: it keeps a sound state sound, moves the position by one, and writes at most 2,880 octets; that a window's sum
+-- and mean are those of its RSSI values; what the contracts of commands, packets and ticks say of a step.
 pub mod Lists
 pub mod Facts
 pub mod Whole
@@ -14,3 +15,6 @@ pub mod Starts
 pub mod Sizes
 pub mod Answers
 pub mod Given
+pub mod Signed
+pub mod Mean
+pub mod Stepped

@@ -23,6 +23,7 @@ use Rattle.steps.specs.Lists.{map-each, all-weaken}
 use Rattle.steps.specs.Facts.{stored-of}
 use Rattle.steps.specs.Whole.{Row, key, in-holds, Kept, Held, Pairs, Monitors}
 use Rattle.steps.specs.Typed.{pick-both, Sent}
+use Rattle.steps.specs.Starts.{turn-none, turn-pick}
 use Rattle.steps.specs.Moves.{packet-key, Ticked, ticked, tick-key, kept-later, kept-packet, kept-tick}
 use Rattle.steps.specs.Moves.{kept-start}
 use Rattle.model.specs.Layout.{mostMonitors, mostPairs}
@@ -114,7 +115,7 @@ begins-tells m p h qs e =
 -- one handle's turn
 pub turn-pairs : (k : ℕ) (mons : List (ℕ × Monitor)) (p : Packet) (h : ℕ) (qs : List Pair) → Monitors mons → Sent p
     → Pairs k mons qs → Pairs k mons (turn (find mons h) p h qs)
-unfolding turn startPair
+unfolding startPair
 turn-pairs k mons p h qs s t w = go (find mons h) refl
   where
     started : (n : Monitor) → find mons h ≡ some n → Begins p h qs → Pairs k mons (qs ++ (startPair h p ∷ []))
@@ -129,10 +130,10 @@ turn-pairs k mons p h qs s t w = go (find mons h) refl
         }
 
     go : (o : Option Monitor) → find mons h ≡ o → Pairs k mons (turn o p h qs)
-    go none e = w
+    go none e = subst (Pairs k mons) (sym (turn-none p h qs)) w
     go (some n) e =
-        pick-both (Pairs k mons) (begins n p h qs) (qs ++ (startPair h p ∷ [])) qs
-        (λ b. started n e (begins-tells n p h qs b)) (λ b. w)
+        subst (Pairs k mons) (sym (turn-pick n p h qs)) (pick-both (Pairs k mons) (begins n p h qs) (qs ++ (startPair h p ∷ [])) qs
+        (λ b. started n e (begins-tells n p h qs b)) (λ b. w))
 
 pub turns-pairs : (k : ℕ) (mons : List (ℕ × Monitor)) (p : Packet) (n : ℕ) (qs : List Pair) → Monitors mons → Sent p
     → Pairs k mons qs → Pairs k mons (turns mons p n qs)

@@ -24,7 +24,7 @@ use Rattle.model.specs.Frames.{tick}
 use Rattle.model.specs.Step.{stepTyped, answerTyped, refusalTyped}
 use Rattle.model.specs.Sound.{soundModel}
 use Rattle.model.specs.Block.{padTo, pairBlock, padded, monitorPlace, advanced}
-use Rattle.stepped.specs.Stepped.{Stepped}
+use Rattle.steps.specs.Stepped.{Stepped}
 use Rattle.steps.specs.Keeps.{step-sound}
 use Rattle.steps.specs.Whole.{sound-of, sound-holds}
 use Rattle.blocks.specs.Facts.{sound-facts}

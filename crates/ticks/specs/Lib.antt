@@ -5,4 +5,3 @@ pub mod Table
 pub mod Pairs
 pub mod Whole
 pub mod Block
-pub mod Refused

@@ -47,6 +47,7 @@ pub record Cleared (t₀ t out₀ out : List ℕ) (k n : ℕ) (f g : ℕ → Lis
   pub octets : out ≡ put out₀ 0 (upTo g i)
   pub count : n ≡ length (upTo g i)
   pub kept-most : k ≤ i
+  pub wrote-most : n ≤ reportMost * i
 
 -- a row's length
 pub length-of : (i : ℕ) (t : List ℕ) → i < mostPairs → length t ≡ pairsSize → length (row pairSize i t) ≡ pairSize
@@ -216,11 +217,11 @@ module _ (intervals periods : List ℕ) (filter : ℕ) (prefix t₀ out₀ : Lis
 
 -- the freed rows cleared
 pub passed-cleared : (t₀ out₀ : List ℕ) (f g : ℕ → List ℕ) (i : ℕ) {t out l : List ℕ} {k n : ℕ} {b : Bool} → k ≤ i
-    → pairSize * i ≤ length t
+    → n ≤ reportMost * i → pairSize * i ≤ length t
     → Passed t₀ t out₀ out k n f g i → b ≡ leb (pairSize * k + pairSize * (i - k)) (length t)
     → l ≡ putIf b t (pairSize * k) (replicate (pairSize * (i - k)) 0)
     → Cleared t₀ l out₀ out k n f g i
-passed-cleared t₀ out₀ f g i {t} {out} {l} {k} h r p e q =
+passed-cleared t₀ out₀ f g i {t} {out} {l} {k} h w r p e q =
     let z : pairSize * k ≡ length (upTo f i) = p .size in
     record {
       table = put-then t₀ 0 (upTo f i) (pairSize * k) (replicate (pairSize * (i - k)) 0) (omega arith) (p .table) (rw zero-add z)
@@ -229,6 +230,7 @@ passed-cleared t₀ out₀ f g i {t} {out} {l} {k} h r p e q =
       octets = p .octets;
       count = p .count;
       kept-most = h;
+      wrote-most = w;
     }
 
 -- one octet of each of the first n monitor rows, by handle

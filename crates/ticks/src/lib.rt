@@ -13,18 +13,13 @@ ghost use Rattle.laws.specs.Put.{put};
 ghost use Rattle.laws.specs.Loops.{when};
 ghost use Rattle.laws.specs.Rows.{row};
 ghost use Rattle.octets.specs.Little.{little};
-ghost use Rattle.sessions.specs.Machine.{lastNumber};
-ghost use Rattle.model.specs.Types.{Model};
 ghost use Rattle.model.specs.Level.{mean};
 ghost use Rattle.model.specs.Frames.{tick as aTick};
-ghost use Rattle.model.specs.Sound.{soundModel};
-ghost use Rattle.model.specs.Block.{padded};
-ghost use Rattle.stepped.specs.Stepped.{Stepped};
+ghost use Rattle.steps.specs.Stepped.{Steps, Within, Taken};
 ghost use Rattle.events.specs.Octets.{eventOctets};
 ghost use Rattle.ticks.specs.Row.{windowedBy, closesAt, tickedRow, reportRow, saysRow, toldOn, keptAt, toldAt};
 ghost use Rattle.ticks.specs.Written.{Appended};
 ghost use Rattle.ticks.specs.Table.{Turned, Passed, Cleared, columnOf};
-ghost use Rattle.ticks.specs.Refused.{Taken};
 ghost use Rattle.model.specs.Layout.{reportMost};
 ghost use Rattle.sessions.specs.Machine.{answerRoom};
 ghost use Rattle.model.specs.Layout.{blockSize, headSize, lengthAt, monitorSize, mostData, mostMonitors, mostPairs, mostPrefix, packetsAt, pairSize, pairsSize, positionAt, silentAt};
@@ -238,7 +233,7 @@ fn tick_rows(
     prefix: &[u8],
 ) -> Turn
     requires { ⌜ (n ≤ mostPairs) × (length (now t) ≡ pairsSize) × (answerRoom ≤ length (now out)) × (length (now prefix) ≤ mostPrefix) ⌝ }
-    ensures { λ r. ⌜ (r .kept ≤ n) × Passed (now (t .entry)) (now (t .exit)) (now (out .entry)) (now (out .exit)) (r .kept) (r .wrote) (keptAt (now (intervals .entry)) (now (periods .entry)) (now (t .entry))) (toldAt (now (intervals .entry)) (now (periods .entry)) filter (now (prefix .entry)) (now (t .entry))) n ⌝ }
+    ensures { λ r. ⌜ (r .kept ≤ n) × (r .wrote ≤ reportMost * n) × Passed (now (t .entry)) (now (t .exit)) (now (out .entry)) (now (out .exit)) (r .kept) (r .wrote) (keptAt (now (intervals .entry)) (now (periods .entry)) (now (t .entry))) (toldAt (now (intervals .entry)) (now (periods .entry)) filter (now (prefix .entry)) (now (t .entry))) n ⌝ }
 {
     let mut i = 0;
     let mut kept = 0;
@@ -295,10 +290,10 @@ fn head_of(s: &[u8]) -> [u8; State::HEAD]
     r
 }
 
-// A tick on a block of the right length, before the last number.
+// A tick on a block of the right length.
 fn tick_in(s: &mut [u8], out: &mut [u8]) -> usize
     requires { ⌜ (length (now s) ≡ blockSize) × (answerRoom ≤ length (now out)) ⌝ }
-    ensures { λ r. ⌜ ((m : Model) → soundModel m ≡ true → now (s .entry) ≡ padded m → m .position < lastNumber → Stepped m aTick (now (s .exit)) (now (out .entry)) (now (out .exit)) r) ⌝ }
+    ensures { λ r. ⌜ Steps aTick (now (s .entry)) (now (s .exit)) (now (out .entry)) (now (out .exit)) r × Within (now (out .entry)) (now (out .exit)) r ⌝ }
 {
     let head = head_of(s);
     let intervals = column(s, State::INTERVALS_AT);
@@ -322,18 +317,13 @@ fn tick_in(s: &mut [u8], out: &mut [u8]) -> usize
 
 // Takes one tick: changes the block, writes the answer at the output's start, and answers its length. A block that is not of 4,761
 // octets, an output under 2,880 octets, and a block at the last frame number are left as they are, and the answer is 0. Of a block
-// that is not the block of a sound state the contents and what is written are not settled; the lengths stay.
+// that is of no sound state the contents, what is written and how much are free; the lengths stay, the answer is at most the
+// output's length, and the octets past it are as they were.
 pub fn tick(s: &mut [u8], out: &mut [u8]) -> usize
-    ensures { λ r. ⌜ Taken aTick (now (s .entry)) (now (s .exit)) (now (out .entry)) (now (out .exit)) r ⌝ }
+    ensures { λ r. ⌜ Taken aTick true (now (s .entry)) (now (s .exit)) (now (out .entry)) (now (out .exit)) r ⌝ }
 {
-    if s.len() != State::SIZE {
-        return 0;
+    if state::ready(s, out) {
+        return tick_in(s, out);
     }
-    if out.len() < State::ANSWER {
-        return 0;
-    }
-    if octets::get32(s, State::POSITION_AT) >= 4294967295 {
-        return 0;
-    }
-    tick_in(s, out)
+    0
 }

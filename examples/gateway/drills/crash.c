@@ -1,8 +1,8 @@
 /*
  * Loaded before the gateway (LD_PRELOAD), so that the very program is tried. It dies before its system call number
- * GATEWAY_DIE (of those that change files or speak to the host), or with GATEWAY_TEAR in the middle of it, where it writes.
- * With GATEWAY_POWER=SEED the power fails too: what was written to a file since its last fsync is lost from a random place
- * on, or reads as zeros.
+ * GATEWAY_DIE (of those that change files or speak to the host), or with GATEWAY_TEAR in the middle of it, where it
+ * writes. With GATEWAY_POWER=SEED the power fails too: what was written to a file since its last fsync is lost from a
+ * random place on, or reads as zeros.
  */
 #define _GNU_SOURCE
 #include <fcntl.h>

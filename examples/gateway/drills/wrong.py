@@ -1,5 +1,5 @@
-"""Wrong builds of the gateway: each must be noticed by the drill (see `drill`). A build is a file, a part of it, and what
-stands there instead."""
+"""Wrong builds of the gateway: each must be noticed by the drill (see `drill`). A build is what is wrong, a file, a
+part of it, and what stands there instead."""
 import os
 import shutil
 

@@ -1,3 +1,4 @@
+use Rattle.commands.specs.Replies.{replied-within}
 use Rattle.commands.specs.Owed.{add-handle, add-enough, add-most}
 use Rattle.commands.specs.Ran.{add-done, add-failed}
 use mathlib.Core.Path.{refl}
@@ -45,14 +46,16 @@ returns c = let a = c .before .before .before .before .before .before .before .b
     let l = a .params .now in
     let h = c .before .before .before .before .before .before .before .before .before .before .free-handle .result in
     let f = c .before .before .before .before .before .before .before .before .before .add-status .ensures in
-    let z = c .before .before .before .before .before .before .before .before .if1 .taken in
-    λ m e q. add-done m (a .s .now) l e q (a .out .now)
-    (c .before .before .before .before .before .before .before .before .before .before .before .before .get16
-    .ensures) (c .before .before .before .before .before .before .before .before .before .before .before .before
-    .before .before .before .before .before .pre .2)
-    (c .before .before .before .before .before .before .before .before .before .before .free-handle .ensures) f z
-    (add-handle h l f z) (add-most h l f z) (add-enough h l f z)
-    (c .before .before .before .before .before .before .put-monitor .ensures) (c .before .before .reply-handle .ensures)
+    let z = c .before .before .before .before .before .before .before .before .if1 .taken in (
+      (λ m e q. add-done m (a .s .now) l e q (a .out .now)
+          (c .before .before .before .before .before .before .before .before .before .before .before .before .get16
+          .ensures) (c .before .before .before .before .before .before .before .before .before .before .before .before
+          .before .before .before .before .before .pre .2)
+          (c .before .before .before .before .before .before .before .before .before .before .free-handle .ensures) f z
+          (add-handle h l f z) (add-most h l f z) (add-enough h l f z)
+          (c .before .before .before .before .before .before .put-monitor .ensures) (c .before .before .reply-handle .ensures)),
+      replied-within (a .out .now) (omega arith) (c .before .before .reply-handle .ensures),
+    )
 
 reply-handle-requires-2 : tie.Need-reply-handle-requires-2
 reply-handle-requires-2 c κs = search needs
@@ -65,13 +68,15 @@ same-length-4 c = search needs
 
 returns-2 : tie.Need-returns-2
 returns-2 c = let a = c .before .before .before .before .before .before .before .before .before .before .before
-    .before .before .args in
-    λ m e q. add-failed m (a .s .now) (a .params .now) e q (a .out .now)
-    (c .before .before .before .before .before .before .before .before .get16 .ensures)
-    (c .before .before .before .before .before .before .before .before .before .before .before .before .before .pre
-    .2) (c .before .before .before .before .before .before .free-handle .ensures)
-    (c .before .before .before .before .before .add-status .ensures)
-    (c .before .before .before .before .if1 .left) refl (c .before .before .reply-handle2 .ensures)
+    .before .before .args in (
+      (λ m e q. add-failed m (a .s .now) (a .params .now) e q (a .out .now)
+          (c .before .before .before .before .before .before .before .before .get16 .ensures)
+          (c .before .before .before .before .before .before .before .before .before .before .before .before .before .pre
+          .2) (c .before .before .before .before .before .before .free-handle .ensures)
+          (c .before .before .before .before .before .add-status .ensures)
+          (c .before .before .before .before .if1 .left) refl (c .before .before .reply-handle2 .ensures)),
+      replied-within (a .out .now) (omega arith) (c .before .before .reply-handle2 .ensures),
+    )
 
 pub add-monitor-spec : {M : Type 1} → statement M
 add-monitor-spec =

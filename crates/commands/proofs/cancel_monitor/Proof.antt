@@ -1,3 +1,4 @@
+use Rattle.commands.specs.Replies.{replied-within}
 use Rattle.commands.specs.Replies.{answer-cancel}
 use Rattle.commands.specs.Owed.{cancel-handle}
 use Rattle.commands.specs.Ran.{cancel-done, cancel-failed}
@@ -39,16 +40,18 @@ same-length-2 c = search needs
 
 returns : tie.Need-returns
 returns c = let a = c .before .before .before .before .before .before .before .before .before .before .before .before
-    .before .before .before .before .before .before .args in
-    λ m e q. cancel-done m (a .s .now) (a .params .now) e q (a .out .now)
-    (c .before .before .before .before .before .before .before .before .before .before .before .before .before .get16
-    .ensures) (c .before .before .before .before .before .before .before .before .before .before .before .before
-    .before .before .before .before .before .before .pre .2)
-    (c .before .before .before .before .before .before .before .before .before .before .before .before .get8
-    .ensures) (c .before .before .before .before .before .before .before .before .before .before .live .ensures)
-    (c .before .before .before .before .before .before .before .before .before .cancel-status .ensures)
-    (c .before .before .before .before .before .before .before .before .if1 .taken)
-    (c .before .before .before .before .before .before .cancel .ensures m e q) (c .before .before .reply-done .ensures)
+    .before .before .before .before .before .before .args in (
+      (λ m e q. cancel-done m (a .s .now) (a .params .now) e q (a .out .now)
+          (c .before .before .before .before .before .before .before .before .before .before .before .before .before .get16
+          .ensures) (c .before .before .before .before .before .before .before .before .before .before .before .before
+          .before .before .before .before .before .before .pre .2)
+          (c .before .before .before .before .before .before .before .before .before .before .before .before .get8
+          .ensures) (c .before .before .before .before .before .before .before .before .before .before .live .ensures)
+          (c .before .before .before .before .before .before .before .before .before .cancel-status .ensures)
+          (c .before .before .before .before .before .before .before .before .if1 .taken)
+          (c .before .before .before .before .before .before .cancel .ensures m e q) (c .before .before .reply-done .ensures)),
+      replied-within (a .out .now) (omega arith) (c .before .before .reply-done .ensures),
+    )
 
 reply-requires : tie.Need-reply-requires
 reply-requires c κs = search needs
@@ -61,14 +64,16 @@ same-length-4 c = search needs
 
 returns-2 : tie.Need-returns-2
 returns-2 c = let a = c .before .before .before .before .before .before .before .before .before .before .before
-    .before .before .before .args in
-    λ m e q. cancel-failed m (a .s .now) (a .params .now) e q (a .out .now)
-    (c .before .before .before .before .before .before .before .before .before .get16 .ensures)
-    (c .before .before .before .before .before .before .before .before .before .before .before .before .before
-    .before .pre .2) (c .before .before .before .before .before .before .before .before .get8 .ensures)
-    (c .before .before .before .before .before .before .live .ensures)
-    (c .before .before .before .before .before .cancel-status .ensures)
-    (c .before .before .before .before .if1 .left) refl (c .before .before .reply .ensures)
+    .before .before .before .args in (
+      (λ m e q. cancel-failed m (a .s .now) (a .params .now) e q (a .out .now)
+          (c .before .before .before .before .before .before .before .before .before .get16 .ensures)
+          (c .before .before .before .before .before .before .before .before .before .before .before .before .before
+          .before .pre .2) (c .before .before .before .before .before .before .before .before .get8 .ensures)
+          (c .before .before .before .before .before .before .live .ensures)
+          (c .before .before .before .before .before .cancel-status .ensures)
+          (c .before .before .before .before .if1 .left) refl (c .before .before .reply .ensures)),
+      replied-within (a .out .now) (omega arith) (c .before .before .reply .ensures),
+    )
 
 pub cancel-monitor-spec : {M : Type 1} → statement M
 cancel-monitor-spec =

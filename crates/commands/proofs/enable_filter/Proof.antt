@@ -1,3 +1,5 @@
+use Rattle.commands.specs.Replies.{replied-within}
+use native.Mathlib.Omega.{arith}
 use Rattle.commands.specs.Replies.{answer-enable}
 use Rattle.commands.specs.Ran.{enable-done, enable-failed}
 use mathlib.Core.Path.{refl}
@@ -31,13 +33,15 @@ same-length-2 c = search needs
 
 returns : tie.Need-returns
 returns c = let a = c .before .before .before .before .before .before .before .before .before .before .before .before
-    .before .args in
-    λ m e q. enable-done m (a .s .now) (a .params .now) e q (a .out .now)
-    (c .before .before .before .before .before .before .before .before .get16 .ensures)
-    (c .before .before .before .before .before .before .before .before .before .before .before .before .before .pre
-    .2) (c .before .before .before .before .before .before .enable-status .ensures)
-    (c .before .before .before .before .before .if1 .taken) (c .before .before .before .before .get8 .ensures) refl
-    (c .before .before .reply-done .ensures)
+    .before .args in (
+      (λ m e q. enable-done m (a .s .now) (a .params .now) e q (a .out .now)
+          (c .before .before .before .before .before .before .before .before .get16 .ensures)
+          (c .before .before .before .before .before .before .before .before .before .before .before .before .before .pre
+          .2) (c .before .before .before .before .before .before .enable-status .ensures)
+          (c .before .before .before .before .before .if1 .taken) (c .before .before .before .before .get8 .ensures) refl
+          (c .before .before .reply-done .ensures)),
+      replied-within (a .out .now) (omega arith) (c .before .before .reply-done .ensures),
+    )
 
 reply-requires : tie.Need-reply-requires
 reply-requires c κs = search needs
@@ -50,12 +54,14 @@ same-length-4 c = search needs
 
 returns-2 : tie.Need-returns-2
 returns-2 c = let a = c .before .before .before .before .before .before .before .before .before .before .before
-    .before .args in
-    λ m e q. enable-failed m (a .s .now) (a .params .now) e q (a .out .now)
-    (c .before .before .before .before .before .before .before .get16 .ensures)
-    (c .before .before .before .before .before .before .before .before .before .before .before .before .pre .2)
-    (c .before .before .before .before .before .enable-status .ensures)
-    (c .before .before .before .before .if1 .left) refl (c .before .before .reply .ensures)
+    .before .args in (
+      (λ m e q. enable-failed m (a .s .now) (a .params .now) e q (a .out .now)
+          (c .before .before .before .before .before .before .before .get16 .ensures)
+          (c .before .before .before .before .before .before .before .before .before .before .before .before .pre .2)
+          (c .before .before .before .before .before .enable-status .ensures)
+          (c .before .before .before .before .if1 .left) refl (c .before .before .reply .ensures)),
+      replied-within (a .out .now) (omega arith) (c .before .before .reply .ensures),
+    )
 
 pub enable-filter-spec : {M : Type 1} → statement M
 enable-filter-spec =

@@ -1,3 +1,4 @@
+use Rattle.commands.specs.Replies.{replied-within}
 use Rattle.commands.specs.Command.{sub-is, other-failed}
 use mathlib.Core.Path.{refl}
 use native.Mathlib.Omega.{arith}
@@ -94,14 +95,16 @@ same-length-10 c = search needs
 
 returns-5 : tie.Need-returns-5
 returns-5 c = let a = c .before .before .before .before .before .before .before .before .before .before .before
-    .before .before .before .args in
-    λ m e q. other-failed m (a .s .now) (a .params .now) (a .out .now) e q
-    (c .before .before .before .get16 .ensures)
-    (c .before .before .before .before .before .before .before .before .before .before .get8 .ensures)
-    (c .before .before .before .before .before .before .before .before .before .if1 .left)
-    (c .before .before .before .before .before .before .before .before .if2 .left)
-    (c .before .before .before .before .before .before .before .if3 .left)
-    (c .before .before .before .before .before .before .if4 .left) refl (c .before .before .reply .ensures)
+    .before .before .before .args in (
+      (λ m e q. other-failed m (a .s .now) (a .params .now) (a .out .now) e q
+          (c .before .before .before .get16 .ensures)
+          (c .before .before .before .before .before .before .before .before .before .before .get8 .ensures)
+          (c .before .before .before .before .before .before .before .before .before .if1 .left)
+          (c .before .before .before .before .before .before .before .before .if2 .left)
+          (c .before .before .before .before .before .before .before .if3 .left)
+          (c .before .before .before .before .before .before .if4 .left) refl (c .before .before .reply .ensures)),
+      replied-within (a .out .now) (omega arith) (c .before .before .reply .ensures),
+    )
 
 pub execute-spec : {M : Type 1} → statement M
 execute-spec =

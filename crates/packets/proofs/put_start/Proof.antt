@@ -5,7 +5,7 @@ use mathlib.Core.Path.{_≡_, ap}
 use native.Mathlib.Omega.{arith}
 use lib.ListN.{length, take, drop, length-take, length-drop}
 use borrow.Author.Needs.{needs}
-use Rattle.packets.specs.Answers.{event-most, start-wrote}
+use Rattle.packets.specs.Answers.{event-most, event-rest, start-wrote}
 use Rattle.packets.proofs.put_start.Statement.{statement}
 use Rattle.packets.proofs.put_start.Tie as tie
 use Rattle.model.specs.Layout.{mostPrefix, pairSize, pairsAt, prefixAt}
@@ -64,6 +64,7 @@ returns c = let a = c .before .before .before .before .before .before .before .b
     let lp : length pre ≤ mostPrefix = simp (length-take, length-drop) (omega arith) in
     let lr : 8 ≤ length r8 = simp (length-take, length-drop) (omega arith) in (
       event-most (a .out .now) (a .at) pre r8 lp lr (c .before .before .put-event .ensures .0),
+      λ h. event-rest (a .out .now) (a .at) pre r8 h (c .before .before .put-event .ensures),
       λ m w h.
           start-wrote m s (a .i) w (a .out .now) (a .at) n (clamped (c .before .before .before .before .before .before .at-most .ensures)) h (omega arith) (omega arith)
           (ap (λ (k : ℕ). take k (drop prefixAt s)) e) (ap (λ (k : ℕ). take k (drop (pairsAt + pairSize * a .i) s)) f) (c .before .before .put-event .ensures),

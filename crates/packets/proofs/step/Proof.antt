@@ -6,7 +6,8 @@ use native.Mathlib.Omega.{arith}
 use lib.ListN.{length, getD}
 use borrow.Author.Needs.{needs}
 use Rattle.marks.specs.Fields.{marked-of}
-use Rattle.packets.specs.Whole.{Begun, begun, afterMoves, moves-holding, moves-given, starts-holding, starts-written, packet-stepped}
+use Rattle.packets.specs.Whole.{Begun, begun, afterMoves, moves-holding, moves-given, starts-holding, starts-written, packet-stepped, answer-within}
+use Rattle.sessions.specs.Machine.{lastNumber}
 use Rattle.model.specs.Frames.{packetOf}
 use Rattle.octets.specs.Numbers.{number-of}
 use Rattle.packets.proofs.step.Statement.{statement}
@@ -68,6 +69,7 @@ same-length-2 : tie.Need-same-length-2
 same-length-2 c = search needs
 
 returns : tie.Need-returns
+unfolding lastNumber
 returns c = let a = c .before .before .before .before .before .before .before .before .before .before .before .before .before .before .before .before .before .before .before .before .before .before .before .before .before .before .before .before .before .before .before .before .before .before .before .before .args in
     let s : List ℕ = a .s .now in
     let l : List ℕ = a .payload .now in
@@ -75,8 +77,8 @@ returns c = let a = c .before .before .before .before .before .before .before .b
     let dev : ℕ = c .before .before .before .before .before .before .before .before .before .before .before .before .before .before .before .before .before .before .before .before .before .before .before .before .before .before .before .before .get64 .result / 256 in
     let n : ℕ = c .before .before .before .before .before .before .before .before .before .before .before .before .before .before .before .before .before .before .before .before .before .before .before .before .before .before .at-most .result in
     let f : length l ≡ 10 + getD l 8 0 = c .before .before .before .before .before .before .before .before .before .before .before .before .before .before .before .before .before .before .before .before .before .before .before .before .before .before .before .before .before .before .before .before .before .before .before .before .pre .2 .0 in (
-      omega (arith, c .before .before .before .before .before .before .before .before .before .before .put-starts .ensures .0, c .before .before .before .before .before .before .put-told .ensures .0),
-      λ m e b h k.
+      answer-within (a .out .now) _ (omega (arith, c .before .before .before .before .before .before .before .before .before .before .put-starts .ensures .0, c .before .before .before .before .before .before .put-told .ensures .0, c .before .before .before .before .before .before .before .before .before .before .before .before .before .before .before .before .before .before .before .before .before .before .before .before .before .before .before .before .before .before .before .before .before .before .before .before .pre .1)) (c .before .before .before .before .before .before .before .before .before .before .put-starts .kept .1 .1 .1 .0) (c .before .before .before .before .before .before .before .before .before .before .put-starts .ensures .1) (c .before .before .before .before .before .before .put-told .ensures .1),
+      λ k m e b h.
           let g : Begun m s l acts dev n =
           begun m s l acts dev n e b h (λ i. omega (arith, c .before .before .before .before .before .before .before .before .before .before .before .before .before .before .before .before .before .before .before .before .before .before .before .before .before .before .before .before .before .before .before .before .before .before .shared-slice-known .given i)) k
           (marked-of _ s l refl (c .before .before .before .before .before .before .before .before .before .before .before .before .before .before .before .before .before .before .before .before .before .before .before .before .before .before .before .before .before .before .before .before .before .before .before .before .pre .0) (c .before .before .before .before .before .before .before .before .before .before .before .before .before .before .before .before .before .before .before .before .before .before .before .before .before .before .before .before .before .before .before .before .before .before .before .before .pre .2) (c .before .before .before .before .before .before .before .before .before .before .before .before .before .before .before .before .before .before .before .before .before .before .before .before .before .before .before .before .before .before .mark-all .ensures))
@@ -85,7 +87,7 @@ returns c = let a = c .before .before .before .before .before .before .before .b
           let w = moves-holding m s l acts dev n g (c .before .before .before .before .before .before .before .before .before .before .before .before .before .before .before .before .before .before .before .before .before .before .before .move-rows .ensures m g) in
           let t = starts-holding m s l acts dev n g (c .before .before .before .before .before .before .before .before .before .before .before .before .before .before .before .before .before .before .start-all .ensures .2 (afterMoves m p) p w (moves-given m s l acts dev n g)) in
           packet-stepped m s l acts dev n g t (c .before .before .before .before .before .before .before .before .before .before .before .before .before .is-told .ensures m s l g t)
-          (starts-written m s l acts dev n g t (c .before .before .before .before .before .before .before .before .before .before .before .before .before .before .before .before .before .before .start-all .ensures .0) (c .before .before .before .before .before .before .before .before .before .before .put-starts .ensures .1))
+          (starts-written m s l acts dev n g t (c .before .before .before .before .before .before .before .before .before .before .before .before .before .before .before .before .before .before .start-all .ensures .0) (c .before .before .before .before .before .before .before .before .before .before .put-starts .ensures .2))
           (c .before .before .before .before .before .before .put-told .ensures .1) (c .before .before .advance .ensures),
     )
 

@@ -1,3 +1,5 @@
+use Rattle.steps.specs.Stepped.{within-put}
+use native.Mathlib.Omega.{arith}
 use Rattle.ticks.specs.Block.{ticked}
 use borrow.Rule.Slice.PartMut.{putMid, same-len-mid}
 use lib.ListN.{length-set}
@@ -109,9 +111,12 @@ same-length-2 c = search needs
 
 -- src/lib.rt:293:1
 returns : tie.Need-returns
-returns c = λ m z q h. let a = c .before .before .before .before .before .before .before .before .before .before .before .before .before .before .before .before .before .before .before .before .before .before .before .before .before .before .before .args in
-    ticked (a .s .now) (a .out .now) m z q h (c .before .before .before .before .before .before .before .before .before .before .before .before .before .before .before .before .before .before .before .before .before .before .before .head-of .ensures) (c .before .before .before .before .before .before .before .before .before .before .before .before .before .before .before .before .before .before .before .before .before .column .ensures) (c .before .before .before .before .before .before .before .before .before .before .before .before .before .before .before .before .before .before .before .column2 .ensures) (c .before .before .before .before .before .before .before .before .before .before .before .before .before .before .before .before .before .at-most .ensures .2) (c .before .before .before .before .before .before .before .before .before .before .before .before .before .before .before .before .at-most2 .ensures .2)
-    (c .before .before .before .before .before .before .before .before .before .tick-pairs .ensures) (c .before .before .advance .ensures)
+returns c = let a = c .before .before .before .before .before .before .before .before .before .before .before .before .before .before .before .before .before .before .before .before .before .before .before .before .before .before .before .args in (
+  λ m z q h.
+      ticked (a .s .now) (a .out .now) m z q h (c .before .before .before .before .before .before .before .before .before .before .before .before .before .before .before .before .before .before .before .before .before .before .before .head-of .ensures) (c .before .before .before .before .before .before .before .before .before .before .before .before .before .before .before .before .before .before .before .before .before .column .ensures) (c .before .before .before .before .before .before .before .before .before .before .before .before .before .before .before .before .before .before .before .column2 .ensures) (c .before .before .before .before .before .before .before .before .before .before .before .before .before .before .before .before .before .at-most .ensures .2) (c .before .before .before .before .before .before .before .before .before .before .before .before .before .before .before .before .at-most2 .ensures .2)
+      (c .before .before .before .before .before .before .before .before .before .tick-pairs .ensures) (c .before .before .advance .ensures),
+  within-put (a .out .now) _ (c .before .before .before .before .before .before .before .before .before .tick-pairs .ensures .octets) (c .before .before .before .before .before .before .before .before .before .tick-pairs .ensures .count) (omega (arith, c .before .before .before .before .before .before .before .before .before .tick-pairs .ensures .wrote-most, c .before .before .before .before .before .before .before .before .before .before .before .before .before .before .before .before .before .at-most .ensures .1, c .before .before .before .before .before .before .before .before .before .before .before .before .before .before .before .before .before .before .before .before .before .before .before .before .before .before .before .pre .1)),
+)
 
 pub tick-in-spec : {M : Type 1} → statement M
 tick-in-spec =

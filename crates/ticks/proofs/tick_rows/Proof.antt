@@ -57,7 +57,7 @@ same-length-2 c = c .before .loop .inv .4
 returns : tie.Need-returns Inv-loop μ-loop
 returns c = let a = c .before .before .before .before .before .before .before .args in let l = c .before .loop in
     let e : l .i ≡ a .n = omega arith in
-    (omega (arith, l .inv .1), rw e at (l .inv .5))
+    (omega (arith, l .inv .1), omega (arith, l .inv .2), rw e at (l .inv .5))
 
 pub tick-rows-spec : {M : Type 1} → statement M
 tick-rows-spec =

@@ -1,1 +1,0 @@
-// The window's mean over whole numbers with a sign. The laws are in specs/; there is no code.

@@ -1,0 +1,12 @@
+-- The texts that a takeover writes, and a takeover in turns: definitions and laws.
+pub mod Blocks
+pub mod Events
+pub mod Wholes
+pub mod Split
+pub mod Told
+pub mod Swap
+pub mod Takeover
+pub mod Parted
+pub mod Stands
+pub mod Arrives
+pub mod Output
