@@ -31,6 +31,26 @@ level-dBm o b r =
     (λ h. pick-false (pos o) (subℕ o 256) (le-ltb o 128 h) ∙ sub-same o 256 ((o + 127) % 256) 127 (omega arith))
     (λ h. pick-true (pos o) (subℕ o 256) (lt-ltb o 128 h) ∙ pos-sub o ∙ sub-same o 0 ((o + 127) % 256) 127 (omega arith))
 
+-- so levels are ordered as dBm are, and an RSSI in range is from −127 to 20
+module _ (a b : ℕ) (p : a < 256) (q : b < 256) (r : inRange a ≡ true) (s : inRange b ≡ true) where
+  pub below-dBm : level a < level b → dBm a <ℤ dBm b
+  below-dBm h =
+      subst (λ (z : ℤ). z <ℤ dBm b) (sym (level-dBm a p r))
+      (subst (λ (z : ℤ). subℕ (level a) 127 <ℤ z) (sym (level-dBm b q s)) (sub-lt (level a) 127 (level b) 127 (omega arith)))
+
+  pub most-dBm : level a ≤ level b → dBm a ≤ℤ dBm b
+  most-dBm h =
+      subst (λ (z : ℤ). z ≤ℤ dBm b) (sym (level-dBm a p r))
+      (subst (λ (z : ℤ). subℕ (level a) 127 ≤ℤ z) (sym (level-dBm b q s)) (sub-le (level a) 127 (level b) 127 (omega arith)))
+
+pub range-dBm : (o : ℕ) → o < 256 → inRange o ≡ true → (subℕ 0 127 ≤ℤ dBm o) × (dBm o ≤ℤ subℕ 20 0)
+unfolding inRange
+range-dBm o b r =
+    let l : level o ≤ 147 = leb-true (level o) 147 r in (
+      subst (λ (z : ℤ). subℕ 0 127 ≤ℤ z) (sym (level-dBm o b r)) (sub-le 0 127 (level o) 127 (omega arith)),
+      subst (λ (z : ℤ). z ≤ℤ subℕ 20 0) (sym (level-dBm o b r)) (sub-le (level o) 127 20 0 (omega arith)),
+    )
+
 -- a window's sum, from the sum of its levels
 pub signed-levels : (sum n : ℕ) → sum < 18446744073709551616 → n ≤ 4294967296 → levels sum n ≤ 147 * n
     → signed sum ≡ subℕ (levels sum n) (127 * n)
@@ -41,6 +61,15 @@ signed-levels sum n b c l =
     ∙ sub-same sum 18446744073709551616 ((sum + 127 * n) % 18446744073709551616) (127 * n) (omega arith))
     (λ h. pick-true (pos sum) (subℕ sum 18446744073709551616) (lt-ltb sum 9223372036854775808 h) ∙ pos-sub sum
     ∙ sub-same sum 0 ((sum + 127 * n) % 18446744073709551616) (127 * n) (omega arith))
+
+-- "sum from −127 × packets to 20 × packets"
+pub signed-range : (sum n : ℕ) → sum < 18446744073709551616 → n ≤ 4294967296 → levels sum n ≤ 147 * n
+    → (subℕ 0 (127 * n) ≤ℤ signed sum) × (signed sum ≤ℤ subℕ (20 * n) 0)
+signed-range sum n b c l =
+    let e : signed sum ≡ subℕ (levels sum n) (127 * n) = signed-levels sum n b c l in (
+      subst (λ (z : ℤ). subℕ 0 (127 * n) ≤ℤ z) (sym e) (sub-le 0 (127 * n) (levels sum n) (127 * n) (omega arith)),
+      subst (λ (z : ℤ). z ≤ℤ subℕ (20 * n) 0) (sym e) (sub-le (levels sum n) (127 * n) (20 * n) 0 (omega arith)),
+    )
 
 -- one packet more: the stored sum is the sum of the RSSI values
 pub sum-adds : (sum n o : ℕ) → sum < 18446744073709551616 → n < 4294967295 → levels sum n ≤ 147 * n → o < 256 → inRange o ≡ true
