@@ -101,7 +101,9 @@ uint32_t bournejade_position(const bournejade_state *state);
  *  - 1 command: opcode (2, least octet first), parameter length (1 to 255), parameters, the first the sub-opcode;
  *  - 2 packet: event type 0 to 3, address type 0 or 1, address (6, least octet first), data length n (0 to 31), data,
  *    RSSI (signed, -127 to 20 dBm; 127, "not available", and -128 are refused by 5: drop such a packet);
- *  - 3 tick: nothing. One is given every 100 ms; the engine has no clock.
+ *  - 3 tick: nothing. One is given every 100 ms; the engine has no clock;
+ *  - 4 packet with its scan response: event type 0 or 2, then as a packet up to the data, scan response length (0 to
+ *    31), scan response, RSSI.
  * Its answer, all the HCI events that it causes one behind another, perhaps none, is written at the front of out, and
  * *wrote is its length (0 at a refusal). Refusals, in this order: 7, 3, 4, 1, 2, 5, 6. */
 uint8_t bournejade_submit(bournejade_state *state, const uint8_t *frame, size_t frame_size, uint8_t *out,

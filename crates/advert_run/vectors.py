@@ -1,7 +1,7 @@
 #!/usr/bin/env python3
 """Makes the vectors of the program (stdin) and the answers that it must give (stdout).
 
-Written from document 01, section Conditions; it shares nothing with the crate's definitions and code. Each vector
+Written from document 01, section Conditions, and document 02, T-06; it shares nothing with the crate's definitions and code. Each vector
 carries the answer worked out by hand; the functions below work it out again, and nothing is written where the two differ.
 Run it in this directory.
 """
@@ -44,16 +44,18 @@ def form(kind, condition):
     return "3"
 
 
-def match(kind, condition, address_type, address, adv):
+def match(kind, condition, address_type, address, adv, scan):
+    # each text ends its own list; the advertisement's structures come first
+    both = structures(adv) + structures(scan)
     if kind == 1:
         for ad_type, start, octets in patterns(condition):
-            for t, content in structures(adv):
+            for t, content in both:
                 if t == ad_type and content[start:start + len(octets)] == octets:
                     return "1"
         return "0"
     if kind == 2:
         uuid = condition[1:]
-        for t, content in structures(adv):
+        for t, content in both:
             if t in {1: (2, 3), 2: (4, 5), 3: (6, 7)}[condition[0]]:
                 for i in range(0, len(content), len(uuid)):
                     if content[i:i + len(uuid)] == uuid:
@@ -69,7 +71,8 @@ U16 = "0102030405060708090A0B0C"
 U128 = "000102030405060708090A0B0C0D0E0F"
 LONG = "1EFF" + "".join("%02X" % (0x80 + i) for i in range(29))
 
-# title, or condition type, condition, advertisement, answer, and for type 4 address type and address
+# title, or condition type, condition, advertisement, answer, and for type 4 address type and address; or condition type, condition,
+# a pair of advertisement and scan response, answer
 vectors = [
     "Source document 000, appendix: packets A, B, C, D",
     (1, TWO, "020101 07095461626C6574 05FF0006FFFF", "01"),
@@ -212,6 +215,39 @@ vectors = [
     (3, "01 03010006", "020106", "2-"),
     (5, "00" + A, "", "3-", 0, A),
     (255, "01 0D18", "03030D18", "3-"),
+    "Scan responses: in the advertisement, in the scan response, in both, in neither",
+    (1, "01 03FF00AA", ("02FFAA", ""), "01"),
+    (1, "01 03FF00AA", ("", "02FFAA"), "01"),
+    (1, "01 03FF00AA", ("02FFAA", "02FFAA"), "01"),
+    (1, "01 03FF00AA", ("02FFBB", "02FFBB"), "00"),
+    (1, "01 03FF00AA", ("", ""), "00"),
+    (1, "02 03FF00AA 03FF00BB", ("02FFCC", "02FFBB"), "01"),
+    (2, "01 0D18", ("03020D18", "03031018"), "01"),
+    (2, "01 0D18", ("03031018", "03020D18"), "01"),
+    (2, "01 0D18", ("03031018", "03021018"), "00"),
+    (4, "00" + A, ("", "02FFAA"), "01"),
+    "Scan responses: found only in a later section, of either text",
+    (1, "01 03FF00AA", ("02FFBB 02FFAA", "02FFBB"), "01"),
+    (1, "01 03FF00AA", ("02FFBB", "02FFBB 02FFAA"), "01"),
+    (1, "01 03FF00AA", ("02FFBB 02FFCC", "02FFBB 020109 02FFAA"), "01"),
+    (2, "01 0D18", ("03031018", "03031018 03020D18"), "01"),
+    "Scan responses: each text ends its own list",
+    (1, "01 03FF00AA", ("00", "02FFAA"), "01"),
+    (1, "01 03FF00AA", ("02FFBB 00 02FFAA", "02FFBB"), "00"),
+    (1, "01 03FF00AA", ("09FF", "02FFAA"), "01"),
+    (1, "01 03FF00AA", ("1FFFAA", "02FFAA"), "01"),
+    (1, "01 03FF00AA", ("02FFBB", "00 02FFAA"), "00"),
+    (1, "01 03FF00AA", ("02FFBB", "03FFAA"), "00"),
+    (1, "01 03FF00AA", ("02FFBB", "02FFAA 00"), "01"),
+    "Scan responses: nothing straddles the two texts",
+    (1, "01 03FF00AA", ("02FF", "AA"), "00"),
+    (1, "01 04FF00AABB", ("02FFAA", "BB"), "00"),
+    (1, "01 04FF00AABB", ("03FFAA", "BB02FFAA"), "00"),
+    (2, "01 0D18", ("02030D", "020318"), "00"),
+    (2, "01 0D18", ("03030D", "18"), "00"),
+    "Scan responses: 31 octets each",
+    (1, "01 03FF1C9C", ("1EFE" + LONG[4:], LONG), "01"),
+    (1, "01 03FF1D9C", (LONG, LONG), "00"),
 ]
 
 lines, answers = [], []
@@ -219,12 +255,14 @@ for v in vectors:
     if isinstance(v, str):
         lines.append("# " + v)
         continue
-    kind, condition, adv, expected = v[0], bytes.fromhex(v[1]), bytes.fromhex(v[2]), v[3]
+    kind, condition, expected = v[0], bytes.fromhex(v[1]), v[3]
+    adv, scan = (bytes.fromhex(text) for text in (v[2] if isinstance(v[2], tuple) else (v[2], "")))
     address_type, address = (v[4], bytes.fromhex(v[5])) if len(v) > 4 else (0, bytes.fromhex(A))
     f = form(kind, condition)
-    answer = f + (match(kind, condition, address_type, address, adv) if f == "0" else "-")
+    answer = f + (match(kind, condition, address_type, address, adv, scan) if f == "0" else "-")
     assert answer == expected, (v, answer)
     fields = bytes([kind]), condition, bytes([address_type]), address, adv
+    fields += (scan,) if isinstance(v[2], tuple) else ()
     lines.append(" ".join(field.hex().upper() for field in fields))
     answers.append(answer)
 open("stdin", "w").write("\n".join(lines) + "\n")

@@ -13,6 +13,8 @@ import tempfile
 
 REFERENCE = sys.argv[1]
 LIMIT = 65536
+LAST_NUMBER = 0xFFFFFFFF
+MONITORS = 16
 
 
 def octets(text):
@@ -135,6 +137,15 @@ def made_up(count):
     yield octets("" if prefix == "-" else prefix), commands
 
 
+def has_numbers(image):
+    """Whether the image's first line can be read, and has numbers left for a command a monitor and one more."""
+    try:
+        head = octets(image.split("\n")[0])
+    except ValueError:
+        return False
+    return int.from_bytes(head[1:5], "little") + MONITORS < LAST_NUMBER
+
+
 def with_pairs(count):
     """Images with pairs, and commands that cancel their monitors."""
     with tempfile.TemporaryDirectory() as folder:
@@ -145,7 +156,7 @@ def with_pairs(count):
             with open(os.path.join(folder, name), encoding="ascii") as file:
                 image = file.read()
             handles = [line[2:4] for line in image.split() if line.startswith("A2")]
-            if len(handles) > 2 and len(set(handles)) > 1:
+            if len(handles) > 2 and len(set(handles)) > 1 and has_numbers(image):
                 images.append(image)
         images.sort(key=len)
         step = max(1, len(images) // count)

@@ -36,6 +36,10 @@ class Session:
     def packet(self, device, rssi=-60, data=b"", event=0, kind=0):
         self.frame(2, bytes([event, kind]) + address(device) + bytes([len(data)]) + data + bytes([rssi & 255]))
 
+    def scanned(self, device, rssi=-60, data=b"", scan=b"", event=0, kind=0):
+        texts = bytes([len(data)]) + data + bytes([len(scan)]) + scan
+        self.frame(4, bytes([event, kind]) + address(device) + texts + bytes([rssi & 255]))
+
     def ticks(self, count):
         for _ in range(count):
             self.frame(3)

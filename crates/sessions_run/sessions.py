@@ -97,7 +97,7 @@ def samplings():
 
 
 def equal():
-    """High equal to low (T-01): a start at that value, packets there and one above, a watch of 10 ticks; low above high."""
+    """High equal to low (T-01): a start at that value, packets there and one above, 10 ticks; low above high."""
     for shared in (-60, 20, -127):
         made = Session("high equal to low at %d" % shared, enable=1)
         made.add(of_device(1), interval=1, high=max(shared - 1, -127), low=max(shared, -126))
@@ -133,6 +133,28 @@ def switched():
             made.packet(1, -30)
             made.enable(first)
             made.ticks(9)
+            yield made
+
+
+def scans():
+    """Packets of kind 04 (T-06): found in the advertisement, in the scan response, in both, in a later structure of
+    either; a structure across the two texts; each text's own end; the empty scan response."""
+    other, uuid = bytes([2, 9, 0x42]), bytes([3, 3, 0x0F, 0x18])
+    texts = ((SMALL, b""), (b"", SMALL), (SMALL, other), (other, SMALL), (other + SMALL, other), (other, other + SMALL),
+             (b"\x00" + SMALL, other), (b"\x00", SMALL), (b"\x09\x09", SMALL), (other, b"\x00" + SMALL),
+             (SMALL[:2], SMALL[2:]), (SMALL[:1], SMALL[1:]), (uuid[:3], uuid[3:]), (uuid, b""), (other, other + uuid),
+             (long_data(1), long_data(2)))
+    for sampling in (0, 2, 255):
+        for filter_on in (0, 1):
+            made = Session("kind 04, sampling %d, filter %d" % (sampling, filter_on), enable=filter_on or None)
+            made.add(NAMED, interval=2, sampling=sampling)
+            made.add(bytes([2, 1, 0x0F, 0x18]), interval=1, sampling=sampling)
+            for device, (data, scan) in enumerate(texts):
+                made.scanned(device, -60 + device % 2, data, scan, event=2 * (device % 2))
+            made.ticks(1)
+            for device, (data, scan) in enumerate(texts):
+                made.scanned(device, -79 - device % 2, data, scan, event=2 - 2 * (device % 2))
+            made.ticks(20)
             yield made
 
 
@@ -206,14 +228,21 @@ def in_full():
 REFUSED = (
     (1, "03 03000000", "03 00000000", "01 01000000 1EFC020501", "02 02000000", "03 03000000 00"),
     (2, "03 05000000", "03 FFFFFFFF", "03 05000000 00"),
-    (4, "00 04000000", "04 04000000", "FF 04000000", "03 040000", "", "01 04000000 1EFCFF 05" + "00" * 255),
-    (4, "04 03000000", "03 030000", "01 01000000 1EFCFF 05" + "00" * 255),
+    (4, "00 04000000", "05 04000000", "FF 04000000", "03 040000", "", "01 04000000 1EFCFF 05" + "00" * 255),
+    (4, "05 03000000", "03 030000", "01 01000000 1EFCFF 05" + "00" * 255),
     (5, "03 04000000 00", "01 04000000", "01 04000000 1EFC", "01 04000000 1EFC00", "01 04000000 1EFC0105 00"),
     (5, "01 04000000 1EFC0205", "02 04000000", "02 04000000 0400010203040506 00 C4"),
     (5, "02 04000000 0002010203040506 00 C4", "02 04000000 0000010203040506 00 15"),
     (5, "02 04000000 0000010203040506 00 80", "02 04000000 0000010203040506 01 C4"),
     (5, "02 04000000 0000010203040506 20 " + "00" * 32 + " C4", "02 04000000 0000010203040506 00 C4 00"),
     (5, "02 04000000 0000010203040506 00 7F", "01 04000000 1FFC00", "01 04000000 1FFC0205"),
+    (1, "04 03000000", "04 02000000 0100010203040506 00 00 C4"),
+    (5, "04 04000000", "04 04000000 0100010203040506 00 00 C4", "04 04000000 0300010203040506 00 00 C4"),
+    (5, "04 04000000 0002010203040506 00 00 C4", "04 04000000 0000010203040506 00 C4"),
+    (5, "04 04000000 0000010203040506 20 " + "00" * 32 + " 00 C4", "04 04000000 0000010203040506 00 00 15"),
+    (5, "04 04000000 0000010203040506 00 20 " + "00" * 32 + " C4", "04 04000000 0000010203040506 00 00 C4 00"),
+    (0, "04 04000000 0200010203040506 1F " + "00" * 31 + " 1F " + "00" * 31 + " 81"),
+    (0, "04 04000000 0001010203040506 0000 14"),
     (6, "01 04000000 1FFC0100", "01 04000000 1EFD020501", "01 04000000 000001FF"),
     (0, "03 04000000", "01 04000000 1EFCFF 05" + "00" * 254, "02 04000000 0301010203040506 00 14"),
     (0, "02 04000000 0000010203040506 1F " + "00" * 31 + " 81"),
@@ -306,7 +335,7 @@ def read(path):
 
 def main():
     reference, sessions, lines = sys.argv[1], [], []
-    kinds = (in_full, full, sixteen, windows, samplings, equal, switched, ends, longest, counted, refused)
+    kinds = (in_full, full, sixteen, windows, samplings, equal, switched, scans, ends, longest, counted, refused)
     with tempfile.TemporaryDirectory() as folder:
         for kind in kinds + (conditions, characters, images):
             for made in kind():

@@ -64,6 +64,27 @@ void begin_checked(const struct call *c, const bournejade_state *before, struct 
     hold(same(t, &again), "settings give one state, whatever stood there");
 }
 
+/* Whether an octet is an RSSI: -127 to 20. */
+static int is_level(uint8_t octet)
+{
+    int level = octet < 128 ? octet : octet - 256;
+    return level >= -127 && level <= 20;
+}
+
+/* The form of a packet behind its event type: kind 2 with the data, kind 4 with the scan response too. */
+static int is_packet(uint8_t kind, const uint8_t *payload, size_t size)
+{
+    size_t at = 8;
+    if (size < 8 || payload[1] > 1)
+        return 0;
+    for (int texts = kind == 4 ? 2 : 1; texts > 0; texts--) {
+        if (at >= size || payload[at] > 31)
+            return 0;
+        at += 1u + payload[at];
+    }
+    return at + 1 == size && is_level(payload[at]);
+}
+
 /* 5 or 6, or 0, of a frame with the next number. */
 static uint8_t payload_refusal(uint8_t kind, const uint8_t *payload, size_t size, uint16_t opcode)
 {
@@ -74,10 +95,9 @@ static uint8_t payload_refusal(uint8_t kind, const uint8_t *payload, size_t size
             return BOURNEJADE_BAD_PAYLOAD;
         return (payload[0] | payload[1] << 8) == opcode ? 0 : BOURNEJADE_OTHER_OPCODE;
     }
-    if (size < 10 || payload[0] > 3 || payload[1] > 1 || payload[8] > 31 || size != 10u + payload[8])
+    if (!is_packet(kind, payload, size) || payload[0] > 3 || (kind == 4 && payload[0] % 2 != 0))
         return BOURNEJADE_BAD_PAYLOAD;
-    int level = payload[size - 1] < 128 ? payload[size - 1] : payload[size - 1] - 256;
-    return level >= -127 && level <= 20 ? 0 : BOURNEJADE_BAD_PAYLOAD;
+    return 0;
 }
 
 /* The number that a frame must get. */
@@ -87,7 +107,7 @@ static uint8_t frame_refusal(const struct known *k, const uint8_t *frame, size_t
         return BOURNEJADE_UNSOUND;
     if (room < BOURNEJADE_ANSWER_SIZE)
         return BOURNEJADE_SHORT;
-    if (size < 5 || size > BOURNEJADE_FRAME_SIZE || frame[0] < 1 || frame[0] > 3)
+    if (size < 5 || size > BOURNEJADE_FRAME_SIZE || frame[0] < 1 || frame[0] > 4)
         return BOURNEJADE_NOT_A_LINE;
     uint32_t number = number_in(frame + 1);
     if (number <= k->position)

@@ -126,7 +126,9 @@ def singles():
     for size in (0, 2, 32, 33):
         yield call(BEGIN, size, IMAGE, number(0xFC00 + size) + counted(bytes(range(size)), 1))
     yield call(BEGIN, 31, IMAGE, number(0xFBFF) + b"\0")
-    for frame in (tick, packet, packet[:4], bytes([4]) + packet[1:], bytes([1]) + bytes(262), bytes([1]) + bytes(263)):
+    scanned = bytes([4]) + packet[1:-2] + bytes([3, 2, 1, 6, 3, 2, 9, 0x41, 0xC4])
+    others = (bytes([4]) + packet[1:], bytes([5]) + packet[1:], bytes([1]) + bytes(262), bytes([1]) + bytes(263))
+    for frame in (tick, packet, scanned, scanned[:5] + b"\1" + scanned[6:], packet[:4]) + others:
         yield call(WRITE_LINE, 31, 7, counted(frame)) + call(WRITE_LINE, 0, 6, counted(frame))
         yield call(SUBMIT, 31, ANSWER, b"\7" + counted(frame)) + call(SUBMIT, 0, 9, b"\7" + counted(frame))
     for text in (line, line.lower(), line[:-1], line[:-1] + b"\r\n", line[1:], b"\n"):

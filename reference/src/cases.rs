@@ -1,7 +1,7 @@
 //! Cases for programs: an image, a journal, and what is to be written; and single vectors, a line each.
 
 use crate::command::{self, View};
-use crate::condition::{self, Form};
+use crate::condition::{self, Form, Text};
 use crate::engine::{journal, write_line, Engine};
 use crate::fault::Fault;
 use crate::frame::{self, Packet, Payload};
@@ -90,6 +90,7 @@ pub fn vectors(kind: &str, seed: u64, count: usize) -> Option<Vec<String>> {
         "lines" => line_vectors,
         "frames" => frame_vectors,
         "conditions" => condition_vectors,
+        "sections" => section_vectors,
         "commands" => command_vectors,
         "images" => image_vectors,
         "means" => mean_vectors,
@@ -150,7 +151,8 @@ fn frame_vectors(seed: u64, index: u64) -> Vec<String> {
     rows
 }
 
-/// `TYPE CONDITION ADDRESS-TYPE ADDRESS DATA ANSWER`: `match`, `none`, `malformed`, `irk` or `type`.
+/// `TYPE CONDITION ADDRESS-TYPE ADDRESS DATA SCAN ANSWER`: SCAN is `no` for a packet of kind 02; ANSWER is `match`,
+/// `none`, `malformed`, `irk` or `type`.
 fn condition_vectors(seed: u64, index: u64) -> Vec<String> {
     let mut random = Random::of(seed, index);
     let devices = states::devices(&mut random);
@@ -172,8 +174,9 @@ fn condition_vectors(seed: u64, index: u64) -> Vec<String> {
     }
     let rows = (0..6).map(|_| {
         let device = random.pick(&devices);
-        let data = conditions::data(&mut random, state.monitors());
-        let packet = Packet { event_type: 0, device, data, rssi: 0 };
+        let (data, scan) = conditions::texts(&mut random, state.monitors());
+        let scan = random.percent(50).then_some(scan);
+        let packet = Packet { event_type: 0, device, data, scan, rssi: 0 };
         let answer = match condition::form(kind, &octets) {
             Form::Malformed => "malformed",
             Form::Irk => "irk",
@@ -181,10 +184,46 @@ fn condition_vectors(seed: u64, index: u64) -> Vec<String> {
             Form::WellFormed if condition::matches(kind, &octets, &packet, Fault::None) => "match",
             Form::WellFormed => "none",
         };
+        let scan = packet.scan.map_or("no".to_string(), |scan| hex(&scan));
         let fields = (hex(&octets), packet.device.kind, hex(&device.address), hex(&packet.data));
-        format!("{kind:02X} {} {:02X} {} {} {answer}", fields.0, fields.1, fields.2, fields.3)
+        format!("{kind:02X} {} {:02X} {} {} {scan} {answer}", fields.0, fields.1, fields.2, fields.3)
     });
     rows.collect()
+}
+
+/// `AD-TYPE AFTER DATA SCAN WHERE PART`: the structure of this AD type behind so many others of it, the advertisement's
+/// before the scan response's; WHERE is `advertisement`, `scan` or `none`, PART its octets after the AD type.
+pub fn section_vectors(seed: u64, index: u64) -> Vec<String> {
+    sections_by(seed, index, Fault::None)
+}
+
+/// The same by a wrong build.
+pub fn sections_by(seed: u64, index: u64, fault: Fault) -> Vec<String> {
+    let mut random = Random::of(seed, index);
+    let devices = states::devices(&mut random);
+    let state = states::sound(&mut random, &devices);
+    let (data, scan) = conditions::texts(&mut random, state.monitors());
+    let list = condition::sections(&data, Some(&scan), fault);
+    let mut wanted: Vec<u8> = list.iter().map(|s| s.ad_type).chain([0x09]).collect();
+    wanted.sort_unstable();
+    wanted.dedup();
+    let mut rows = Vec::new();
+    for ad_type in wanted {
+        let mut found = list.iter().filter(|s| s.ad_type == ad_type);
+        for after in 0.. {
+            let next = found.next();
+            let (place, part) = match next {
+                Some(s) if s.text == Text::Advertisement => ("advertisement", hex(s.content)),
+                Some(s) => ("scan", hex(s.content)),
+                None => ("none", hex(&[])),
+            };
+            rows.push(format!("{ad_type:02X} {after} {} {} {place} {part}", hex(&data), hex(&scan)));
+            if next.is_none() {
+                break;
+            }
+        }
+    }
+    rows
 }
 
 /// `FILTER LIVE PREFIX PARAMETERS RETURNS`: LIVE has bit h for handle h, RETURNS are the return parameters.

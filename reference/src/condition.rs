@@ -1,4 +1,5 @@
-//! Document 01, "Conditions": the form of a condition, and whether a packet matches it.
+//! Document 01, "Conditions": the form of a condition, and whether a packet matches it. A packet of kind 04 has two
+//! texts (document 02, T-06): a condition matches if either does.
 
 use crate::coverage::{hit, Rule};
 use crate::fault::Fault;
@@ -33,9 +34,13 @@ pub fn form(kind: u8, condition: &[u8]) -> Form {
 
 /// Does this packet match this well-formed condition?
 pub fn matches(kind: u8, condition: &[u8], packet: &Packet, fault: Fault) -> bool {
+    if let (Some(scan), Fault::TextsJoined) = (&packet.scan, fault) {
+        let data = [&packet.data[..], scan].concat();
+        return matches(kind, condition, &Packet { data, scan: None, ..packet.clone() }, fault);
+    }
     match kind {
-        1 => pattern_condition(condition, &packet.data, fault),
-        2 => uuid_condition(condition, &packet.data, fault),
+        1 => pattern_condition(condition, packet, fault),
+        2 => uuid_condition(condition, packet, fault),
         4 => address_condition(condition, packet, fault),
         _ => false,
     }
@@ -66,10 +71,43 @@ fn patterns(condition: &[u8]) -> Option<Vec<Pattern<'_>>> {
     rest.is_empty().then_some(list)
 }
 
+/// Where an AD structure stands.
+#[derive(Clone, Copy, PartialEq, Eq, Debug)]
+pub enum Text {
+    Advertisement,
+    ScanResponse,
+}
+
+/// An AD structure: where it stands, its AD type and the octets after it.
+#[derive(Clone, Copy, PartialEq, Eq, Debug)]
+pub struct Section<'a> {
+    pub text: Text,
+    pub ad_type: u8,
+    pub content: &'a [u8],
+}
+
+/// The AD structures of an advertisement, then those of the scan response. Each text ends its own list.
+pub fn sections<'a>(data: &'a [u8], scan: Option<&'a [u8]>, fault: Fault) -> Vec<Section<'a>> {
+    let mut list = Vec::with_capacity(8);
+    let to_its_end = walk(data, Text::Advertisement, &mut list, fault);
+    let left_out = fault == Fault::ScanNotMatched || (fault == Fault::ScanListEnded && !to_its_end);
+    match scan {
+        Some(_) if left_out => (),
+        Some(scan) if fault == Fault::ScanFirst => {
+            let mut first = Vec::new();
+            walk(scan, Text::ScanResponse, &mut first, fault);
+            list.splice(0..0, first).for_each(drop);
+        }
+        Some(scan) => drop(walk(scan, Text::ScanResponse, &mut list, fault)),
+        None => (),
+    }
+    list
+}
+
 /// AD structures: length L, then L octets, the first the AD type. L = 0 or a structure past the end ends
-/// the list; earlier ones count. Given as AD type and the octets after it.
-fn sections(data: &[u8], fault: Fault) -> Vec<(u8, &[u8])> {
-    let mut list = Vec::with_capacity(4);
+/// the list; earlier ones count. Whether the list went to the text's end.
+fn walk<'a>(data: &'a [u8], text: Text, list: &mut Vec<Section<'a>>, fault: Fault) -> bool {
+    let mut add = |octets: &'a [u8]| list.push(Section { text, ad_type: octets[0], content: &octets[1..] });
     let mut rest = data;
     while let Some((length, after)) = rest.split_first() {
         let length = *length as usize;
@@ -79,37 +117,55 @@ fn sections(data: &[u8], fault: Fault) -> Vec<(u8, &[u8])> {
         }
         if length == 0 {
             hit(Rule::SectionsZero);
-            break;
+            return false;
         }
         if length > after.len() {
             hit(Rule::SectionsPastEnd);
             if fault == Fault::PastEndCounts && !after.is_empty() {
-                list.push((after[0], &after[1..]));
+                add(after);
             }
-            break;
+            return false;
         }
-        list.push((after[0], &after[1..length]));
+        add(&after[..length]);
         rest = &after[length..];
     }
-    list
+    true
+}
+
+/// The AD structures of a packet that have one of these AD types.
+fn of_types<'a>(
+    list: &'a [Section<'a>],
+    ad_types: &'a [u8],
+    fault: Fault,
+) -> impl Iterator<Item = &'a Section<'a>> {
+    let wanted = move |section: &&Section| ad_types.contains(&section.ad_type);
+    let hidden = fault == Fault::ScanOnlyIfMissing
+        && list.iter().filter(wanted).any(|section| section.text == Text::Advertisement);
+    list.iter().filter(wanted).filter(move |section| !(hidden && section.text == Text::ScanResponse))
 }
 
 /// One matching pattern is enough. It matches if some AD structure of its type holds the octets at its
 /// offset, 0 being the first octet after the AD type.
-fn pattern_condition(condition: &[u8], data: &[u8], fault: Fault) -> bool {
-    let list = sections(data, fault);
+fn pattern_condition(condition: &[u8], packet: &Packet, fault: Fault) -> bool {
+    let list = sections(&packet.data, packet.scan.as_deref(), fault);
     let one = |pattern: &Pattern| {
-        let mut of_type = list.iter().filter(|(ad_type, _)| *ad_type == pattern.ad_type);
+        let mut of_type = of_types(&list, std::slice::from_ref(&pattern.ad_type), fault);
         match fault {
-            Fault::FirstSectionOnly => of_type.next().is_some_and(|(_, content)| holds(content, pattern)),
+            Fault::FirstSectionOnly => of_type.next().is_some_and(|s| holds(s.content, pattern)),
             Fault::PatternAnywhere => {
-                of_type.any(|(_, c)| c.windows(pattern.octets.len()).any(|w| w == pattern.octets))
+                of_type.any(|s| s.content.windows(pattern.octets.len()).any(|w| w == pattern.octets))
             }
-            Fault::OffsetFromType => of_type.any(|(_, content)| {
+            Fault::OffsetFromType => of_type.any(|s| {
                 let moved = Pattern { start: pattern.start.saturating_sub(1), ..*pattern };
-                pattern.start > 0 && holds(content, &moved)
+                pattern.start > 0 && holds(s.content, &moved)
             }),
-            _ => of_type.any(|(_, content)| holds(content, pattern)),
+            _ => of_type.any(|s| {
+                let found = holds(s.content, pattern);
+                if found && s.text == Text::ScanResponse {
+                    hit(Rule::PatternInScan);
+                }
+                found
+            }),
         }
     };
     let Some(all) = patterns(condition) else { return false };
@@ -143,11 +199,12 @@ fn uuid(condition: &[u8]) -> Option<([u8; 2], &[u8])> {
 }
 
 /// Looked for in its two AD types, at offsets that are multiples of its size only.
-fn uuid_condition(condition: &[u8], data: &[u8], fault: Fault) -> bool {
+fn uuid_condition(condition: &[u8], packet: &Packet, fault: Fault) -> bool {
     let Some((ad_types, octets)) = uuid(condition) else { return false };
     let size = octets.len();
-    for (ad_type, content) in sections(data, fault) {
-        if !ad_types.contains(&ad_type) || (fault == Fault::UuidCompleteOnly && ad_type == ad_types[0]) {
+    let list = sections(&packet.data, packet.scan.as_deref(), fault);
+    for Section { text, ad_type, content } in of_types(&list, &ad_types, fault) {
+        if fault == Fault::UuidCompleteOnly && *ad_type == ad_types[0] {
             continue;
         }
         if fault == Fault::UuidAtOddOffset && content.windows(size).any(|w| w == octets) {
@@ -162,6 +219,9 @@ fn uuid_condition(condition: &[u8], data: &[u8], fault: Fault) -> bool {
                 }
             } else if chunk == octets {
                 hit(if index == 0 { Rule::UuidMatch } else { Rule::UuidLater });
+                if *text == Text::ScanResponse {
+                    hit(Rule::UuidInScan);
+                }
                 return true;
             }
         }

@@ -31,6 +31,9 @@ pub fn report(event_type: u8, device: &Device, data: &[u8], rssi: i8) -> Vec<u8>
     octets
 }
 
+/// The event type of a scan response's report (Core).
+pub const SCAN_RESPONSE: u8 = 4;
+
 /// The events of an answer, one by one: code, length, that many octets.
 pub fn split(answer: &[u8]) -> Vec<&[u8]> {
     let mut events = Vec::new();

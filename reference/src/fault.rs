@@ -1,13 +1,17 @@
 //! Wrong builds: small faults, switched on one at a time by number in the engine with stored timers.
-//! Number 0 is no fault. Each must be noticed by comparison with the other engine (tests/faults.rs).
+//! Number 0 is no fault. Each must be noticed by comparison with the other engine (tests/faults.rs), or, where no
+//! session can show it, by vectors.
 
 macro_rules! faults {
-    ($($name:ident: $words:literal,)*) => {
+    ($($name:ident: $words:literal,)* ; $($other:ident: $said:literal,)*) => {
         #[derive(Clone, Copy, PartialEq, Eq, Debug)]
-        pub enum Fault { None, $($name,)* }
+        pub enum Fault { None, $($name,)* $($other,)* }
 
-        /// Every fault with what it does wrong, in the order of the numbers from 1.
+        /// Every fault that sessions notice with what it does wrong, in the order of the numbers from 1.
         pub const FAULTS: &[(Fault, &str)] = &[$((Fault::$name, $words),)*];
+
+        /// Faults that no answer and no image shows: vectors of the functions within notice them.
+        pub const VECTOR_FAULTS: &[(Fault, &str)] = &[$((Fault::$other, $said),)*];
     };
 }
 
@@ -127,6 +131,21 @@ faults! {
     SharedStartOneTick: "a start at the value of equal thresholds stops at the next tick",
     // T-11.
     CountWraps: "a window that holds one packet more than the position is taken, and its count passes 4 octets",
+    // T-06.
+    ScanKindRefused: "kind 04 is refused by 4",
+    ScanAnyEventType: "kind 04 with event type 1 or 3 is executed",
+    ScanNotMatched: "the scan response is not matched",
+    ScanOnlyIfMissing: "the scan response is looked at only where the advertisement has no such structure",
+    ScanListEnded: "a length 0 or an overrun in the advertisement ends the scan response's list too",
+    TextsJoined: "advertisement and scan response are read as one text",
+    ScanReportMissing: "kind 04 has one report",
+    ScanReportWhileOff: "kind 04 has one report while the filter is off",
+    EmptyScanNoReport: "an empty scan response has no report",
+    ScanReportType0: "the second report has event type 0",
+    WindowKeepsScan: "a window keeps the scan response",
+    ;
+    // T-06: a condition matches if either text does, whichever is looked at first.
+    ScanFirst: "the scan response is looked at first",
 }
 
 impl Fault {

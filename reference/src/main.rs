@@ -13,7 +13,7 @@ reference history IMAGE JOURNAL     the same by the history rule
 reference calls DIR SEED COUNT      writes DIR/stdin and DIR/stdout: COUNT scripts for crates/calls_run
 reference calls DIR SEED COUNT N    the same scripts, and what wrong build N gives
 reference cases DIR SEED COUNT      writes COUNT cases: DIR/N.image, N.journal, N.expected
-reference vectors KIND SEED COUNT   COUNT vectors, KIND: lines frames conditions commands images means
+reference vectors KIND SEED COUNT   COUNT vectors, KIND: lines frames conditions sections commands images means
 reference coverage SEED COUNT       how often COUNT scripts reach each rule, status and refusal
 reference agree SEED COUNT          compares the two engines on COUNT sessions and COUNT scripts
 reference faults SEED COUNT         how many of COUNT scripts notice each wrong build

@@ -10,7 +10,7 @@ use reference::frame::Packet;
 fn meets(kind: u8, condition: &str, data: &str) -> bool {
     let condition = octets(condition);
     assert_eq!(form(kind, &condition), Form::WellFormed, "{condition:02X?}");
-    let packet = Packet { event_type: 0, device: DEVICE, data: octets(data), rssi: 0 };
+    let packet = Packet { event_type: 0, device: DEVICE, data: octets(data), scan: None, rssi: 0 };
     matches(kind, &condition, &packet, Fault::None)
 }
 

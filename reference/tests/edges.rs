@@ -53,7 +53,8 @@ fn lent_outputs() {
         (264, 1, true),
         (5, 0, true),
         (5, 3, false),
-        (5, 4, true),
+        (5, 4, false),
+        (5, 5, true),
     ] {
         let mut frame = vec![0xAB; length];
         frame[0] = kind;
@@ -83,14 +84,14 @@ fn not_a_line() {
             b"030200000@\n",
             b"030200000/\n",
             b"0002000000\n",
-            b"0402000000\n",
+            b"0502000000\n",
             b"0000000000\n",
             b"FF02000000\n",
             b"01020000001efc0105\n",
         ] {
             assert_eq!(host.give_line(text), Err(4), "{:?}", String::from_utf8_lossy(text));
         }
-        for frame in ["", "03", "03020000", "0000000000", "0401000000"] {
+        for frame in ["", "03", "03020000", "0000000000", "0501000000"] {
             assert_eq!(host.give(&octets(frame)), Err(4));
         }
         // Over 263 octets is 4 though the number be seen; 263 are not too many.

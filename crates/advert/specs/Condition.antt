@@ -18,11 +18,12 @@ wellFormed kind condition =
     (pick (eqb kind 2) (uuidForm condition)
     (pick (eqb kind 4) (addressForm condition) false))
 
--- whether a packet matches a condition
-unfoldable pub meets : (kind : ℕ) (condition : List ℕ) (addressType : ℕ) (address : List ℕ) (adv : List ℕ) → Bool
-meets kind condition addressType address adv =
-    pick (eqb kind 1) (patternsMeet condition adv)
-    (pick (eqb kind 2) (uuidMeets condition adv)
+-- whether a packet matches a condition: by its advertisement or its scan response (document 02, T-06: "A condition matches if
+-- either text does"), which is empty where it has none
+unfoldable pub meets : (kind : ℕ) (condition : List ℕ) (addressType : ℕ) (address adv scan : List ℕ) → Bool
+meets kind condition addressType address adv scan =
+    pick (eqb kind 1) (patternsMeet condition adv scan)
+    (pick (eqb kind 2) (uuidMeets condition adv scan)
     (pick (eqb kind 4) (addressMeets condition addressType address) false))
 
 -- what is said of a condition's form: type 3 is not built whatever its condition, types outside 1 to 4 are unknown

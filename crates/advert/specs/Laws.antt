@@ -39,11 +39,11 @@ pub well-kind : (kind : ℕ) (condition : List ℕ) → wellFormed kind conditio
 unfolding wellFormed
 well-kind kind condition e = kind-of kind (patternsForm condition) (uuidForm condition) (addressForm condition) e
 
-pub meets-kind : (kind : ℕ) (condition : List ℕ) (t : ℕ) (address adv : List ℕ)
-    → meets kind condition t address adv ≡ true → Built kind
+pub meets-kind : (kind : ℕ) (condition : List ℕ) (t : ℕ) (address adv scan : List ℕ)
+    → meets kind condition t address adv scan ≡ true → Built kind
 unfolding meets
-meets-kind kind condition t address adv e =
-    kind-of kind (patternsMeet condition adv) (uuidMeets condition adv) (addressMeets condition t address) e
+meets-kind kind condition t address adv scan e =
+    kind-of kind (patternsMeet condition adv scan) (uuidMeets condition adv scan) (addressMeets condition t address) e
 
 -- the form and the match of each type
 pub well-pattern : (condition : List ℕ) → wellFormed 1 condition ≡ patternsForm condition
@@ -58,38 +58,38 @@ pub well-address : (condition : List ℕ) → wellFormed 4 condition ≡ address
 unfolding wellFormed pick
 well-address condition = refl
 
-pub meets-pattern : (condition : List ℕ) (t : ℕ) (address adv : List ℕ)
-    → meets 1 condition t address adv ≡ patternsMeet condition adv
+pub meets-pattern : (condition : List ℕ) (t : ℕ) (address adv scan : List ℕ)
+    → meets 1 condition t address adv scan ≡ patternsMeet condition adv scan
 unfolding meets pick
-meets-pattern condition t address adv = refl
+meets-pattern condition t address adv scan = refl
 
-pub meets-uuid : (condition : List ℕ) (t : ℕ) (address adv : List ℕ)
-    → meets 2 condition t address adv ≡ uuidMeets condition adv
+pub meets-uuid : (condition : List ℕ) (t : ℕ) (address adv scan : List ℕ)
+    → meets 2 condition t address adv scan ≡ uuidMeets condition adv scan
 unfolding meets pick
-meets-uuid condition t address adv = refl
+meets-uuid condition t address adv scan = refl
 
-pub meets-address : (condition : List ℕ) (t : ℕ) (address adv : List ℕ)
-    → meets 4 condition t address adv ≡ sames condition (t ∷ address)
+pub meets-address : (condition : List ℕ) (t : ℕ) (address adv scan : List ℕ)
+    → meets 4 condition t address adv scan ≡ sames condition (t ∷ address)
 unfolding meets pick addressMeets
-meets-address condition t address adv = refl
+meets-address condition t address adv scan = refl
 
 -- a match of type 4 says that the condition is the packet's address type and address, and the other way round
-pub address-is : (condition : List ℕ) (t : ℕ) (address adv : List ℕ) → meets 4 condition t address adv ≡ true
+pub address-is : (condition : List ℕ) (t : ℕ) (address adv scan : List ℕ) → meets 4 condition t address adv scan ≡ true
     → condition ≡ t ∷ address
-address-is condition t address adv e =
-    sames-eq condition (t ∷ address) (sym (meets-address condition t address adv) ∙ e)
+address-is condition t address adv scan e =
+    sames-eq condition (t ∷ address) (sym (meets-address condition t address adv scan) ∙ e)
 
-pub address-same : (t : ℕ) (address adv : List ℕ) → meets 4 (t ∷ address) t address adv ≡ true
-address-same t address adv = meets-address (t ∷ address) t address adv ∙ sames-refl (t ∷ address)
+pub address-same : (t : ℕ) (address adv scan : List ℕ) → meets 4 (t ∷ address) t address adv scan ≡ true
+address-same t address adv scan = meets-address (t ∷ address) t address adv scan ∙ sames-refl (t ∷ address)
 
 -- only a well-formed UUID condition matches
-pub uuid-well : (condition : List ℕ) (t : ℕ) (address adv : List ℕ) → meets 2 condition t address adv ≡ true
+pub uuid-well : (condition : List ℕ) (t : ℕ) (address adv scan : List ℕ) → meets 2 condition t address adv scan ≡ true
     → wellFormed 2 condition ≡ true
-uuid-well condition t address adv e = go (uuidForm condition) refl
+uuid-well condition t address adv scan e = go (uuidForm condition) refl
   where
     go : (b : Bool) → uuidForm condition ≡ b → wellFormed 2 condition ≡ true
     go true f = well-uuid condition ∙ f
-    go false f = absurd (false≢true (uuid-bad condition adv f ∙ sym (meets-uuid condition t address adv) ∙ e))
+    go false f = absurd (false≢true (uuid-bad condition adv scan f ∙ sym (meets-uuid condition t address adv scan) ∙ e))
 
 -- how long well-formed conditions are
 pub uuid-length : (condition : List ℕ) → wellFormed 2 condition ≡ true

@@ -1,6 +1,7 @@
 -- Whether an advertisement meets a monitor's condition (document 01, Conditions).
 pub mod Parts
 pub mod Sections
+pub mod Either
 pub mod Pattern
 pub mod Uuid
 pub mod Address

@@ -15,7 +15,7 @@ use lib.Seq.{drop-cons, length-take-le}
 use Rattle.laws.specs.Loops.{some, some-step, some-stop, some-nil}
 use Rattle.laws.specs.Tests.{sames, cases-eq}
 use Rattle.advert.specs.Parts.{parts, parts-nil, PartAt, rest-whole}
-use Rattle.advert.specs.Sections.{contents}
+use Rattle.advert.specs.Either.{both}
 
 -- whether a text holds these octets at an offset: they end within it, and are equal
 unfoldable pub holdsAt : ℕ → List ℕ → List ℕ → Bool
@@ -39,16 +39,16 @@ unfoldable pub patternsForm : List ℕ → Bool
 patternsForm [] = false
 patternsForm (n ∷ rest) = leb 1 n && fills n (length rest) (parts 3 rest)
 
--- whether an advertisement matches a pattern: some section of its AD type holds its octets at its start byte, 0
--- being the first octet after the AD type
-unfoldable pub patternMeets : List ℕ → List ℕ → Bool
-patternMeets adv [] = false
-patternMeets adv (t ∷ []) = false
-patternMeets adv (t ∷ start ∷ octets) = some (holdsAt start octets) (contents t t adv)
+-- whether a packet's texts, the advertisement and the scan response, match a pattern: some section of its AD type holds its
+-- octets at its start byte, 0 being the first octet after the AD type
+unfoldable pub patternMeets : List ℕ → List ℕ → List ℕ → Bool
+patternMeets adv scan [] = false
+patternMeets adv scan (t ∷ []) = false
+patternMeets adv scan (t ∷ start ∷ octets) = some (holdsAt start octets) (both t t adv scan)
 
--- whether an advertisement matches some pattern of the condition
-unfoldable pub patternsMeet : List ℕ → List ℕ → Bool
-patternsMeet condition adv = some (patternMeets adv) (patterns condition)
+-- whether they match some pattern of the condition
+unfoldable pub patternsMeet : List ℕ → List ℕ → List ℕ → Bool
+patternsMeet condition adv scan = some (patternMeets adv scan) (patterns condition)
 
 -- two tests for equality that hold together
 pub eqb-iff : (a b c d : ℕ) → (a ≡ b → c ≡ d) → (c ≡ d → a ≡ b) → eqb a b ≡ eqb c d
@@ -164,14 +164,14 @@ module _ (xs : List ℕ) (h : 0 < length xs) where
       ap patternsForm (drop-cons xs 0 0 h) ∙ rw (le-leb 1 (getD xs 0 0) e, d)
 
 -- a pattern of two octets or more is its AD type, its start byte and its octets
-pub pattern-split : (adv p : List ℕ) → 2 ≤ length p
-    → patternMeets adv p ≡ some (holdsAt (getD p 1 0) (drop 2 p)) (contents (getD p 0 0) (getD p 0 0) adv)
+pub pattern-split : (adv scan p : List ℕ) → 2 ≤ length p
+    → patternMeets adv scan p ≡ some (holdsAt (getD p 1 0) (drop 2 p)) (both (getD p 0 0) (getD p 0 0) adv scan)
 unfolding patternMeets
-pattern-split adv [] h = absurd (omega arith)
-pattern-split adv (t ∷ []) h = absurd (omega arith)
-pattern-split adv (t ∷ start ∷ octets) h = refl
+pattern-split adv scan [] h = absurd (omega arith)
+pattern-split adv scan (t ∷ []) h = absurd (omega arith)
+pattern-split adv scan (t ∷ start ∷ octets) h = refl
 
-pub pattern-of : (adv p : List ℕ) (start : ℕ) {r : Bool} → 2 ≤ length p → start ≡ getD p 1 0
-    → r ≡ some (holdsAt start (take (length p - 2) (drop 2 p))) (contents (getD p 0 0) (getD p 0 0) adv)
-    → r ≡ patternMeets adv p
-pattern-of adv p start h s e = rw (s, rest-whole 2 p) at e ∙ sym (pattern-split adv p h)
+pub pattern-of : (adv scan p : List ℕ) (start : ℕ) {r : Bool} → 2 ≤ length p → start ≡ getD p 1 0
+    → r ≡ some (holdsAt start (take (length p - 2) (drop 2 p))) (both (getD p 0 0) (getD p 0 0) adv scan)
+    → r ≡ patternMeets adv scan p
+pattern-of adv scan p start h s e = rw (s, rest-whole 2 p) at e ∙ sym (pattern-split adv scan p h)

@@ -1,4 +1,4 @@
--- The AD structures of an advertisement, and the one lookup of them by AD type through which every match goes
+-- The AD structures of one text, an advertisement or a scan response, and the lookup of them by AD type
 -- (document 01, Conditions: "AD structures: length L, then L octets, the first the AD type. L = 0 or a structure
 -- past the end ends the list; earlier ones count."). Assumes nothing.
 use Prim.Native.Nat.{ℕ, suc, _+_, _-_, _≤_, _<_}
@@ -9,7 +9,6 @@ use native.Mathlib.Omega.{arith}
 use lib.Dec.{eqb}
 use lib.ListN.{length, take, drop, getD, drop-of-length-le}
 use lib.Seq.{drop-cons}
-use Rattle.laws.specs.Loops.{some, some-step, some-stop, some-nil}
 use Rattle.laws.specs.Tests.{pick}
 use Rattle.advert.specs.Parts.{parts, parts-nil, PartAt}
 
@@ -98,22 +97,3 @@ module _ (t u : ℕ) (xs : List ℕ) (at : ℕ) where
     high = λ _. p .high;
     more = λ _. q ∙ contents-hit t u xs i e p b y;
   }
-
--- the turns of a loop that tries each section found: r is the answer, and what is left at index i has it too
-module _ (f : List ℕ → Bool) (t u : ℕ) (xs : List ℕ) (i : ℕ) (r : Bool)
-    (q : r ≡ some f (contents t u (drop i xs))) where
-  pub tried-end : length xs ≤ i → false ≡ r
-  tried-end h = sym (q ∙ ap (some f) (contents-end t u xs i h) ∙ some-nil f)
-
-  module _ (found : Bool) (from to : ℕ) (p : Lookup t u xs i found from to) where
-    pub tried-none : found ≡ false → false ≡ r
-    tried-none e = sym (q ∙ ap (some f) (p .none e) ∙ some-nil f)
-
-    pub tried-hit : found ≡ true → f (take (to - from) (drop from xs)) ≡ true → true ≡ r
-    tried-hit e y = sym (q ∙ ap (some f) (p .more e)
-        ∙ some-stop f (take (to - from) (drop from xs)) (contents t u (drop to xs)) y)
-
-    pub tried-miss : found ≡ true → f (take (to - from) (drop from xs)) ≡ false
-        → r ≡ some f (contents t u (drop to xs))
-    tried-miss e y = q ∙ ap (some f) (p .more e)
-        ∙ some-step f (take (to - from) (drop from xs)) (contents t u (drop to xs)) y

@@ -17,7 +17,7 @@ use Rattle.laws.specs.Loops.{some, some-step, some-stop, some-nil}
 use Rattle.laws.specs.Rows.{rows}
 use Rattle.laws.specs.Tests.{sames, and-left, and-right}
 use Rattle.advert.specs.Parts.{rest-whole}
-use Rattle.advert.specs.Sections.{contents}
+use Rattle.advert.specs.Either.{both}
 use Rattle.advert.specs.Pattern.{holdsAt, holds-within}
 
 -- the whole UUIDs of a list of UUIDs of this size: a rest that is too short is none
@@ -37,10 +37,10 @@ unfoldable pub uuidForm : List ℕ → Bool
 uuidForm [] = false
 uuidForm (t ∷ uuid) = uuidSize t (length uuid)
 
--- whether an advertisement lists the condition's UUID: UUID type t is looked for in AD types 2 t and 2 t + 1
-unfoldable pub uuidMeets : List ℕ → List ℕ → Bool
-uuidMeets [] adv = false
-uuidMeets (t ∷ uuid) adv = uuidSize t (length uuid) && some (listed uuid) (contents (2 * t) (2 * t + 1) adv)
+-- whether an advertisement or a scan response lists the condition's UUID: UUID type t is looked for in AD types 2 t and 2 t + 1
+unfoldable pub uuidMeets : List ℕ → List ℕ → List ℕ → Bool
+uuidMeets [] adv scan = false
+uuidMeets (t ∷ uuid) adv scan = uuidSize t (length uuid) && some (listed uuid) (both (2 * t) (2 * t + 1) adv scan)
 
 pub uuids-more : (size : ℕ) (l : List ℕ) → 0 < size → size ≤ length l
     → uuids size l ≡ take size l ∷ uuids size (drop size l)
@@ -124,18 +124,18 @@ uuid-bounds xs e =
     (uuid-cases xs e)
 
 -- a condition of another form matches nothing, one of that form what its UUID is listed in
-pub uuid-bad : (xs adv : List ℕ) → uuidForm xs ≡ false → false ≡ uuidMeets xs adv
+pub uuid-bad : (xs adv scan : List ℕ) → uuidForm xs ≡ false → false ≡ uuidMeets xs adv scan
 unfolding uuidForm uuidMeets
-uuid-bad [] adv e = refl
-uuid-bad (t ∷ uuid) adv e = rw e
+uuid-bad [] adv scan e = refl
+uuid-bad (t ∷ uuid) adv scan e = rw e
 
-pub uuid-of : (xs adv : List ℕ) {r : Bool} → uuidForm xs ≡ true
-    → r ≡ some (listed (take (length xs - 1) (drop 1 xs))) (contents (2 * getD xs 0 0) (2 * getD xs 0 0 + 1) adv)
-    → r ≡ uuidMeets xs adv
+pub uuid-of : (xs adv scan : List ℕ) {r : Bool} → uuidForm xs ≡ true
+    → r ≡ some (listed (take (length xs - 1) (drop 1 xs))) (both (2 * getD xs 0 0) (2 * getD xs 0 0 + 1) adv scan)
+    → r ≡ uuidMeets xs adv scan
 unfolding uuidForm uuidMeets
-uuid-of xs adv {r} f e = go xs f (rw (rest-whole 1 xs) at e)
+uuid-of xs adv scan {r} f e = go xs f (rw (rest-whole 1 xs) at e)
   where
     go : (l : List ℕ) → uuidForm l ≡ true
-        → r ≡ some (listed (drop 1 l)) (contents (2 * getD l 0 0) (2 * getD l 0 0 + 1) adv) → r ≡ uuidMeets l adv
+        → r ≡ some (listed (drop 1 l)) (both (2 * getD l 0 0) (2 * getD l 0 0 + 1) adv scan) → r ≡ uuidMeets l adv scan
     go [] f q = absurd (false≢true f)
     go (t ∷ uuid) f q = q ∙ rw f

@@ -1,11 +1,12 @@
-// Whether a condition is well formed, and whether a packet matches it (document 01, Conditions). Every match reads an
-// advertisement through one lookup, find_section, and compares octets by one function, holds.
+// Whether a condition is well formed, and whether a packet matches it (document 01, Conditions). Every match reads the
+// advertisement and the scan response through one lookup, next_section, and compares octets by one function, holds.
+mod lookup;
+
 ghost use Prim.Native.Nat.{_+_, _*_, _≤_, _<_};
 ghost use mathlib.Core.Path.{_≡_};
 ghost use lib.ListN.{length};
 ghost use Rattle.laws.specs.Loops.{some};
-ghost use Rattle.advert.specs.Parts.{PartAt};
-ghost use Rattle.advert.specs.Sections.{Lookup, contents};
+ghost use Rattle.advert.specs.Either.{both};
 ghost use Rattle.advert.specs.Pattern.{holdsAt, patternsForm, patternMeets, patternsMeet};
 ghost use Rattle.advert.specs.Uuid.{listed, uuidForm, uuidMeets};
 ghost use Rattle.advert.specs.Address.{addressForm, addressMeets};
@@ -22,32 +23,6 @@ pub enum Form {
 // What is said of a packet and a condition.
 pub struct Match {
     pub found: bool,
-}
-
-// Where the content of a section stands: from index from on, to before index to.
-struct Section {
-    found: bool,
-    from: usize,
-    to: usize,
-}
-
-// The index after the part that begins at i, or i where there is none.
-fn part_end(text: &[u8], i: usize, least: usize) -> usize
-    requires { ⌜ i ≤ length (now text) ⌝ }
-    ensures { λ r. ⌜ PartAt least (now (text .entry)) i r ⌝ }
-{
-    let n = text.len();
-    if i == n {
-        return i;
-    }
-    let x = octets::wide(text[i]);
-    if x < least {
-        return i;
-    }
-    if n - i <= x {
-        return i;
-    }
-    i + 1 + x
 }
 
 // Whether the text holds these octets at that index.
@@ -71,81 +46,45 @@ fn holds(text: &[u8], at: usize, octets: &[u8]) -> bool
     true
 }
 
-// The lookup: the first section of AD type t or u at index at or later.
-fn find_section(adv: &[u8], at: usize, t: u8, u: u8) -> Section
-    requires { ⌜ at ≤ length (now adv) ⌝ }
-    ensures { λ r. ⌜ Lookup t u (now (adv .entry)) at (r .found) (r .from) (r .to) ⌝ }
+// Whether some section of AD type t, of either text, holds the octets at the start byte.
+fn some_holds<'a, 'b>(adv: &'a [u8], scan: &'a [u8], t: u8, start: usize, octets: &'b [u8]) -> bool
+    ensures { λ r. ⌜ r ≡ some (holdsAt start (now (octets .entry))) (both t t (now (adv .entry)) (now (scan .entry))) ⌝ }
 {
-    let mut i = at;
-    while i < adv.len() {
-        let e = part_end(adv, i, 1);
-        if e == i {
-            return Section {
-                found: false,
-                from: i,
-                to: i,
-            };
-        }
-        let x = adv[i + 1];
-        let hit = (x == t) | (x == u);
-        if hit {
-            return Section {
-                found: true,
-                from: i + 2,
-                to: e,
-            };
-        }
-        i = e;
-    }
-    Section {
-        found: false,
-        from: i,
-        to: i,
-    }
-}
-
-// Whether some section of AD type t holds the octets at the start byte.
-fn some_holds(adv: &[u8], t: u8, start: usize, octets: &[u8]) -> bool
-    ensures { λ r. ⌜ r ≡ some (holdsAt start (now (octets .entry))) (contents t t (now (adv .entry))) ⌝ }
-{
-    let mut i = 0;
-    while i < adv.len() {
-        let s = find_section(adv, i, t, t);
-        let from = s.from;
-        let to = s.to;
-        if !s.found {
+    let mut second = false;
+    let mut at = 0;
+    loop {
+        let part = lookup::next_section(adv, scan, &mut second, &mut at, t, t);
+        if part.len() == 0 {
             return false;
         }
-        if holds(&adv[from..to], start, octets) {
+        if holds(&part[1..], start, octets) {
             return true;
         }
-        i = to;
     }
-    false
 }
 
-// Whether the advertisement matches the pattern: AD type, start byte, octets.
-fn pattern_meets(pattern: &[u8], adv: &[u8]) -> bool
+// Whether either text matches the pattern: AD type, start byte, octets.
+fn pattern_meets<'a, 'b>(pattern: &'b [u8], adv: &'a [u8], scan: &'a [u8]) -> bool
     requires { ⌜ 2 ≤ length (now pattern) ⌝ }
-    ensures { λ r. ⌜ r ≡ patternMeets (now (adv .entry)) (now (pattern .entry)) ⌝ }
+    ensures { λ r. ⌜ r ≡ patternMeets (now (adv .entry)) (now (scan .entry)) (now (pattern .entry)) ⌝ }
 {
     let t = pattern[0];
     let start = octets::wide(pattern[1]);
-    some_holds(adv, t, start, &pattern[2..])
+    some_holds(adv, scan, t, start, &pattern[2..])
 }
 
-// Whether the advertisement matches some pattern of the condition.
-fn patterns_meet(condition: &[u8], adv: &[u8]) -> bool
-    ensures { λ r. ⌜ r ≡ patternsMeet (now (condition .entry)) (now (adv .entry)) ⌝ }
+// Whether either text matches some pattern of the condition.
+fn patterns_meet<'a, 'b>(condition: &'b [u8], adv: &'a [u8], scan: &'a [u8]) -> bool
+    ensures { λ r. ⌜ r ≡ patternsMeet (now (condition .entry)) (now (adv .entry)) (now (scan .entry)) ⌝ }
 {
     let mut i = 1;
     while i < condition.len() {
-        let e = part_end(condition, i, 3);
+        let e = lookup::part_end(condition, i, 3);
         if e == i {
             return false;
         }
         let b = i + 1;
-        if pattern_meets(&condition[b..e], adv) {
+        if pattern_meets(&condition[b..e], adv, scan) {
             return true;
         }
         i = e;
@@ -166,7 +105,7 @@ fn patterns_form(condition: &[u8]) -> bool
     }
     let mut i = 1;
     while i < condition.len() {
-        let next = part_end(condition, i, 3);
+        let next = lookup::part_end(condition, i, 3);
         if next == i {
             return false;
         }
@@ -195,25 +134,22 @@ fn lists(content: &[u8], uuid: &[u8]) -> bool
     false
 }
 
-// Whether some section of AD type t or u lists the UUID.
-fn some_lists(adv: &[u8], t: u8, u: u8, uuid: &[u8]) -> bool
+// Whether some section of AD type t or u, of either text, lists the UUID.
+fn some_lists<'a, 'b>(adv: &'a [u8], scan: &'a [u8], t: u8, u: u8, uuid: &'b [u8]) -> bool
     requires { ⌜ 0 < length (now uuid) ⌝ }
-    ensures { λ r. ⌜ r ≡ some (listed (now (uuid .entry))) (contents t u (now (adv .entry))) ⌝ }
+    ensures { λ r. ⌜ r ≡ some (listed (now (uuid .entry))) (both t u (now (adv .entry)) (now (scan .entry))) ⌝ }
 {
-    let mut i = 0;
-    while i < adv.len() {
-        let s = find_section(adv, i, t, u);
-        let from = s.from;
-        let to = s.to;
-        if !s.found {
+    let mut second = false;
+    let mut at = 0;
+    loop {
+        let part = lookup::next_section(adv, scan, &mut second, &mut at, t, u);
+        if part.len() == 0 {
             return false;
         }
-        if lists(&adv[from..to], uuid) {
+        if lists(&part[1..], uuid) {
             return true;
         }
-        i = to;
     }
-    false
 }
 
 // Whether the condition is a UUID type and a UUID of its size.
@@ -228,15 +164,15 @@ fn uuid_form(condition: &[u8]) -> bool
     ((t == 1) & (n == 2)) | (((t == 2) & (n == 4)) | ((t == 3) & (n == 16)))
 }
 
-// Whether the advertisement lists the condition's UUID.
-fn uuid_meets(condition: &[u8], adv: &[u8]) -> bool
-    ensures { λ r. ⌜ r ≡ uuidMeets (now (condition .entry)) (now (adv .entry)) ⌝ }
+// Whether either text lists the condition's UUID.
+fn uuid_meets<'a, 'b>(condition: &'b [u8], adv: &'a [u8], scan: &'a [u8]) -> bool
+    ensures { λ r. ⌜ r ≡ uuidMeets (now (condition .entry)) (now (adv .entry)) (now (scan .entry)) ⌝ }
 {
     if !uuid_form(condition) {
         return false;
     }
     let t = condition[0];
-    some_lists(adv, 2 * t, 2 * t + 1, &condition[1..])
+    some_lists(adv, scan, 2 * t, 2 * t + 1, &condition[1..])
 }
 
 // Whether the condition is an address type, 0 or 1, and an address.
@@ -313,23 +249,25 @@ fn well_formed(kind: u8, condition: &[u8]) -> bool
     false
 }
 
-// Whether a packet from that address with that advertisement matches a condition of that type.
-pub fn match_packet(
+// Whether a packet from that address with that advertisement and scan response matches a condition of that type. A packet without
+// a scan response has an empty one here.
+pub fn match_packet<'a, 'b, 'c>(
     kind: u8,
-    condition: &[u8],
+    condition: &'b [u8],
     address_type: u8,
-    address: &[u8],
-    adv: &[u8],
+    address: &'c [u8],
+    adv: &'a [u8],
+    scan: &'a [u8],
 ) -> Match
     ensures { λ r. ⌜ r .found
-        ≡ meets kind (now (condition .entry)) «address_type» (now (address .entry)) (now (adv .entry)) ⌝ }
+        ≡ meets kind (now (condition .entry)) «address_type» (now (address .entry)) (now (adv .entry)) (now (scan .entry)) ⌝ }
 {
     if kind == 1 {
-        let found = patterns_meet(condition, adv);
+        let found = patterns_meet(condition, adv, scan);
         return Match { found: found };
     }
     if kind == 2 {
-        let found = uuid_meets(condition, adv);
+        let found = uuid_meets(condition, adv, scan);
         return Match { found: found };
     }
     if kind == 4 {

@@ -1,8 +1,8 @@
 // Runs vectors for the form and the match of conditions. Standard input holds a vector a line, its fields in
-// hexadecimal with a blank between them: condition type, condition, address type, address, advertisement. Other
-// lines are passed over. For each vector a line is written: 0 well formed, 1 malformed, 2 not built, 3 unknown;
+// hexadecimal with a blank between them: condition type, condition, address type, address, advertisement, scan
+// response. Other lines are passed over. For each vector a line is written: 0 well formed, 1 malformed, 2 not built, 3 unknown;
 // then, for a well-formed condition, 1 if the packet matches and 0 if not, and a dash for any other. The vectors
-// and their answers are made by vectors.py, an independent program written from document 01; there each answer is
+// and their answers are made by vectors.py, an independent program written from documents 01 and 02; there each answer is
 // worked out by hand too, and the two are compared.
 ghost use Prim.Native.Nat.{_≤_};
 ghost use mathlib.Core.Path.{_≡_};
@@ -78,9 +78,16 @@ fn sign(form: u8, found: bool) -> u8 {
     b'0'
 }
 
-fn answer(kind: u8, condition: &[u8], address_type: u8, address: &[u8], adv: &[u8]) {
+fn answer<'a, 'b, 'c>(
+    kind: u8,
+    condition: &'b [u8],
+    address_type: u8,
+    address: &'c [u8],
+    adv: &'a [u8],
+    scan: &'a [u8],
+) {
     let f = advert::condition_form(kind, condition);
-    let m = advert::match_packet(kind, condition, address_type, address, adv);
+    let m = advert::match_packet(kind, condition, address_type, address, adv, scan);
     let n = number(f);
     let line = [48 + n, sign(n, m.found), 10];
     io::write_all(1, &line);
@@ -95,6 +102,7 @@ fn vector(text: &[u8], from: usize)
     let mut address_type = [0u8; 1];
     let mut address = [0u8; 16];
     let mut adv = [0u8; 280];
+    let mut scan = [0u8; 280];
     let at1 = from + 2 * field(text, from, &mut kind) + 1;
     let n1 = field(text, at1, &mut condition);
     let at2 = at1 + 2 * n1 + 1;
@@ -102,12 +110,14 @@ fn vector(text: &[u8], from: usize)
     let n3 = field(text, at3, &mut address);
     let at4 = at3 + 2 * n3 + 1;
     let n4 = field(text, at4, &mut adv);
+    let n5 = field(text, at4 + 2 * n4 + 1, &mut scan);
     answer(
         kind[0],
         &condition[..n1],
         address_type[0],
         &address[..n3],
         &adv[..n4],
+        &scan[..n5],
     );
 }
 

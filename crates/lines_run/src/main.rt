@@ -195,18 +195,20 @@ fn lengths() {
     show_text_of(b"text of 264: ", &frame);
 }
 
-// Every kind from 0 to 4, from octets and from its text.
+// Every kind from 0 to 5, from octets and from its text.
 fn kinds() {
     show_written(b"kind 0: ", &[0, 1, 0, 0, 0], 527);
     show_written(b"kind 1: ", &[1, 1, 0, 0, 0], 527);
     show_written(b"kind 2: ", &[2, 1, 0, 0, 0], 527);
     show_written(b"kind 3: ", &[3, 1, 0, 0, 0], 527);
     show_written(b"kind 4: ", &[4, 1, 0, 0, 0], 527);
+    show_written(b"kind 5: ", &[5, 1, 0, 0, 0], 527);
     show_read(b"text of kind 0: ", b"0001000000\n");
     show_read(b"text of kind 1: ", b"0101000000\n");
     show_read(b"text of kind 2: ", b"0201000000\n");
     show_read(b"text of kind 3: ", b"0301000000\n");
     show_read(b"text of kind 4: ", b"0401000000\n");
+    show_read(b"text of kind 5: ", b"0501000000\n");
     show_read(b"text of kind 17: ", b"1101000000\n");
 }
 

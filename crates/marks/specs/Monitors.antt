@@ -1,6 +1,6 @@
 -- A handle's octet, read from its monitor's row in the block. Document 01, Conditions, Watching, by history. Assumes
 -- nothing.
-use Prim.Native.Nat.{ℕ, _+_, _*_, _≤_, _<_}
+use Prim.Native.Nat.{ℕ, _+_, _-_, _*_, _≤_, _<_}
 use mathlib.Core.Path.{_≡_, refl, sym, ap, _∙_}
 use mathlib.Core.Bool.{Bool, true, false, _&&_, not}
 use mathlib.Core.List.{List, [], _++_, append-nil}
@@ -13,7 +13,8 @@ use Rattle.laws.specs.Tests.{pick-true, pick-false, cases-le}
 use Rattle.laws.specs.Rows.{row, getD-row}
 use Rattle.advert.specs.Condition.{meets}
 use Rattle.model.specs.Level.{level}
-use Rattle.model.specs.Frames.{packetOf}
+use Rattle.model.specs.Types.{scanText}
+use Rattle.model.specs.Frames.{packetOf, scanOf}
 use Rattle.model.specs.Monitors.{matches, good, strong, windowed}
 use Rattle.model.specs.Image.{monitorIn}
 use Rattle.model.specs.Block.{inUse}
@@ -78,39 +79,40 @@ module _ (s : List ℕ) (h : ℕ) (l : List ℕ) where
       sym (pick-false _ 0 (ap not (eq-eqb _ 0 (row-field s h 3 (omega arith) ∙ e))))
 
   -- what the match was asked
-  match-asked : (n : ℕ) {cond adr adv : List ℕ} {found : Bool} → Clamped (getD s (monitorsAt + monitorSize * h + 6) 0) conditionRoom n
-      → cond ≡ take n (drop (monitorsAt + monitorSize * h + 7) s) → adr ≡ take 6 (drop 2 l) → adv ≡ take (getD l 8 0) (drop 9 l)
-      → found ≡ meets (getD s (monitorsAt + monitorSize * h + 5) 0) cond (getD l 1 0) adr adv
+  match-asked : (n : ℕ) {cond adr adv scan : List ℕ} {found : Bool} → Clamped (getD s (monitorsAt + monitorSize * h + 6) 0) conditionRoom n
+      → cond ≡ take n (drop (monitorsAt + monitorSize * h + 7) s) → adr ≡ take 6 (drop 2 l) → adv ≡ take (getD l 8 0) (drop 9 l) → scan ≡ scanText (scanOf l)
+      → found ≡ meets (getD s (monitorsAt + monitorSize * h + 5) 0) cond (getD l 1 0) adr adv scan
       → found ≡ matches (monitorIn (row monitorSize h (drop monitorsAt s)) .1) (packetOf l)
   unfolding matches monitorIn packetOf
-  match-asked n {cond} {adr} {adv} {found} c ec ea ed f =
+  match-asked n {cond} {adr} {adv} {scan} {found} c ec ea ed es f =
       let r : List ℕ = row monitorSize h (drop monitorsAt s) in
-      f ∙ ap (λ (k : ℕ). meets k cond (getD l 1 0) adr adv) (sym (row-field s h 5 (omega arith)))
-      ∙ ap (λ (x : List ℕ). meets (getD r typeAt 0) x (getD l 1 0) adr adv) (ec ∙ row-condition s h n c)
-      ∙ ap (λ (x : List ℕ). meets (getD r typeAt 0) (take (getD r conditionLengthAt 0) (drop conditionAt r)) (getD l 1 0) x adv) ea
-      ∙ ap (λ (x : List ℕ). meets (getD r typeAt 0) (take (getD r conditionLengthAt 0) (drop conditionAt r)) (getD l 1 0) (take 6 (drop 2 l)) x) ed
+      f ∙ ap (λ (k : ℕ). meets k cond (getD l 1 0) adr adv scan) (sym (row-field s h 5 (omega arith)))
+      ∙ ap (λ (x : List ℕ). meets (getD r typeAt 0) x (getD l 1 0) adr adv scan) (ec ∙ row-condition s h n c)
+      ∙ ap (λ (x : List ℕ). meets (getD r typeAt 0) (take (getD r conditionLengthAt 0) (drop conditionAt r)) (getD l 1 0) x adv scan) ea
+      ∙ ap (λ (x : List ℕ). meets (getD r typeAt 0) (take (getD r conditionLengthAt 0) (drop conditionAt r)) (getD l 1 0) (take 6 (drop 2 l)) x scan) ed
+      ∙ ap (λ (x : List ℕ). meets (getD r typeAt 0) (take (getD r conditionLengthAt 0) (drop conditionAt r)) (getD l 1 0) (take 6 (drop 2 l)) (take (getD l 8 0) (drop 9 l)) x) es
 
   used : (getD s (monitorsAt + monitorSize * h + 3) 0 ≡ 0 → ⊥) → inUse (row monitorSize h (drop monitorsAt s)) ≡ true
   unfolding inUse
   used u = ap not (ne-eqb _ 0 (λ e. u (sym (row-field s h 3 (omega arith)) ∙ e)))
 
-  pub mark-unmatched : (n : ℕ) {cond adr adv : List ℕ} {found : Bool} → (getD s (monitorsAt + monitorSize * h + 3) 0 ≡ 0 → ⊥)
+  pub mark-unmatched : (n : ℕ) {cond adr adv scan : List ℕ} {found : Bool} → (getD s (monitorsAt + monitorSize * h + 3) 0 ≡ 0 → ⊥)
       → Clamped (getD s (monitorsAt + monitorSize * h + 6) 0) conditionRoom n
-      → cond ≡ take n (drop (monitorsAt + monitorSize * h + 7) s) → adr ≡ take 6 (drop 2 l) → adv ≡ take (getD l 8 0) (drop 9 l)
-      → found ≡ meets (getD s (monitorsAt + monitorSize * h + 5) 0) cond (getD l 1 0) adr adv → found ≡ false
+      → cond ≡ take n (drop (monitorsAt + monitorSize * h + 7) s) → adr ≡ take 6 (drop 2 l) → adv ≡ take (getD l 8 0) (drop 9 l) → scan ≡ scanText (scanOf l)
+      → found ≡ meets (getD s (monitorsAt + monitorSize * h + 5) 0) cond (getD l 1 0) adr adv scan → found ≡ false
       → 0 ≡ markRow (row monitorSize h (drop monitorsAt s)) (packetOf l)
   unfolding markRow markOf
-  mark-unmatched n u c ec ea ed f e =
-      sym (pick-true _ 0 (used u) ∙ pick-false _ 0 (sym (match-asked n c ec ea ed f) ∙ e))
+  mark-unmatched n u c ec ea ed es f e =
+      sym (pick-true _ 0 (used u) ∙ pick-false _ 0 (sym (match-asked n c ec ea ed es f) ∙ e))
 
-  pub mark-matched : (n : ℕ) {cond adr adv : List ℕ} {found : Bool} {r : ℕ} → (getD s (monitorsAt + monitorSize * h + 3) 0 ≡ 0 → ⊥)
+  pub mark-matched : (n : ℕ) {cond adr adv scan : List ℕ} {found : Bool} {r : ℕ} → (getD s (monitorsAt + monitorSize * h + 3) 0 ≡ 0 → ⊥)
       → Clamped (getD s (monitorsAt + monitorSize * h + 6) 0) conditionRoom n
-      → cond ≡ take n (drop (monitorsAt + monitorSize * h + 7) s) → adr ≡ take 6 (drop 2 l) → adv ≡ take (getD l 8 0) (drop 9 l)
-      → found ≡ meets (getD s (monitorsAt + monitorSize * h + 5) 0) cond (getD l 1 0) adr adv → found ≡ true
+      → cond ≡ take n (drop (monitorsAt + monitorSize * h + 7) s) → adr ≡ take 6 (drop 2 l) → adv ≡ take (getD l 8 0) (drop 9 l) → scan ≡ scanText (scanOf l)
+      → found ≡ meets (getD s (monitorsAt + monitorSize * h + 5) 0) cond (getD l 1 0) adr adv scan → found ≡ true
       → r ≡ rowBits (getD s (monitorsAt + monitorSize * h + 1) 0) (getD s (monitorsAt + monitorSize * h + 2) 0) (getD s (monitorsAt + monitorSize * h + 4) 0) (getD l
-      (9 + getD l 8 0) 0)
+      (length l - 1) 0)
       → r ≡ markRow (row monitorSize h (drop monitorsAt s)) (packetOf l)
   unfolding markRow markOf rowBits good windowed strong monitorIn packetOf
-  mark-matched n u c ec ea ed f e b =
+  mark-matched n u c ec ea ed es f e b =
       b ∙ rw (← row-field s h 1 (omega arith), ← row-field s h 2 (omega arith), ← row-field s h 4 (omega arith)) refl
-      ∙ sym (pick-true _ 0 (used u) ∙ pick-true _ 0 (sym (match-asked n c ec ea ed f) ∙ e))
+      ∙ sym (pick-true _ 0 (used u) ∙ pick-true _ 0 (sym (match-asked n c ec ea ed es f) ∙ e))

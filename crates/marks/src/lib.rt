@@ -7,7 +7,7 @@ ghost use lib.ListN.{length, drop};
 ghost use Rattle.laws.specs.Rows.{row};
 ghost use Rattle.model.specs.Frames.{packetOf};
 ghost use Rattle.marks.specs.Marks.{flag, markRow, marksAt};
-ghost use Rattle.marks.specs.Fields.{Framed, framed, marksFit, marked};
+ghost use Rattle.marks.specs.Fields.{Framed, framed, scanAt, marksFit, marked};
 ghost use Rattle.marks.specs.Monitors.{rowBits};
 ghost use Rattle.model.specs.Layout.{blockSize, monitorSize, monitorsAt, mostMonitors};
 
@@ -34,9 +34,9 @@ fn row_bits(high: u8, low: u8, sampling: u8, rssi: u8) -> u8
     good + 2 * windowed + 4 * strong + 8 * instant
 }
 
-// The octet of a handle: its monitor's row is in use where the interval is not 0.
-fn mark_at(s: &[u8], h: usize, payload: &[u8]) -> u8
-    requires { ⌜ (length (now s) ≡ blockSize) × (h < mostMonitors) × Framed (now payload) ⌝ }
+// The octet of a handle: its monitor's row is in use where the interval is not 0. The scan response begins at index scan.
+fn mark_at(s: &[u8], h: usize, payload: &[u8], scan: usize) -> u8
+    requires { ⌜ (length (now s) ≡ blockSize) × (h < mostMonitors) × Framed (now payload) × (scan ≡ scanAt (now payload)) ⌝ }
     ensures { λ r. ⌜ r ≡ markRow (row monitorSize h (drop monitorsAt (now (s .entry)))) (packetOf (now (payload .entry))) ⌝ }
 {
     let at = State::MONITORS_AT + State::MONITOR_ROW * h;
@@ -46,19 +46,21 @@ fn mark_at(s: &[u8], h: usize, payload: &[u8]) -> u8
     let from = at + State::CONDITION_AT;
     let to = from + octets::at_most(s[at + State::CONDITION_LENGTH_AT], State::CONDITION_ROOM);
     let end = 9 + octets::wide(payload[8]);
+    let last = payload.len() - 1;
     let met = advert::match_packet(
         s[at + State::TYPE_AT],
         &s[from..to],
         payload[1],
         &payload[2..8],
         &payload[9..end],
+        &payload[scan..last],
     );
     if met.found {
         return row_bits(
             s[at + State::HIGH_AT],
             s[at + State::LOW_AT],
             s[at + State::SAMPLING_AT],
-            payload[end],
+            payload[last],
         );
     }
     0
@@ -68,15 +70,31 @@ fn mark_in(acts: &mut [u8], s: &[u8], payload: &[u8])
     requires { ⌜ (length (now acts) ≡ mostMonitors) × (length (now s) ≡ blockSize) × Framed (now payload) ⌝ }
     ensures { λ _. ⌜ now (acts .exit) ≡ marksAt (now (s .entry)) (packetOf (now (payload .entry))) ⌝ }
 {
+    let scan = scan_at(payload);
     let mut h = 0;
     while h < State::MONITORS {
-        acts[h] = mark_at(s, h, payload);
+        acts[h] = mark_at(s, h, payload, scan);
         h += 1;
     }
 }
 
+// Where the scan response of a packet frame's payload begins. A payload of kind 02 has none: there the RSSI stands.
+pub fn scan_at(payload: &[u8]) -> usize
+    ensures { λ r. ⌜ r ≡ scanAt (now (payload .entry)) ⌝ }
+{
+    let n = payload.len();
+    if n < 9 {
+        return 9;
+    }
+    let d = octets::wide(payload[8]);
+    if n <= 10 + d {
+        return 9 + d;
+    }
+    10 + d
+}
+
 // Whether octets are those of a packet frame by their lengths: event type, address type, address (6), data length n of at most 31,
-// n octets, RSSI.
+// n octets, then with kind 04 the scan response's length of at most 31 and so many octets, RSSI.
 fn is_framed(payload: &[u8]) -> bool
     ensures { λ r. ⌜ r ≡ framed (now (payload .entry)) ⌝ }
 {
@@ -85,7 +103,17 @@ fn is_framed(payload: &[u8]) -> bool
         return false;
     }
     let d = octets::wide(payload[8]);
-    (d <= State::DATA) & (n == 10 + d)
+    if State::DATA < d {
+        return false;
+    }
+    if n == 10 + d {
+        return true;
+    }
+    if n < 10 + d {
+        return false;
+    }
+    let k = octets::wide(payload[9 + d]);
+    (k <= State::DATA) & (n == 11 + d + k)
 }
 
 // The octets of the handles 0 to 15, from the block s and a packet frame's payload. Where acts is not of 16 octets, s no block of

@@ -1,6 +1,7 @@
 -- The octets of every answer, event and report. Document 01, Commands and Watching, by history (Event, Report).
 use Prim.Native.Nat.{ℕ, _+_}
 use mathlib.Core.List.{List, [], _∷_, _++_}
+use mathlib.Core.Option.{Option, none, some}
 use lib.ListN.{length}
 use Rattle.octets.specs.Little.{octetsOf}
 use Rattle.model.specs.Types.{Model, Packet, Pair}
@@ -29,6 +30,15 @@ report event kind address adv rssi =
 -- "one report with the packet's RSSI"
 unfoldable pub packetReport : Packet → List ℕ
 packetReport p = report (p .event) (p .kind) (p .address) (p .adv) (p .rssi)
+
+-- document 02, T-06: "a second report of event type 4 with the scan response follows", empty or not, with the packet's RSSI
+unfoldable pub scanReport : Packet → Option (List ℕ) → List ℕ
+scanReport p none = []
+scanReport p (some l) = report 4 (p .kind) (p .address) l (p .rssi)
+
+-- what is written where a packet is reported at once
+unfoldable pub packetReports : Packet → List ℕ
+packetReports p = packetReport p ++ scanReport p (p .scan)
 
 -- "one report: the latest of them, with RSSI the greatest whole number not above sum / count"
 unfoldable pub windowReport : Pair → List ℕ

@@ -161,7 +161,7 @@ lineRow = monitorSize + 1
 abbrev pub bodySize : ℕ
 bodySize = blockSize - headSize
 
--- the longest event, report, return parameters and Command Complete; a packet's start events and report; the parameters of 03
+-- the longest event, report, return parameters and Command Complete; a packet's start events, and with both reports; the parameters of 03
 abbrev pub eventMost : ℕ
 eventMost = 12 + mostPrefix
 
@@ -175,10 +175,10 @@ abbrev pub commandMost : ℕ
 commandMost = 5 + returnMost
 
 abbrev pub startsMost : ℕ
-startsMost = eventMost * mostPairs
+startsMost = eventMost * mostMonitors
 
 abbrev pub packetMost : ℕ
-packetMost = startsMost + reportMost
+packetMost = startsMost + 2 * reportMost
 
 abbrev pub paramsMost : ℕ
 paramsMost = 6 + mostCondition

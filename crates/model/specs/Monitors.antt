@@ -7,7 +7,7 @@ use lib.Dec.{leb, ltb, eqb}
 use lib.ListN.{length, drop, getD}
 use Rattle.laws.specs.Tests.{pick}
 use Rattle.advert.specs.Condition.{meets, formOf, formStatus}
-use Rattle.model.specs.Types.{Monitor, Packet, ticksOf}
+use Rattle.model.specs.Types.{Monitor, Packet, scanText, ticksOf}
 use Rattle.model.specs.Level.{level, inRange}
 use Rattle.model.specs.Layout.{mostCondition}
 
@@ -54,7 +54,7 @@ monitorOf l =
 
 -- Conditions: the packet matches the monitor's condition
 unfoldable pub matches : Monitor → Packet → Bool
-matches m p = meets (m .kind) (m .condition) (p .kind) (p .address) (p .adv)
+matches m p = meets (m .kind) (m .condition) (p .kind) (p .address) (p .adv) (scanText (p .scan))
 
 -- "A packet is good if its RSSI is above low." T-01: "While under watch, a packet at the shared value is low." A start packet is good
 -- whatever `low` is: a pair starts with no ticks since a good packet (Watch, `startPair`).

@@ -2,6 +2,7 @@
 -- Document 01: Sizes of the gateway, Lines, The image. Octets are kept as sent; RSSI is compared by its level (Level).
 use Prim.Native.Nat.{ℕ, _+_, _*_}
 use mathlib.Core.List.{List, [], _∷_}
+use mathlib.Core.Option.{Option, none, some}
 
 -- "Seconds of the low interval and ticks of 100 ms are two units; 1 second is 10 ticks."
 unfoldable pub ticksOf : ℕ → ℕ
@@ -17,12 +18,14 @@ pub record Monitor : Type 0 where
   pub kind : ℕ
   pub condition : List ℕ
 
--- Lines, 02: an advertisement. `kind` is the address type, `adv` the data.
+-- Lines, 02: an advertisement. `kind` is the address type, `adv` the data; `scan` is the scan response of a packet of kind 04 (document
+-- 02, T-06), which may be empty.
 pub record Packet : Type 0 where
   pub event : ℕ
   pub kind : ℕ
   pub address : List ℕ
   pub adv : List ℕ
+  pub scan : Option (List ℕ)
   pub rssi : ℕ
 
 -- The image, A2: a pair of a monitor (its handle) and a device (address type `kind` and address) under watch. `silent` are
@@ -57,6 +60,11 @@ deviceOf p = device (p .kind) (p .address)
 
 unfoldable pub watched : Pair → List ℕ
 watched q = device (q .kind) (q .address)
+
+-- a packet's scan response as a text: empty where it has none
+unfoldable pub scanText : Option (List ℕ) → List ℕ
+scanText none = []
+scanText (some l) = l
 
 -- The state with other monitors and pairs, with another filter, one frame further.
 unfoldable pub withLists : Model → List (ℕ × Monitor) → List Pair → Model

@@ -12,7 +12,7 @@ use Rattle.rule.specs.Base.{each as moveEach}
 use Rattle.model.specs.Types.{Model, Monitor, Packet, Pair, deviceOf, watched, withLists}
 use Rattle.model.specs.Level.{addRssi}
 use Rattle.model.specs.Monitors.{matches, good, strong, runOf, windowed}
-use Rattle.model.specs.Events.{startEvent, stopEvent, packetReport, windowReport}
+use Rattle.model.specs.Events.{startEvent, stopEvent, packetReports, windowReport}
 use Rattle.model.specs.Layout.{mostMonitors, mostPairs}
 
 -- A pair with other ticks since a good packet, with one packet more in its window, with another number of ticks in its window,
@@ -143,9 +143,9 @@ unfoldable pub reported : Model → Packet → Bool
 reported m p =
     eqb (m .filter) 0 || (someOf (wants (packetPairs m p) p) (m .mons) || leb 1 (length (startsOf m p)))
 
--- "Packet, handles ascending: a start event for each start. Then one report with the packet's RSSI"
+-- "Packet, handles ascending: a start event for each start. Then one report with the packet's RSSI"; with kind 04 a second one
 unfoldable pub packetAnswer : Model → Packet → List ℕ
-packetAnswer m p = each (startEvent (m .prefix)) (startsOf m p) ++ when (reported m p) (packetReport p)
+packetAnswer m p = each (startEvent (m .prefix)) (startsOf m p) ++ when (reported m p) (packetReports p)
 
 -- the watch goes on over one tick more: "The tick that completes such a run ends the watch. Silence counts as low (H)."
 unfoldable pub goesOn : Monitor → Pair → Bool

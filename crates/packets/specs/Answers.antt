@@ -1,11 +1,12 @@
--- What a packet writes: a start event for each pair behind those that were held, then one report. Document 01,
+-- What a packet writes: a start event for each pair behind those that were held, then its reports. Document 01,
 -- Watching, by history (Event, Report). Assumes nothing.
 use Prim.Native.Nat.{ℕ, _+_, _-_, _*_, _≤_, _<_}
 use mathlib.Core.Path.{_≡_, refl, sym, ap, _∙_}
 use mathlib.Core.Bool.{Bool, true, false}
 use mathlib.Core.List.{List, _∷_, _++_}
+use mathlib.Core.Option.{none, some}
 use native.Mathlib.Omega.{arith}
-use lib.ListN.{length, take, drop, getD, length-append, length-drop}
+use lib.ListN.{length, take, drop, getD, length-append, length-take, length-drop}
 use lib.Seq.{take-take, drop-cons, getD-drop, take-all, length-take-le}
 use borrow.Author.Tests.{le-leb, eq-eqb}
 use Rattle.laws.specs.Tests.{pick, and-both}
@@ -13,14 +14,14 @@ use Rattle.laws.specs.Loops.{each, each-take, when, when-true, when-false}
 use Rattle.laws.specs.Put.{put, putIf, put-nil, put-then}
 use Rattle.model.specs.Types.{Model, Pair}
 use Rattle.steps.specs.Stepped.{rest-put}
-use Rattle.model.specs.Frames.{packetOf}
-use Rattle.model.specs.Events.{startEvent, packetReport, event, report}
+use Rattle.model.specs.Frames.{packetOf, scanOf}
+use Rattle.model.specs.Events.{startEvent, packetReport, scanReport, packetReports, event, report}
 use Rattle.model.specs.Block.{padded}
 use Rattle.blocks.specs.Bounds.{Fits}
 use Rattle.blocks.specs.Block.{row-pairs, read-count, read-prefix}
 use Rattle.events.specs.Octets.{eventOctets, reportOctets, eventFits, reportFits, length-event, length-report}
 use Rattle.events.specs.Octets.{event-opens, event-pair, report-device}
-use Rattle.marks.specs.Fields.{Clamped, Framed}
+use Rattle.marks.specs.Fields.{Clamped, Framed, scanAt, scan-at-some}
 use Rattle.packets.specs.Writes.{part-row}
 use Rattle.packets.specs.Moves.{noPair, pairAt, AtPair, pair-fits}
 use Rattle.packets.specs.Starts.{Holding}
@@ -153,46 +154,86 @@ module _ (m : Model) (s : List ℕ) (from count : ℕ) (w : Holding m s (from + 
         count = x .count ∙ ap (λ (l : List Pair). length (each (startEvent (m .prefix)) l)) e;
       }
 
--- the report of a packet
-pub report-wrote : (out : List ℕ) (at : ℕ) (l : List ℕ) {o dev adv : List ℕ} {r : ℕ} → Framed l → at + reportMost ≤ length out
-    → dev ≡ take 7 (drop 1 l) → adv ≡ take (getD l 8 0) (drop 9 l)
-    → (r ≡ pick (reportFits (length out) at (getD l 0 0) dev adv (getD l (9 + getD l 8 0) 0))
-    (length (reportOctets (getD l 0 0) dev adv (getD l (9 + getD l 8 0) 0))) 0)
-    × (o ≡ putIf (reportFits (length out) at (getD l 0 0) dev adv (getD l (9 + getD l 8 0) 0)) out at
-    (reportOctets (getD l 0 0) dev adv (getD l (9 + getD l 8 0) 0)))
-    → Wrote out at (packetReport (packetOf l)) o r
-unfolding reportFits packetReport packetOf
-report-wrote out at l {o} {dev} {adv} {r} f h ed ea x =
-    let n : ℕ = getD l 8 0 in
-    let e : ℕ = getD l 0 0 in
-    let s : ℕ = getD l (9 + n) 0 in
+-- a report of a packet's device, with the packet's RSSI
+report-wrote : (out : List ℕ) (at : ℕ) (l : List ℕ) (e : ℕ) (dev adv : List ℕ) {o : List ℕ} {r : ℕ} → 10 ≤ length l
+    → length adv ≤ mostData → at + reportMost ≤ length out → dev ≡ take 7 (drop 1 l)
+    → (r ≡ pick (reportFits (length out) at e dev adv (getD l (length l - 1) 0)) (length (reportOctets e dev adv (getD l (length l - 1) 0))) 0)
+    × (o ≡ putIf (reportFits (length out) at e dev adv (getD l (length l - 1) 0)) out at (reportOctets e dev adv (getD l (length l - 1) 0)))
+    → (r ≤ reportMost) × Wrote out at (report e (getD l 1 0) (take 6 (drop 2 l)) adv (getD l (length l - 1) 0)) o r
+unfolding reportFits
+report-wrote out at l e dev adv {o} {r} f j h ed x =
+    let s : ℕ = getD l (length l - 1) 0 in
     let d1 : length (drop 1 l) ≡ length l - 1 = length-drop 1 l in
-    let d9 : length (drop 9 l) ≡ length l - 9 = length-drop 9 l in
     let k : length dev ≡ 7 = ap (λ (y : List ℕ). length y) ed ∙ length-take-le 7 (drop 1 l) (omega arith) in
-    let j : length adv ≡ n = ap (λ (y : List ℕ). length y) ea ∙ length-take-le n (drop 9 l) (omega arith) in
     let g : dev ≡ getD l 1 0 ∷ take 6 (drop 2 l) = ed ∙ ap (λ (y : List ℕ). take 7 y) (drop-cons l 1 0 (omega arith)) in
     let u : length (reportOctets e dev adv s) ≡ 14 + length adv = length-report e dev adv s k in
-    let v : reportOctets e dev adv s ≡ report e (getD l 1 0) (take 6 (drop 2 l)) (take n (drop 9 l)) s =
-    ap (λ (y : List ℕ). reportOctets e y adv s) g ∙ ap (λ (y : List ℕ). reportOctets e (getD l 1 0 ∷ take 6
-    (drop 2 l)) y s) ea
-    ∙ report-device e (getD l 1 0) (take 6 (drop 2 l)) (take n (drop 9 l)) s in
+    let v : reportOctets e dev adv s ≡ report e (getD l 1 0) (take 6 (drop 2 l)) adv s =
+    ap (λ (y : List ℕ). reportOctets e y adv s) g ∙ report-device e (getD l 1 0) (take 6 (drop 2 l)) adv s in
     let z : Wrote out at (reportOctets e dev adv s) o r =
     fits-wrote (reportFits (length out) at e dev adv s) out at (reportOctets e dev adv s)
-    (and-both (eq-eqb (length dev) 7 k) (and-both (le-leb (length adv) mostData (omega arith))
-    (le-leb (at + length (reportOctets e dev adv s)) (length out) (omega arith)))) x in
-    record { octets = z .octets ∙ ap (put out at) v; count = z .count ∙ ap (λ (y : List ℕ). length y) v }
+    (and-both (eq-eqb (length dev) 7 k) (and-both (le-leb (length adv) mostData j)
+    (le-leb (at + length (reportOctets e dev adv s)) (length out) (omega arith)))) x in (
+      omega (arith, z .count),
+      record { octets = z .octets ∙ ap (put out at) v; count = z .count ∙ ap (λ (y : List ℕ). length y) v },
+    )
 
--- a report's length
-pub report-most : (out : List ℕ) (at event : ℕ) (dev adv : List ℕ) (rssi : ℕ) {r : ℕ} → length dev ≡ 7 → length adv ≤ mostData
-    → r ≡ pick (reportFits (length out) at event dev adv rssi) (length (reportOctets event dev adv rssi)) 0 → r ≤ reportMost
-unfolding pick
-report-most out at event dev adv rssi {r} h b e = go (reportFits (length out) at event dev adv rssi) e
-  where
-    go : (t : Bool) → r ≡ pick t (length (reportOctets event dev adv rssi)) 0 → r ≤ reportMost
-    go true e = omega (arith, length-report event dev adv rssi h)
-    go false e = omega arith
+-- the report of the advertisement
+pub adv-wrote : (out : List ℕ) (at : ℕ) (l : List ℕ) {d : ℕ} {o : List ℕ} {r : ℕ} → Framed l → at + reportMost ≤ length out
+    → d ≡ getD l 8 0
+    → (r ≡ pick (reportFits (length out) at (getD l 0 0) (take 7 (drop 1 l)) (take (9 + d - 9) (drop 9 l)) (getD l (length l - 1) 0))
+    (length (reportOctets (getD l 0 0) (take 7 (drop 1 l)) (take (9 + d - 9) (drop 9 l)) (getD l (length l - 1) 0))) 0)
+    × (o ≡ putIf (reportFits (length out) at (getD l 0 0) (take 7 (drop 1 l)) (take (9 + d - 9) (drop 9 l)) (getD l (length l - 1) 0)) out at
+    (reportOctets (getD l 0 0) (take 7 (drop 1 l)) (take (9 + d - 9) (drop 9 l)) (getD l (length l - 1) 0)))
+    → (r ≤ reportMost) × Wrote out at (packetReport (packetOf l)) o r
+unfolding packetReport packetOf
+adv-wrote out at l {d} {o} {r} f h e x =
+    let n : 9 + d - 9 ≡ getD l 8 0 = omega arith in
+    let k : length (take (9 + d - 9) (drop 9 l)) ≤ mostData = simp (length-take, length-drop) (omega arith) in
+    let w = report-wrote out at l (getD l 0 0) (take 7 (drop 1 l)) (take (9 + d - 9) (drop 9 l)) {o = o} {r = r} (omega arith) k h refl x in
+    (w .0, rw n at (w .1))
 
--- the report, or nothing
+-- the report of the scan response, or nothing
+module _ (out : List ℕ) (at : ℕ) (l : List ℕ) (f : Framed l) {d : ℕ} (e : d ≡ getD l 8 0) where
+  pub scan-unwritten : length l ≤ 10 + d → (0 ≤ reportMost) × Wrote out at (scanReport (packetOf l) (packetOf l .scan)) out 0
+  unfolding scanReport packetOf
+  scan-unwritten b =
+      let q : scanOf l ≡ none = f .2 .without (omega arith) in
+      (omega arith, rw q (record { octets = sym (put-nil out at); count = refl }))
+
+  pub scan-wrote : {o : List ℕ} {r : ℕ} → 10 + d < length l → at + reportMost ≤ length out
+      → (r ≡ pick (reportFits (length out) at 4 (take 7 (drop 1 l)) (take (length l - 1 - (10 + d)) (drop (10 + d) l)) (getD l (length l - 1) 0))
+      (length (reportOctets 4 (take 7 (drop 1 l)) (take (length l - 1 - (10 + d)) (drop (10 + d) l)) (getD l (length l - 1) 0))) 0)
+      × (o ≡ putIf (reportFits (length out) at 4 (take 7 (drop 1 l)) (take (length l - 1 - (10 + d)) (drop (10 + d) l)) (getD l (length l - 1) 0))
+      out at (reportOctets 4 (take 7 (drop 1 l)) (take (length l - 1 - (10 + d)) (drop (10 + d) l)) (getD l (length l - 1) 0)))
+      → (r ≤ reportMost) × Wrote out at (scanReport (packetOf l) (packetOf l .scan)) o r
+  unfolding scanReport packetOf
+  scan-wrote {o} {r} b h x =
+      let s : scanAt l ≡ 10 + getD l 8 0 = scan-at-some l (omega arith) in
+      let s2 : scanAt l ≡ 10 + d = omega arith in
+      let m : length l ≤ scanAt l + 1 + mostData = f .2 .most in
+      let k : length (take (length l - 1 - (10 + d)) (drop (10 + d) l)) ≤ mostData = simp (length-take, length-drop) (omega arith) in
+      let q : scanOf l ≡ some (take (length l - 1 - (10 + d)) (drop (10 + d) l)) =
+      f .2 .within (omega arith) ∙ ap (λ (j : ℕ). some (take (length l - 1 - j) (drop j l))) s2 in
+      let w = report-wrote out at l 4 (take 7 (drop 1 l)) (take (length l - 1 - (10 + d)) (drop (10 + d) l)) {o = o} {r = r} (omega arith) k h refl x in
+      (w .0, rw q (w .1))
+
+-- one after the other
+pub reports-wrote : (out : List ℕ) (at : ℕ) (l : List ℕ) {o v : List ℕ} {r k : ℕ} → at + 2 * reportMost ≤ length out
+    → (r ≤ reportMost) × Wrote out at (packetReport (packetOf l)) o r
+    → (k ≤ reportMost) × Wrote o (at + r) (scanReport (packetOf l) (packetOf l .scan)) v k
+    → (r + k ≤ 2 * reportMost) × Wrote out at (packetReports (packetOf l)) v (r + k)
+unfolding packetReports
+reports-wrote out at l {o} {v} {r} {k} h x y =
+    let a : List ℕ = packetReport (packetOf l) in
+    let c : List ℕ = scanReport (packetOf l) (packetOf l .scan) in (
+      omega (arith, x .0, y .0),
+      record {
+        octets = put-then out at a (at + r) c (omega (arith, x .0, x .1 .count)) (x .1 .octets) (ap (λ (j : ℕ). at + j) (x .1 .count)) (y .1 .octets) refl;
+        count = ap (λ (j : ℕ). j + k) (x .1 .count) ∙ ap (λ (j : ℕ). length a + j) (y .1 .count) ∙ sym (length-append a c);
+      },
+    )
+
+-- the reports, or nothing
 pub told-wrote : (out : List ℕ) (at : ℕ) (ys : List ℕ) {t : Bool} {o : List ℕ} {r : ℕ} → t ≡ true → Wrote out at ys o r
     → Wrote out at (when t ys) o r
 told-wrote out at ys e w =

@@ -14,9 +14,8 @@ use Rattle.laws.specs.Loops.{every, each, when}
 use Rattle.laws.specs.Put.{put, put-then}
 use Rattle.octets.specs.Little.{little, octetsOf, isOctet, octets-mod}
 use Rattle.model.specs.Types.{Model, Packet, Pair, withLists}
-use Rattle.model.specs.Level.{inRange}
-use Rattle.model.specs.Frames.{packet, isPacket, packetOf}
-use Rattle.model.specs.Events.{startEvent, packetReport}
+use Rattle.model.specs.Frames.{packet, hasPacket, packetOf}
+use Rattle.model.specs.Events.{startEvent, packetReports}
 use Rattle.model.specs.Watch.{packetMove, turns, packetPairs, startsOf, reported, packetAnswer}
 use Rattle.model.specs.Step.{stepTyped, answerTyped}
 use Rattle.model.specs.Sound.{soundPair, soundModel}
@@ -25,7 +24,6 @@ use Rattle.blocks.specs.Facts.{SoundModel, SoundPair, sound-facts, pair-facts}
 use Rattle.blocks.specs.Bounds.{Window, window-facts}
 use Rattle.blocks.specs.Block.{Measured, sound-measured, getD-count, read-filter, padded-length, length-padded}
 use Rattle.blocks.specs.Updates.{advanced-moved}
-use Rattle.steps.specs.Facts.{and-five}
 use Rattle.steps.specs.Starts.{starts-behind}
 use Rattle.steps.specs.Typed.{packet-sent}
 use Rattle.steps.specs.Stepped.{Stepped, Within, rest-put, rest-further}
@@ -35,7 +33,7 @@ use Rattle.packets.specs.Held.{Given, Roomy}
 use Rattle.packets.specs.Starts.{Holding, Turned, turns-measured}
 use Rattle.packets.specs.Reports.{anyFrom, wantsAt, reported-off, reported-start, reported-wants}
 use Rattle.packets.specs.Answers.{Wrote}
-use Rattle.marks.specs.Fields.{Clamped, Framed}
+use Rattle.marks.specs.Fields.{Clamped, Framed, packet-framed}
 use Rattle.model.specs.Layout.{blockSize, countAt, filterAt, mostData, mostMonitors, mostPairs, positionAt}
 
 -- a packet frame of octets
@@ -43,15 +41,6 @@ pub octets-known : (l : List ℕ) → ((i : ℕ) → getD l i 0 < 256) → every
 unfolding every
 octets-known [] f = refl
 octets-known (x ∷ l) f = and-both (lt-ltb x 256 (f 0)) (octets-known l (λ i. f (suc i)))
-
-pub packet-framed : (l : List ℕ) → isPacket l ≡ true → Framed l
-unfolding isPacket
-packet-framed l e =
-    let n : ℕ = getD l 8 0 in
-    let r =
-    and-five (leb (getD l 0 0) 3) (leb (getD l 1 0) 1) (leb n mostData) (eqb (length l) (10 + n)) (inRange (getD l
-    (9 + n) 0)) e in
-    (eqb-true (length l) (10 + n) (r .3), leb-true n mostData (r .2))
 
 -- no window of a sound state is full before the last number
 roomy-all : (m : Model) → m .position < 4294967295 → (qs : List Pair) → every (soundPair m) qs ≡ true → Roomy qs
@@ -73,7 +62,7 @@ pub record Begun (m : Model) (s l acts : List ℕ) (dev n : ℕ) : Type 0 where
   pub count : n ≡ length (m .pairs)
 
 pub begun : (m : Model) (s l acts : List ℕ) (dev n : ℕ) → soundModel m ≡ true → s ≡ padded m → m .position < 4294967295
-    → ((i : ℕ) → getD l i 0 < 256) → isPacket l ≡ true → acts ≡ marksAt s (packetOf l) → dev ≡ little 8 l 0 / 256
+    → ((i : ℕ) → getD l i 0 < 256) → hasPacket l ≡ true → acts ≡ marksAt s (packetOf l) → dev ≡ little 8 l 0 / 256
     → Clamped (getD s countAt 0) mostPairs n → Begun m s l acts dev n
 begun m s l acts dev n e b h o k a d c =
     let f : SoundModel m = sound-facts m e in
@@ -175,7 +164,7 @@ module _ (m : Model) (s l acts : List ℕ) (dev n : ℕ) (b : Begun m s l acts d
       → Holding (afterStarts m (packetOf l)) t k
       → told ≡ reported m (packetOf l)
       → Wrote out 0 (each (startEvent (m .prefix)) (drop n (packetPairs m (packetOf l)))) o w
-      → Wrote o w (when told (packetReport (packetOf l))) v r
+      → Wrote o w (when told (packetReports (packetOf l))) v r
       → u ≡ advanced t
       → Stepped m (packet (packetOf l)) u out v (w + r)
   unfolding stepTyped answerTyped packetAnswer afterStarts withLists
@@ -183,11 +172,11 @@ module _ (m : Model) (s l acts : List ℕ) (dev n : ℕ) (b : Begun m s l acts d
       let p : Packet = packetOf l in
       let g : Model = withLists m (m .mons) (packetPairs m p) in
       let a : List ℕ = each (startEvent (m .prefix)) (drop n (packetPairs m p)) in
-      let c : List ℕ = when told (packetReport p) in
-      let ans : a ++ c ≡ each (startEvent (m .prefix)) (startsOf m p) ++ when (reported m p) (packetReport p) =
+      let c : List ℕ = when told (packetReports p) in
+      let ans : a ++ c ≡ each (startEvent (m .prefix)) (startsOf m p) ++ when (reported m p) (packetReports p) =
       ap (λ (j : ℕ). each (startEvent (m .prefix)) (drop j (packetPairs m p)) ++ c) (b .count)
       ∙ ap (λ (x : List Pair). each (startEvent (m .prefix)) x ++ c) (starts-behind m p)
-      ∙ ap (λ (j : Bool). each (startEvent (m .prefix)) (startsOf m p) ++ when j (packetReport p)) e in
+      ∙ ap (λ (j : Bool). each (startEvent (m .prefix)) (startsOf m p) ++ when j (packetReports p)) e in
       let n : length t ≡ blockSize = ap length (h .block) ∙ length-padded g (h .measured) in
       record {
         block = q ∙ advanced-moved g t (h .block) (omega arith) (omega (arith, b .below));

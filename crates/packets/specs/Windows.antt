@@ -27,7 +27,7 @@ takenBy p s at = windowOf (little 4 s at + 1) (addRssi (little 8 s (at + 4)) (p 
 pub window-written : (s l : List ℕ) (at n : ℕ) {count sum x y u : ℕ} {a b c d adv : List ℕ}
     → at + windowSize ≤ length s → Framed l → n ≡ getD l 8 0
     → count ≡ little 4 s at → sum ≡ little 8 s (at + 4)
-    → x ≡ (count + 1) % 2 ^ 32 → u ≡ extended (getD l (9 + n) 0) → y ≡ (sum + u) % 2 ^ 64
+    → x ≡ (count + 1) % 2 ^ 32 → u ≡ extended (getD l (length l - 1) 0) → y ≡ (sum + u) % 2 ^ 64
     → a ≡ put s at (octetsOf 4 x) → b ≡ put a (at + 4) (octetsOf 8 y)
     → adv ≡ take (getD l 8 0) (drop 9 l)
     → c ≡ put (set (set b (at + 12) (getD l 0 0)) (at + 13) (getD l 8 0)) (at + 14) adv
@@ -36,7 +36,7 @@ pub window-written : (s l : List ℕ) (at n : ℕ) {count sum x y u : ℕ} {a b 
 unfolding takenBy packetOf addRssi
 window-written s l at n {count} {sum} {x} {y} {u} {a} {b} {c} {d} {adv} h f en ec es ex eu ey ea eb ed e1 e2 =
     let c0 : ℕ = little 4 s at + 1 in
-    let s0 : ℕ = (little 8 s (at + 4) + extended (getD l (9 + getD l 8 0) 0)) % 18446744073709551616 in
+    let s0 : ℕ = (little 8 s (at + 4) + extended (getD l (length l - 1) 0)) % 18446744073709551616 in
     let xs : List ℕ = octetsOf 4 c0 in
     let ys : List ℕ = octetsOf 8 s0 in
     let k9 : length (drop 9 l) ≡ length l - 9 = length-drop 9 l in
@@ -48,8 +48,8 @@ window-written s l at n {count} {sum} {x} {y} {u} {a} {b} {c} {d} {adv} h f en e
     let ox : octetsOf 4 x ≡ xs =
     ap (octetsOf 4) (ex ∙ ap (λ (z : ℕ). (z + 1) % 4294967296) ec) ∙ octets-mod 4 c0 in
     let oy : y ≡ s0 =
-    ey ∙ ap (λ (z : ℕ). (sum + z) % 18446744073709551616) (eu ∙ ap (λ (z : ℕ). extended (getD l (9 + z) 0)) en)
-    ∙ ap (λ (z : ℕ). (z + extended (getD l (9 + getD l 8 0) 0)) % 18446744073709551616) es in
+    ey ∙ ap (λ (z : ℕ). (sum + z) % 18446744073709551616) eu
+    ∙ ap (λ (z : ℕ). (z + extended (getD l (length l - 1) 0)) % 18446744073709551616) es in
     let w1 : a ≡ put s at xs = ea ∙ ap (put s at) ox in
     let w2 : b ≡ put s at (xs ++ ys) =
     put-then s at xs (at + 4) ys (omega arith) w1 (omega arith) (eb

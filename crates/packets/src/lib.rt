@@ -1,6 +1,8 @@
 // A packet: what it does to the pairs held, the watches that it starts, and what it writes (document 01, Watching, by history). The
 // crate marks asks the monitors, and keeps what each says of the packet as one octet a handle. Then the rows of the pairs held are
 // changed in place, the starts appended behind them, and the answer written.
+mod reports;
+
 use state::State;
 ghost use Prim.Native.Nat.{ℕ, _+_, _*_, _/_, _≤_, _<_};
 ghost use mathlib.Core.Path.{_≡_};
@@ -8,15 +10,15 @@ ghost use mathlib.Core.Bool.{Bool, true, false, _&&_};
 ghost use mathlib.Core.List.{List, [], _∷_};
 ghost use lib.ListN.{length, drop, getD};
 ghost use Rattle.laws.specs.Put.{put};
-ghost use Rattle.laws.specs.Loops.{each, when};
+ghost use Rattle.laws.specs.Loops.{each};
 ghost use Rattle.octets.specs.Little.{little, octetsOf};
 ghost use Rattle.model.specs.Level.{extended};
 ghost use Rattle.model.specs.Types.{Model, Packet, deviceOf};
 ghost use Rattle.sessions.specs.Machine.{lastNumber, answerRoom};
-ghost use Rattle.model.specs.Frames.{isPacket, packetOf, packet as packetFrame};
+ghost use Rattle.model.specs.Frames.{hasPacket, packetOf, packet as packetFrame};
 ghost use Rattle.model.specs.Sound.{soundModel};
 ghost use Rattle.model.specs.Watch.{packetMove, holds, turns, reported};
-ghost use Rattle.model.specs.Events.{startEvent, packetReport};
+ghost use Rattle.model.specs.Events.{startEvent};
 ghost use Rattle.model.specs.Block.{padded};
 ghost use Rattle.steps.specs.Typed.{Sent};
 ghost use Rattle.steps.specs.Stepped.{Steps, Within, Taken};
@@ -31,7 +33,7 @@ ghost use Rattle.packets.specs.Starts.{Holding, Sought, Turned, after};
 ghost use Rattle.packets.specs.Whole.{Begun, afterMoves, afterStarts};
 ghost use Rattle.packets.specs.Reports.{anyFrom, wantsAt};
 ghost use Rattle.packets.specs.Answers.{Wrote};
-ghost use Rattle.model.specs.Layout.{eventMost, packetMost, reportMost, startsMost};
+ghost use Rattle.model.specs.Layout.{eventMost, packetMost, startsMost};
 ghost use Rattle.model.specs.Layout.{blockSize, countAt, mostMonitors, mostPairs, pairSize, pairsAt, positionAt, windowSize};
 
 // An RSSI octet as a number of 8 octets in two's complement.
@@ -52,13 +54,14 @@ fn gather_at(s: &mut [u8], at: usize, payload: &[u8])
 {
     let n = octets::wide(payload[8]);
     let end = 9 + n;
+    let last = payload.len() - 1;
     let count = octets::get32(s, at);
     let sum = octets::get64(s, at + 4);
     octets::put32(s, at, std::num::wrapping_add_u32(count, 1));
     octets::put64(
         s,
         at + 4,
-        std::num::wrapping_add_u64(sum, extend(payload[end])),
+        std::num::wrapping_add_u64(sum, extend(payload[last])),
     );
     s[at + 12] = payload[0];
     s[at + 13] = payload[8];
@@ -156,7 +159,7 @@ fn push_row(s: &mut [u8], n: usize, key: u64)
 // One handle's turn: a start takes its room at once. Answers the number of pairs held.
 fn start_at(s: &mut [u8], n: usize, h: usize, a: u8, dev: u64) -> usize
     requires { ⌜ (length (now s) ≡ blockSize) × (n ≤ mostPairs) × (h < mostMonitors) × (dev < 72057594037927936) ⌝ }
-    ensures { λ r. ⌜ (n ≤ r) × (r ≤ mostPairs) × ((m : Model) (p : Packet) → Holding m (now (s .entry)) n → Sent p → dev ≡ deviceNumber p → Turned m (after a h p (m .pairs)) (now (s .exit)) r) ⌝ }
+    ensures { λ r. ⌜ (n ≤ r) × (r ≤ mostPairs) × (r ≤ n + 1) × ((m : Model) (p : Packet) → Holding m (now (s .entry)) n → Sent p → dev ≡ deviceNumber p → Turned m (after a h p (m .pairs)) (now (s .exit)) r) ⌝ }
 {
     if a / 4 % 2 != 1 {
         return n;
@@ -175,7 +178,7 @@ fn start_at(s: &mut [u8], n: usize, h: usize, a: u8, dev: u64) -> usize
 // The turns of the handles 0 to 15.
 fn start_all(s: &mut [u8], n: usize, acts: &[u8], dev: u64) -> usize
     requires { ⌜ (length (now s) ≡ blockSize) × (n ≤ mostPairs) × (length (now acts) ≡ mostMonitors) × (dev < 72057594037927936) ⌝ }
-    ensures { λ r. ⌜ (n ≤ r) × (r ≤ mostPairs) × ((m : Model) (p : Packet) → Holding m (now (s .entry)) n → Given (m .mons) p (now (acts .entry)) dev → Turned m (turns (m .mons) p mostMonitors (m .pairs)) (now (s .exit)) r) ⌝ }
+    ensures { λ r. ⌜ (n ≤ r) × (r ≤ mostPairs) × (r ≤ n + mostMonitors) × ((m : Model) (p : Packet) → Holding m (now (s .entry)) n → Given (m .mons) p (now (acts .entry)) dev → Turned m (turns (m .mons) p mostMonitors (m .pairs)) (now (s .exit)) r) ⌝ }
 {
     let mut k = n;
     let mut h = 0;
@@ -238,7 +241,7 @@ fn put_start(s: &[u8], i: usize, out: &mut [u8], at: usize) -> usize
 
 // The start events of the pairs from an index on.
 fn put_starts(s: &[u8], from: usize, count: usize, out: &mut [u8]) -> usize
-    requires { ⌜ (length (now s) ≡ blockSize) × (from + count ≤ mostPairs) × (answerRoom ≤ length (now out)) ⌝ }
+    requires { ⌜ (length (now s) ≡ blockSize) × (from + count ≤ mostPairs) × (answerRoom ≤ length (now out)) × (count ≤ mostMonitors) ⌝ }
     ensures { λ r. ⌜ (r ≤ startsMost) × (drop r (now (out .exit)) ≡ drop r (now (out .entry))) × ((m : Model) → Holding m (now (s .entry)) (from + count) → Wrote (now (out .entry)) 0 (each (startEvent (m .prefix)) (drop from (m .pairs))) (now (out .exit)) r) ⌝ }
 {
     let mut w = 0;
@@ -251,29 +254,10 @@ fn put_starts(s: &[u8], from: usize, count: usize, out: &mut [u8]) -> usize
     w
 }
 
-// The packet's report, where it is told.
-fn put_told(out: &mut [u8], at: usize, told: bool, payload: &[u8]) -> usize
-    requires { ⌜ (at + reportMost ≤ length (now out)) × Framed (now payload) ⌝ }
-    ensures { λ r. ⌜ (r ≤ reportMost) × Wrote (now (out .entry)) at (when told (packetReport (packetOf (now (payload .entry))))) (now (out .exit)) r ⌝ }
-{
-    if told {
-        let end = 9 + octets::wide(payload[8]);
-        return events::put_report(
-            out,
-            at,
-            payload[0],
-            &payload[1..8],
-            &payload[9..end],
-            payload[end],
-        );
-    }
-    0
-}
-
 // A packet frame on a block of the right length.
 fn step(s: &mut [u8], payload: &[u8], out: &mut [u8]) -> usize
     requires { ⌜ (length (now s) ≡ blockSize) × (answerRoom ≤ length (now out)) × Framed (now payload) ⌝ }
-    ensures { λ r. ⌜ Within (now (out .entry)) (now (out .exit)) r × (isPacket (now (payload .entry)) ≡ true → Steps (packetFrame (packetOf (now (payload .entry)))) (now (s .entry)) (now (s .exit)) (now (out .entry)) (now (out .exit)) r) ⌝ }
+    ensures { λ r. ⌜ Within (now (out .entry)) (now (out .exit)) r × (hasPacket (now (payload .entry)) ≡ true → Steps (packetFrame (packetOf (now (payload .entry)))) (now (s .entry)) (now (s .exit)) (now (out .entry)) (now (out .exit)) r) ⌝ }
 {
     let mut acts = [0u8; State::MONITORS];
     marks::mark_all(&mut acts, s, payload);
@@ -283,25 +267,25 @@ fn step(s: &mut [u8], payload: &[u8], out: &mut [u8]) -> usize
     let k = start_all(s, n, &acts, dev);
     let told = is_told(s, n, k, &acts, dev);
     let w = put_starts(s, n, k - n, out);
-    let r = put_told(out, w, told, payload);
+    let r = reports::put_told(out, w, told, payload);
     state::advance(s);
     w + r
 }
 
 // A packet frame, executed: the pairs of its device refreshed and their windows given the packet, the starts appended by handle,
-// the position moved; the start events and the report written into out. The payload is event type, address type, address (6),
-// data length n, n octets and RSSI. Answers how many octets were written.
+// the position moved; the start events and the reports written into out. The payload is event type, address type, address (6),
+// data length n, n octets, with kind 04 scan response length k and k octets, and RSSI. Answers how many octets were written.
 // Where the block is not of 4,761 octets or at the last frame number, out has under 2,880 octets, or the payload is of no packet
 // frame, nothing is changed and the answer is 0. Of a block that is of no sound state the contents, what is written and how much are
 // free; the lengths stay, the answer is at most the length of out, and the octets past it are as they were.
 // No window of a sound state is full before the last number (crate steps, Counts).
 pub fn packet(s: &mut [u8], payload: &[u8], out: &mut [u8]) -> usize
-    ensures { λ r. ⌜ Taken (packetFrame (packetOf (now (payload .entry)))) (isPacket (now (payload .entry))) (now (s .entry)) (now (s .exit)) (now (out .entry)) (now (out .exit)) r ⌝ }
+    ensures { λ r. ⌜ Taken (packetFrame (packetOf (now (payload .entry)))) (hasPacket (now (payload .entry))) (now (s .entry)) (now (s .exit)) (now (out .entry)) (now (out .exit)) r ⌝ }
 {
     if !state::ready(s, out) {
         return 0;
     }
-    if !frames::packet_form(payload) {
+    if !frames::has_packet(payload) {
         return 0;
     }
     step(s, payload, out)

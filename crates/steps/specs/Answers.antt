@@ -1,4 +1,4 @@
--- Every answer of a sound state is at most 2,880 octets: a command's at most 48, a packet's 749, a tick's 2,880.
+-- Every answer of a sound state is at most 2,880 octets: a command's at most 48, a packet's 794 (16 start events of 44 and two reports of 45), a tick's 2,880.
 -- Document 01, Sizes of the gateway. Assumes nothing.
 use Prim.Native.Nat.{ℕ, _*_, _≤_, _<_}
 use native.Mathlib.Omega.{arith}
@@ -15,7 +15,7 @@ use Rattle.sessions.specs.Machine.{done, answerRoom}
 use Rattle.model.specs.Types.{Model, Packet, Pair}
 use Rattle.model.specs.Frames.{Body, Typed, command, packet, tick, bad, typed}
 use Rattle.model.specs.Commands.{returned}
-use Rattle.model.specs.Events.{complete, startEvent, stopEvent, packetReport, windowReport}
+use Rattle.model.specs.Events.{complete, startEvent, stopEvent, packetReports, windowReport}
 use Rattle.model.specs.Watch.{startPair, startsOf, reported, packetAnswer, goesOn, windowSays, tickOctets, tickAnswer}
 use Rattle.model.specs.Step.{answerTyped, act}
 use Rattle.model.specs.Sound.{soundModel}
@@ -26,9 +26,9 @@ use Rattle.steps.specs.Whole.{Row, Held, Sound, sound-of}
 use Rattle.steps.specs.Typed.{Params, Sent, Formed, typed-formed}
 use Rattle.steps.specs.Executed.{Executed, executed}
 use Rattle.steps.specs.Starts.{Started, Below, packet-starts}
-use Rattle.steps.specs.Sizes.{Octets, returned-short, complete-short, event-short, packet-report-short}
+use Rattle.steps.specs.Sizes.{Octets, returned-short, complete-short, event-short, packet-reports-short}
 use Rattle.steps.specs.Sizes.{window-report-short}
-use Rattle.model.specs.Layout.{commandMost, eventMost, reportMost}
+use Rattle.model.specs.Layout.{commandMost, eventMost, packetMost, reportMost, startsMost}
 use Rattle.model.specs.Layout.{mostMonitors}
 
 module _ (m : Model) (s : Sound m) where
@@ -49,8 +49,8 @@ module _ (m : Model) (s : Sound m) where
           (event-short (m .opcode) (m .prefix) (startPair h p) 1 settings (t .kind-most) (t .address-six)
           (t .address-octets) (omega arith) (omega arith))
 
-  -- a packet: at most 16 start events and a report
-  pub packet-short : (p : Packet) → Sent p → Octets 749 (packetAnswer m p)
+  -- a packet: at most 16 start events and two reports
+  pub packet-short : (p : Packet) → Sent p → Octets packetMost (packetAnswer m p)
   unfolding packetAnswer
   packet-short p t =
       let w : Below p mostMonitors (startsOf m p) = packet-starts m p in
@@ -59,10 +59,10 @@ module _ (m : Model) (s : Sound m) where
       (startsOf m p) (w .starts) in
       let events : Octets (eventMost * length (startsOf m p)) (each (startEvent (m .prefix)) (startsOf m p)) =
       short-each isOctet eventMost (startEvent (m .prefix)) (startsOf m p) all in
-      short-append isOctet 704 reportMost (each (startEvent (m .prefix)) (startsOf m p))
-      (when (reported m p) (packetReport p))
-      (short-more isOctet (eventMost * length (startsOf m p)) 704 _ (omega (arith, w .few)) events)
-      (short-when isOctet (reported m p) reportMost (packetReport p) (packet-report-short p t))
+      short-append isOctet startsMost (2 * reportMost) (each (startEvent (m .prefix)) (startsOf m p))
+      (when (reported m p) (packetReports p))
+      (short-more isOctet (eventMost * length (startsOf m p)) startsMost _ (omega (arith, w .few)) events)
+      (short-when isOctet (reported m p) (2 * reportMost) (packetReports p) (packet-reports-short p t))
 
   -- a tick, for one pair held: a stop event or a report
   pair-short : (q : Pair) → Held (m .position) (m .mons) q
@@ -93,7 +93,7 @@ module _ (m : Model) (s : Sound m) where
   pub answer-short : (f : Typed) → Formed f → Octets answerRoom (answerTyped m f)
   unfolding answerTyped
   answer-short (command o l) t = short-more isOctet commandMost answerRoom _ (omega arith) (command-short l t)
-  answer-short (packet p) t = short-more isOctet 749 answerRoom _ (omega arith) (packet-short p t)
+  answer-short (packet p) t = short-more isOctet packetMost answerRoom _ (omega arith) (packet-short p t)
   answer-short tick t = tick-short
   answer-short bad t = short-nil isOctet answerRoom
 

@@ -1,6 +1,6 @@
 -- How long each part of an answer is, and that it is octets. Document 01, Sizes of the gateway ("answer 2,880"),
 -- Commands, Watching, by history (Event, Report). Assumes nothing.
-use Prim.Native.Nat.{ℕ, _+_, _/_, _≤_, _<_}
+use Prim.Native.Nat.{ℕ, _+_, _*_, _/_, _≤_, _<_}
 use native.Mathlib.Omega.{arith}
 use native.Mathlib.Nat.{mod-lt}
 use mathlib.Core.Path.{_≡_, refl}
@@ -15,18 +15,18 @@ use Rattle.laws.specs.Loops.{every}
 use Rattle.octets.specs.Little.{octetsOf, isOctet, length-octets, octets-octets}
 use Rattle.rule.specs.Engine.{slot}
 use Rattle.rule.specs.Finds.{slot-some, Lowest}
-use Rattle.model.specs.Types.{Model, Monitor, Packet, Pair}
+use Rattle.model.specs.Types.{Model, Monitor, Packet, Pair, scanText}
 use Rattle.model.specs.Level.{mean, levels, inRange}
 use Rattle.advert.specs.Condition.{formOf, formStatus}
 use Rattle.advert.specs.Laws.{status-below}
 use Rattle.model.specs.Monitors.{settingsGood, conditionFault, faultOf, monitorOf}
 use Rattle.model.specs.Commands.{table, paramsIn, present, subOf, readStatus, addStatus, cancelStatus, enableStatus}
 use Rattle.model.specs.Commands.{status, handleOr, newHandle, features, success, failure, returned}
-use Rattle.model.specs.Events.{complete, event, report, packetReport, windowReport}
+use Rattle.model.specs.Events.{complete, event, report, packetReport, scanReport, packetReports, windowReport}
 use Rattle.steps.specs.Lists.{Short, short-nil, short-cons, short-append, short-more, short-pick}
 use Rattle.steps.specs.Facts.{Settings, Fields}
 use Rattle.steps.specs.Typed.{pick-both, at-octet, Params, Sent}
-use Rattle.model.specs.Layout.{mostCondition, mostData, mostMonitors, mostPrefix}
+use Rattle.model.specs.Layout.{mostCondition, mostData, mostMonitors, mostPrefix, reportMost}
 
 -- at most n octets
 abbrev pub Octets : ℕ → List ℕ → Type 0
@@ -136,7 +136,7 @@ event-short opcode prefix q state s k n o h t =
     (short-append isOctet 6 2 (q .address) _ adr end)))))
 
 -- "Report: 0x3E, 12 + n, 0x02, 0x01, event type, address type, address, n, data, RSSI": 45 octets at most
-pub report-short : (event kind : ℕ) (address adv : List ℕ) (rssi : ℕ) → event ≤ 3 → kind ≤ 1 → length address ≡ 6
+pub report-short : (event kind : ℕ) (address adv : List ℕ) (rssi : ℕ) → event < 256 → kind ≤ 1 → length address ≡ 6
     → every isOctet address ≡ true → length adv ≤ mostData → every isOctet adv ≡ true → rssi < 256
     → Octets 45 (report event kind address adv rssi)
 unfolding report
@@ -150,15 +150,29 @@ report-short event kind address adv rssi e k n o a d r =
     (short-append isOctet 6 33 address _ adr
     (octets-cons mostPrefix (length adv) _ (omega arith) (short-append isOctet mostData 1 adv _ dat end))))))))
 
-pub packet-report-short : (p : Packet) → Sent p → Octets 45 (packetReport p)
+packet-report-short : (p : Packet) → Sent p → Octets 45 (packetReport p)
 unfolding packetReport
 packet-report-short p t =
-    report-short (p .event) (p .kind) (p .address) (p .adv) (p .rssi) (t .event-most) (t .kind-most) (t .address-six)
+    report-short (p .event) (p .kind) (p .address) (p .adv) (p .rssi) (omega (arith, t .event-most)) (t .kind-most) (t .address-six)
     (t .address-octets) (t .adv-short) (t .adv-octets) (t .rssi-octet)
+
+scan-report-short : (p : Packet) (o : Option (List ℕ)) → Sent p → length (scanText o) ≤ mostData → every isOctet (scanText o) ≡ true
+    → Octets 45 (scanReport p o)
+unfolding scanReport scanText
+scan-report-short p none t n e = short-nil isOctet 45
+scan-report-short p (some l) t n e =
+    report-short 4 (p .kind) (p .address) l (p .rssi) (omega arith) (t .kind-most) (t .address-six) (t .address-octets) n e (t .rssi-octet)
+
+-- both reports of a packet
+pub packet-reports-short : (p : Packet) → Sent p → Octets (2 * reportMost) (packetReports p)
+unfolding packetReports
+packet-reports-short p t =
+    short-append isOctet 45 45 (packetReport p) (scanReport p (p .scan)) (packet-report-short p t)
+    (scan-report-short p (p .scan) t (t .scan-short) (t .scan-octets))
 
 pub window-report-short : (q : Pair) → Fields q → Octets 45 (windowReport q)
 unfolding windowReport mean
 window-report-short q f =
-    report-short (q .event) (q .kind) (q .address) (q .adv) _ (f .event-most) (f .kind-most) (f .address-six)
+    report-short (q .event) (q .kind) (q .address) (q .adv) _ (omega (arith, f .event-most)) (f .kind-most) (f .address-six)
     (f .address-octets) (f .adv-short) (f .adv-octets)
     (mod-lt (levels (q .sum) (q .packets) / q .packets + 129) (omega arith))

@@ -24,7 +24,7 @@ use Rattle.lines.specs.Frame.{lineRoom, isFrame, frame-most}
 use Rattle.model.specs.Frames.{frameOf, readRaw, read}
 use Rattle.model.specs.Frames.{Body, Typed, command, packet, tick, bad, typed}
 use Rattle.model.specs.Commands.{returned}
-use Rattle.model.specs.Events.{complete, event, report, startEvent, stopEvent, packetReport, windowReport}
+use Rattle.model.specs.Events.{complete, event, report, startEvent, stopEvent, packetReport, scanReport, packetReports, windowReport}
 use Rattle.model.specs.Watch.{startPair, startsOf, reported, packetAnswer, goesOn, windowSays, tickOctets, tickAnswer}
 use Rattle.model.specs.Step.{answerTyped, act}
 use Rattle.model.specs.Sound.{soundModel}
@@ -56,6 +56,16 @@ report-whole : (e kind : ℕ) (address adv : List ℕ) (rssi : ℕ) → length a
 unfolding report
 report-whole e kind address adv rssi h = whole-one 0x3E (12 + length adv) _ (simp length-append (omega arith))
 
+scan-whole : (p : Packet) (r : Option (List ℕ)) → length (p .address) ≡ 6 → Whole (scanReport p r)
+unfolding scanReport
+scan-whole p none h = nothing
+scan-whole p (some l) h = report-whole 4 (p .kind) (p .address) l (p .rssi) h
+
+reports-whole : (p : Packet) → length (p .address) ≡ 6 → Whole (packetReports p)
+unfolding packetReports packetReport
+reports-whole p h =
+    whole-append (report-whole (p .event) (p .kind) (p .address) (p .adv) (p .rssi) h) (scan-whole p (p .scan) h)
+
 when-whole : (t : Bool) (l : List ℕ) → Whole l → Whole (when t l)
 unfolding when
 when-whole true l w = w
@@ -68,14 +78,14 @@ each-whole f (q ∷ qs) w = whole-append (w .0) (each-whole f qs (w .1))
 
 module _ (m : Model) (s : Sound m) where
   packet-whole : (p : Packet) → Sent p → Whole (packetAnswer m p)
-  unfolding packetAnswer startEvent packetReport startPair
+  unfolding packetAnswer startEvent startPair
   packet-whole p t =
       whole-append
       (each-whole (startEvent (m .prefix)) (startsOf m p)
       (all-weaken (Started p mostMonitors) (λ q. Whole (startEvent (m .prefix) q))
       (λ q w. event-whole (m .prefix) q 1 (ap (λ (r : Pair). length (r .address)) (w .is) ∙ t .address-six))
       (startsOf m p) (packet-starts m p .starts)))
-      (when-whole (reported m p) (packetReport p) (report-whole (p .event) (p .kind) (p .address) (p .adv) (p .rssi) (t .address-six)))
+      (when-whole (reported m p) (packetReports p) (reports-whole p (t .address-six)))
 
   pair-whole : (q : Pair) → Held (m .position) (m .mons) q → Whole (tickOctets (m .filter) (m .prefix) (find (m .mons) (q .handle)) q)
   unfolding tickOctets stopEvent windowReport pick

@@ -174,6 +174,25 @@ pub fn data(random: &mut Random, monitors: &[Monitor]) -> Vec<u8> {
     data
 }
 
+/// An advertisement and its scan response: each by itself, or one text cut in two, so that structures straddle.
+pub fn texts(random: &mut Random, monitors: &[Monitor]) -> (Vec<u8>, Vec<u8>) {
+    let scan = match random.below(6) {
+        0 => Vec::new(),
+        _ => data(random, monitors),
+    };
+    let first = data(random, monitors);
+    match random.below(8) {
+        0 => (Vec::new(), scan),
+        1 => (vec![2, 1, 6], scan),
+        2 if first.len() > 1 => {
+            let cut = 1 + random.below(first.len() - 1);
+            let rest = [&first[cut..], &scan].concat();
+            (first[..cut].to_vec(), rest[..rest.len().min(DATA)].to_vec())
+        }
+        _ => (first, scan),
+    }
+}
+
 /// A condition of exactly 64 octets.
 pub fn longest(random: &mut Random) -> Vec<u8> {
     of_length(random, CONDITION)

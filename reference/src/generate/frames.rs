@@ -9,6 +9,7 @@ use crate::state::Device;
 const COMMAND: u8 = 0x01;
 pub(super) const PACKET: u8 = 0x02;
 const TICK: u8 = 0x03;
+pub(super) const SCANNED: u8 = 0x04;
 
 /// Kind, number, payload.
 pub fn frame(kind: u8, number: u32, payload: &[u8]) -> Vec<u8> {
@@ -32,6 +33,16 @@ pub fn packet(event_type: u8, device: &Device, data: &[u8], rssi: i8) -> Vec<u8>
     octets.extend(device.address);
     octets.push(data.len() as u8);
     octets.extend(data);
+    octets.push(rssi as u8);
+    octets
+}
+
+/// The payload of a packet of kind 04.
+pub fn scanned(event_type: u8, device: &Device, data: &[u8], scan: &[u8], rssi: i8) -> Vec<u8> {
+    let mut octets = packet(event_type, device, data, rssi);
+    octets.pop();
+    octets.push(scan.len() as u8);
+    octets.extend(scan);
     octets.push(rssi as u8);
     octets
 }
@@ -78,7 +89,7 @@ impl Generator {
         match self.random.below(4) {
             0 => (COMMAND, command(self.state.opcode, &self.valid_command())),
             1 => (TICK, Vec::new()),
-            _ => (PACKET, self.packet_payload()),
+            _ => self.packet_payload(),
         }
     }
 

@@ -1,11 +1,12 @@
 //! What is refused: bad lines, bad payloads, other opcodes, seen and gap frames, short outputs.
 
-use super::frames::{command, frame};
+use super::frames::{command, frame, packet, scanned, SCANNED};
 use super::Generator;
 use crate::limits::{ANSWER, IMAGE, LINE};
 use crate::lines;
 use crate::random::Random;
 use crate::script::Call;
+use crate::state::Device;
 
 /// Spoil a line so that it is none.
 pub fn spoil(random: &mut Random, line: &[u8]) -> Vec<u8> {
@@ -61,7 +62,7 @@ impl Generator {
             }
             _ => {
                 let (_, payload) = self.any_payload();
-                let kind = self.random.pick(&[0x00, 0x04, 0x05, 0x81, 0xA0, 0xFF]);
+                let kind = self.random.pick(&[0x00, 0x05, 0x05, 0x84, 0xA0, 0xFF]);
                 let number = if self.random.percent(40) { self.state.position } else { number };
                 let octets = frame(kind, number, &payload);
                 self.give(octets);
@@ -72,13 +73,16 @@ impl Generator {
     /// Not of its kind's exact form.
     pub(super) fn bad_payload(&mut self) {
         let device = self.random.pick(&self.devices);
-        let good = super::frames::packet(0, &device, &[2, 1, 6], -60);
+        let good = packet(0, &device, &[2, 1, 6], -60);
         let spoilt = |place: usize, octet: u8| {
             let mut payload = good.clone();
             payload[place] = octet;
             payload
         };
         let opcode = self.state.opcode;
+        if self.random.percent(35) {
+            return self.bad_scanned(&device);
+        }
         let (kind, payload) = match self.random.below(16) {
             0 => (2, spoilt(0, self.random.pick(&[4, 255]))),
             1 => (2, spoilt(1, self.random.pick(&[2, 255]))),
@@ -87,7 +91,7 @@ impl Generator {
             4 => (2, spoilt(good.len() - 1, 127)),
             5 => (2, good[..self.random.below(good.len())].to_vec()),
             6 => (2, [&good[..], &[0]].concat()),
-            7 => (2, super::frames::packet(0, &device, &self.random.octets(32), -60)),
+            7 => (2, packet(0, &device, &self.random.octets(32), -60)),
             8 => (3, self.random.octets(1)),
             9 => (3, good),
             10 => (1, command(opcode, &[])),
@@ -98,6 +102,34 @@ impl Generator {
             _ => (1, [&opcode.to_le_bytes()[..], &[0, 5]].concat()),
         };
         let octets = frame(kind, self.next_number(), &payload);
+        self.give(octets);
+    }
+
+    /// A packet of kind 04 that is not of its exact form, or is at an edge of it.
+    fn bad_scanned(&mut self, device: &Device) {
+        let (data, scan) = ([2, 1, 6], [3, 9, 65, 66]);
+        let good = scanned(0, device, &data, &scan, -60);
+        let spoilt = |place: usize, octet: u8| {
+            let mut payload = good.clone();
+            payload[place] = octet;
+            payload
+        };
+        let random = &mut self.random;
+        let payload = match random.below(13) {
+            0..=1 => spoilt(0, random.pick(&[1, 3])),
+            2 => spoilt(0, random.pick(&[4, 255])),
+            3 => spoilt(1, random.pick(&[2, 255])),
+            4 => spoilt(8, random.pick(&[2, 4, 32, 255])),
+            5 => spoilt(12, random.pick(&[3, 5, 32, 255])),
+            6 => spoilt(good.len() - 1, random.pick(&[21, 127, 128])),
+            7 => good[..random.below(good.len())].to_vec(),
+            8 => [&good[..], &[0]].concat(),
+            9 => scanned(2, device, &random.octets(32), &scan, -60),
+            10 => scanned(2, device, &data, &random.octets(32), -60),
+            11 => scanned(2, device, &random.octets(31), &random.octets(31), -60),
+            _ => packet(0, device, &data, -60),
+        };
+        let octets = frame(SCANNED, self.next_number(), &payload);
         self.give(octets);
     }
 
@@ -158,7 +190,7 @@ impl Generator {
         let length = self.random.pick(&[0, 4, 5, 6, 20, 262, 263, 264]);
         let mut octets = self.random.octets(length);
         if let Some(kind) = octets.first_mut() {
-            *kind = self.random.pick(&[0, 1, 1, 2, 2, 3, 3, 4]);
+            *kind = self.random.pick(&[0, 1, 2, 2, 3, 3, 4, 4, 5]);
         }
         self.make_call(Call::WriteLine { octets, lent });
     }

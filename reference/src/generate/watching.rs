@@ -1,6 +1,6 @@
 //! Packets and ticks, aimed at thresholds, ends of watches and windows, and the 16 and 64 limits.
 
-use super::frames::{frame, monitor, packet, PACKET};
+use super::frames::{frame, monitor, packet, scanned, PACKET, SCANNED};
 use super::{conditions, states, Generator, Theme};
 use crate::limits::Seconds;
 use crate::state::Device;
@@ -35,10 +35,17 @@ impl Generator {
         }
     }
 
-    pub(super) fn packet_payload(&mut self) -> Vec<u8> {
+    /// A packet, a third of them of kind 04: its kind and payload.
+    pub(super) fn packet_payload(&mut self) -> (u8, Vec<u8>) {
         let device = self.device();
+        let rssi = self.rssi();
+        if self.random.percent(35) {
+            let (data, scan) = conditions::texts(&mut self.random, self.state.monitors());
+            let event_type = self.random.pick(&[0, 2]);
+            return (SCANNED, scanned(event_type, &device, &data, &scan, rssi));
+        }
         let data = conditions::data(&mut self.random, self.state.monitors());
-        packet(self.random.below(4) as u8, &device, &data, self.rssi())
+        (PACKET, packet(self.random.below(4) as u8, &device, &data, rssi))
     }
 
     pub(super) fn give_packet(&mut self, device: &Device, data: &[u8], rssi: i8) {
@@ -48,8 +55,8 @@ impl Generator {
     }
 
     pub(super) fn packet(&mut self) {
-        let payload = self.packet_payload();
-        let octets = frame(PACKET, self.next_number(), &payload);
+        let (kind, payload) = self.packet_payload();
+        let octets = frame(kind, self.next_number(), &payload);
         self.give(octets);
     }
 

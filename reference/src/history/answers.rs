@@ -42,6 +42,10 @@ impl History {
         });
         if filter_off || sampled_at_once || !starts.is_empty() {
             answer.extend(event::report(packet.event_type, &packet.device, &packet.data, packet.rssi));
+            // "A second report of event type 4 with the scan response follows" (T-06).
+            if let Some(scan) = &packet.scan {
+                answer.extend(event::report(4, &packet.device, scan, packet.rssi));
+            }
         }
         answer
     }

@@ -59,7 +59,7 @@ impl Timers {
             }
         }
         tally.count(filter_off);
-        let report = event::report(packet.event_type, &packet.device, &packet.data, packet.rssi);
+        let report = self.reports(packet, tally.reasons > 0);
         match self.fault {
             Fault::ReportPerMonitor => (0..tally.reasons).for_each(|_| answer.extend(&report)),
             Fault::ReportBeforeStarts if tally.reasons > 0 => answer.splice(0..0, report).for_each(drop),
@@ -67,6 +67,30 @@ impl Timers {
             _ => (),
         }
         answer
+    }
+
+    /// The packet's report; for kind 04 a second one of event type 4 with the scan response follows (T-06).
+    fn reports(&self, packet: &Packet, wanted: bool) -> Vec<u8> {
+        let filter_off = self.state.filter == 0;
+        let mut octets = event::report(packet.event_type, &packet.device, &packet.data, packet.rssi);
+        let Some(scan) = &packet.scan else { return octets };
+        hit(match (wanted, filter_off) {
+            (false, _) => Rule::ScanNoReport,
+            (_, _) if scan.is_empty() => Rule::ScanReportEmpty,
+            (_, true) => Rule::ScanReportOff,
+            _ => Rule::ScanReport,
+        });
+        let missing = match self.fault {
+            Fault::ScanReportMissing => true,
+            Fault::ScanReportWhileOff => filter_off,
+            Fault::EmptyScanNoReport => scan.is_empty(),
+            _ => false,
+        };
+        if !missing {
+            let event_type = if self.fault == Fault::ScanReportType0 { 0 } else { event::SCAN_RESPONSE };
+            octets.extend(event::report(event_type, &packet.device, scan, packet.rssi));
+        }
+        octets
     }
 
     /// Is its RSSI at least high?
@@ -119,6 +143,9 @@ impl Timers {
             return;
         }
         hit(if filter_off { Rule::WindowTakesOff } else { Rule::WindowTakes });
+        if packet.scan.is_some() {
+            hit(Rule::WindowTakesScanned);
+        }
         if good && fault == Fault::GoodShiftsWindow {
             pair.window_ticks = 0;
         }
@@ -207,10 +234,14 @@ fn gather(pair: &mut Pair, packet: &Packet, fault: Fault) {
     if fault == Fault::WindowKeepsFirst && !first {
         return;
     }
+    let data = match &packet.scan {
+        Some(scan) if fault == Fault::WindowKeepsScan => scan,
+        _ => &packet.data,
+    };
     pair.event_type = packet.event_type;
-    pair.n = packet.data.len() as u8;
+    pair.n = data.len() as u8;
     if fault != Fault::LatestPadded {
         pair.data = [0; DATA];
     }
-    pair.data[..packet.data.len()].copy_from_slice(&packet.data);
+    pair.data[..data.len()].copy_from_slice(data);
 }

@@ -89,6 +89,18 @@ impl Host {
         self.execute(2, &frames::packet(0, device, data, rssi))
     }
 
+    /// A packet of kind 04 and this event type.
+    pub fn scanned(
+        &mut self,
+        event_type: u8,
+        device: &Device,
+        data: &[u8],
+        scan: &[u8],
+        rssi: i8,
+    ) -> Vec<u8> {
+        self.execute(4, &frames::scanned(event_type, device, data, scan, rssi))
+    }
+
     pub fn tick(&mut self) -> Vec<u8> {
         self.execute(3, &[])
     }
@@ -119,7 +131,12 @@ pub fn event(device: &Device, handle: u8, watched: u8) -> Vec<u8> {
 
 /// A report of event type 0.
 pub fn report(device: &Device, data: &[u8], rssi: i8) -> Vec<u8> {
-    let mut report = vec![0x3E, 12 + data.len() as u8, 0x02, 0x01, 0x00, device.kind];
+    report_of(0, device, data, rssi)
+}
+
+/// A report of any event type.
+pub fn report_of(event_type: u8, device: &Device, data: &[u8], rssi: i8) -> Vec<u8> {
+    let mut report = vec![0x3E, 12 + data.len() as u8, 0x02, 0x01, event_type, device.kind];
     report.extend(device.address);
     report.push(data.len() as u8);
     report.extend(data);

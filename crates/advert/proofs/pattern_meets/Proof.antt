@@ -26,7 +26,7 @@ some-holds-requires : tie.Need-some-holds-requires
 some-holds-requires c κs = search needs
 
 returns : tie.Need-returns
-returns c = pattern-of _ _ _ (c .before .before .before .before .before .before .before .pre) (omega arith)
+returns c = pattern-of _ _ _ _ (c .before .before .before .before .before .before .before .before .pre) (omega arith)
     (c .some-holds .ensures)
 
 pub pattern-meets-spec : {M : Type 1} → statement M

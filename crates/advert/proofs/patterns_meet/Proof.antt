@@ -19,10 +19,10 @@ use Rattle.advert.proofs.patterns_meet.Statement.{statement}
 use Rattle.advert.proofs.patterns_meet.Tie as tie
 
 abbrev Inv-loop : tie.InvT-loop
-Inv-loop condition adv i₀ i = patternsMeet condition adv ≡ some (patternMeets adv) (parts 3 (drop i condition))
+Inv-loop condition adv scan i₀ i = patternsMeet condition adv scan ≡ some (patternMeets adv scan) (parts 3 (drop i condition))
 
 abbrev μ-loop : tie.MeasureT-loop
-μ-loop condition adv i₀ i = length condition - i
+μ-loop condition adv scan i₀ i = length condition - i
 
 loop-holds : tie.Need-loop-holds Inv-loop μ-loop
 unfolding patternsMeet patterns

@@ -15,14 +15,14 @@ use Rattle.advert.proofs.uuid_meets.Statement.{statement}
 use Rattle.advert.proofs.uuid_meets.Tie as tie
 
 -- what is known of the condition once its form was asked
-formed : (c : lts.After-shared-slice-known3
+formed : (c : lts.After-shared-slice-known4
     (uuid-form-reads.Asked, uuid-form-reads.Learnt, some-lists-reads.Asked, some-lists-reads.Learnt) reads.Pre
     reads.Post)
-    → (3 ≤ length (c .before .before .before .before .before .args .condition .now))
-    × (length (c .before .before .before .before .before .args .condition .now) ≤ 17)
-    × (getD (c .before .before .before .before .before .args .condition .now) 0 0 ≤ 3)
+    → (3 ≤ length (c .before .before .before .before .before .before .args .condition .now))
+    × (length (c .before .before .before .before .before .before .args .condition .now) ≤ 17)
+    × (getD (c .before .before .before .before .before .before .args .condition .now) 0 0 ≤ 3)
 formed c =
-    uuid-bounds (c .before .before .before .before .before .args .condition .now)
+    uuid-bounds (c .before .before .before .before .before .before .args .condition .now)
     (sym (c .before .before .uuid-form .ensures)
     ∙ not-false (c .before .before .uuid-form .result) (c .before .if1 .left))
 
@@ -30,7 +30,7 @@ uuid-form-requires : tie.Need-uuid-form-requires
 uuid-form-requires c κs = search needs
 
 returns : tie.Need-returns
-returns c = uuid-bad _ _ (sym (c .before .uuid-form .ensures) ∙ not-true _ (c .if1 .taken))
+returns c = uuid-bad _ _ _ (sym (c .before .uuid-form .ensures) ∙ not-true _ (c .if1 .taken))
 
 shared-slice-read-t : tie.Need-shared-slice-read-t
 shared-slice-read-t c = omega (arith, formed c)
@@ -54,13 +54,13 @@ part-some-lists-end : tie.Need-part-some-lists-end
 part-some-lists-end c = search needs
 
 some-lists-requires : tie.Need-some-lists-requires
-some-lists-requires c κs = let xs = c .before .before .before .before .before .before .args .condition .now in
+some-lists-requires c κs = let xs = c .before .before .before .before .before .before .before .args .condition .now in
     let f : uuidForm xs ≡ true = sym (c .before .before .before .uuid-form .ensures)
     ∙ not-false (c .before .before .before .uuid-form .result) (c .before .before .if1 .left) in
     rw (rest-whole 1 xs) (simp length-drop (omega (arith, uuid-bounds xs f)))
 
 returns-2 : tie.Need-returns-2
-returns-2 c = uuid-of _ _ (sym (c .before .before .before .before .uuid-form .ensures)
+returns-2 c = uuid-of _ _ _ (sym (c .before .before .before .before .uuid-form .ensures)
     ∙ not-false (c .before .before .before .before .uuid-form .result) (c .before .before .before .if1 .left))
     (c .some-lists .ensures)
 

@@ -70,6 +70,21 @@ slice-aggregate-field-5 c = search needs
 field-requires-5 : tie.Need-field-requires-5
 field-requires-5 c κs = search needs
 
+mul-field : tie.Need-mul-field
+mul-field c = search needs
+
+add-field : tie.Need-add-field
+add-field c = search needs
+
+add-field-2 : tie.Need-add-field-2
+add-field-2 c = search needs
+
+slice-aggregate-field-6 : tie.Need-slice-aggregate-field-6
+slice-aggregate-field-6 c = search needs
+
+field-requires-6 : tie.Need-field-requires-6
+field-requires-6 c κs = search needs
+
 array-read-answer : tie.Need-array-read-answer
 array-read-answer c = search needs
 
@@ -77,7 +92,7 @@ array-share-prefix-condition : tie.Need-array-share-prefix-condition
 array-share-prefix-condition c = search needs
 
 slice-aggregate-answer : tie.Need-slice-aggregate-answer
-slice-aggregate-answer c = let f = c .before .before .before .before .before .before .before .before .before .before .before .field2 in
+slice-aggregate-answer c = let f = c .before .before .before .before .before .before .before .before .before .before .before .before .before .before .field2 in
     sym (length-take-le (f .result) (f .last .1 .1 .0) (f .ensures .0))
 
 array-read-answer-2 : tie.Need-array-read-answer-2
@@ -87,14 +102,21 @@ array-share-prefix-address : tie.Need-array-share-prefix-address
 array-share-prefix-address c = search needs
 
 slice-aggregate-answer-2 : tie.Need-slice-aggregate-answer-2
-slice-aggregate-answer-2 c = let f = c .before .before .before .before .before .before .field4 in
+slice-aggregate-answer-2 c = let f = c .before .before .before .before .before .before .before .before .before .field4 in
     sym (length-take-le (f .result) (f .last .1 .1 .0) (f .ensures .0))
 
 array-share-prefix-adv : tie.Need-array-share-prefix-adv
 array-share-prefix-adv c = search needs
 
 slice-aggregate-answer-3 : tie.Need-slice-aggregate-answer-3
-slice-aggregate-answer-3 c = let f = c .before .before .before .before .field5 in
+slice-aggregate-answer-3 c = let f = c .before .before .before .before .before .before .before .field5 in
+    sym (length-take-le (f .result) (f .last .1 .1 .0) (f .ensures .0))
+
+array-share-prefix-scan : tie.Need-array-share-prefix-scan
+array-share-prefix-scan c = search needs
+
+slice-aggregate-answer-4 : tie.Need-slice-aggregate-answer-4
+slice-aggregate-answer-4 c = let f = c .before .before .before .before .before .field6 in
     sym (length-take-le (f .result) (f .last .1 .1 .0) (f .ensures .0))
 
 answer-requires : tie.Need-answer-requires
@@ -129,6 +151,11 @@ vector-spec =
     add-at4-2
     slice-aggregate-field-5
     field-requires-5
+    mul-field
+    add-field
+    add-field-2
+    slice-aggregate-field-6
+    field-requires-6
     array-read-answer
     array-share-prefix-condition
     slice-aggregate-answer
@@ -137,5 +164,7 @@ vector-spec =
     slice-aggregate-answer-2
     array-share-prefix-adv
     slice-aggregate-answer-3
+    array-share-prefix-scan
+    slice-aggregate-answer-4
     answer-requires
     returns)

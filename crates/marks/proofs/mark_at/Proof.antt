@@ -1,14 +1,20 @@
-use Rattle.marks.specs.Fields.{clamped}
+use Rattle.marks.specs.Fields.{clamped, scan-is}
 use Prim.Native.Nat.{ℕ, _+_, _-_, _*_}
 use mathlib.Core.List.{List}
-use mathlib.Core.Path.{_≡_, refl, ap}
+use mathlib.Core.Path.{_≡_, refl, ap, _∙_}
 use native.Mathlib.Omega.{arith}
-use lib.ListN.{take, drop, getD}
-use borrow.Author.Needs.{needs}
+use lib.ListN.{length, take, drop, getD}
 use Rattle.marks.specs.Monitors.{mark-unused, mark-unmatched, mark-matched}
+use Rattle.model.specs.Layout.{monitorSize, monitorsAt}
+use borrow.Author.Needs.{needs}
 use Rattle.marks.proofs.mark_at.Statement.{statement}
 use Rattle.marks.proofs.mark_at.Tie as tie
-use Rattle.model.specs.Layout.{monitorSize, monitorsAt}
+use Rattle.marks.proofs.mark_at.Reads as reads
+use Rattle.marks.proofs.mark_at.Lts as lts
+use Rattle.advert.proofs.match_packet.Reads as match-packet-reads
+use Rattle.marks.proofs.row_bits.Reads as row-bits-reads
+use Rattle.octets.proofs.at_most.Reads as at-most-reads
+use Rattle.octets.proofs.wide.Reads as wide-reads
 
 mul-at : tie.Need-mul-at
 mul-at c = search needs
@@ -49,6 +55,9 @@ wide-requires c κs = search needs
 add-end : tie.Need-add-end
 add-end c = search needs
 
+sub-last : tie.Need-sub-last
+sub-last c = search needs
+
 add-match-packet : tie.Need-add-match-packet
 add-match-packet c = search needs
 
@@ -85,6 +94,15 @@ part-match-packet-start-3 c = search needs
 part-match-packet-end-3 : tie.Need-part-match-packet-end-3
 part-match-packet-end-3 c = search needs
 
+sub-match-packet-4 : tie.Need-sub-match-packet-4
+sub-match-packet-4 c = search needs
+
+part-match-packet-start-4 : tie.Need-part-match-packet-start-4
+part-match-packet-start-4 c = search needs
+
+part-match-packet-end-4 : tie.Need-part-match-packet-end-4
+part-match-packet-end-4 c = search needs
+
 match-packet-requires : tie.Need-match-packet-requires
 match-packet-requires c κs = search needs
 
@@ -113,26 +131,26 @@ row-bits-requires : tie.Need-row-bits-requires
 row-bits-requires c κs = search needs
 
 returns-2 : tie.Need-returns-2
-returns-2 c = let a = c .before .before .before .before .before .before .before .before .before .before .before .before .before .before .before .before .before .before .before .before .args in
+returns-2 c = let a = c .before .before .before .before .before .before .before .before .before .before .before .before .before .before .before .before .before .before .before .before .before .args in
     let s : List ℕ = a .s .now in
     let l : List ℕ = a .payload .now in
-    let n : ℕ = c .before .before .before .before .before .before .before .before .before .before .before .before .before .before .at-most .result in
+    let n : ℕ = c .before .before .before .before .before .before .before .before .before .before .before .before .before .before .before .at-most .result in
     let k : monitorsAt + monitorSize * a .h + 7 + n - (monitorsAt + monitorSize * a .h + 7) ≡ n = omega arith in
-    let e : c .before .before .before .before .before .before .before .before .before .before .before .before .wide .result ≡ getD l 8 0 = c .before .before .before .before .before .before .before .before .before .before .before .before .wide .ensures .0 in
-    let j : 9 + c .before .before .before .before .before .before .before .before .before .before .before .before .wide .result - 9 ≡ getD l 8 0 = omega arith in
-    mark-matched s (a .h) l n (c .before .before .before .before .before .before .before .before .before .before .before .before .before .before .before .before .if1 .left) (clamped (c .before .before .before .before .before .before .before .before .before .before .before .before .before .before .at-most .ensures)) (ap (λ (i : ℕ). take i (drop (monitorsAt + monitorSize * a .h + 7) s)) k) refl
-    (ap (λ (i : ℕ). take i (drop 9 l)) j) (c .before .before .before .before .before .before .match-packet .ensures) (c .before .before .before .before .before .if2 .taken)
-    (rw e at (c .row-bits .ensures))
+    let e : c .before .before .before .before .before .before .before .before .before .before .before .before .before .wide .result ≡ getD l 8 0 = c .before .before .before .before .before .before .before .before .before .before .before .before .before .wide .ensures .0 in
+    let j : 9 + c .before .before .before .before .before .before .before .before .before .before .before .before .before .wide .result - 9 ≡ getD l 8 0 = omega arith in
+    mark-matched s (a .h) l n (c .before .before .before .before .before .before .before .before .before .before .before .before .before .before .before .before .before .if1 .left) (clamped (c .before .before .before .before .before .before .before .before .before .before .before .before .before .before .before .at-most .ensures)) (ap (λ (i : ℕ). take i (drop (monitorsAt + monitorSize * a .h + 7) s)) k) refl
+    (ap (λ (i : ℕ). take i (drop 9 l)) j) (ap (λ (i : ℕ). take (length l - 1 - i) (drop i l)) (c .before .before .before .before .before .before .before .before .before .before .before .before .before .before .before .before .before .before .before .before .before .pre .3) ∙ scan-is l (c .before .before .before .before .before .before .before .before .before .before .before .before .before .before .before .before .before .before .before .before .before .pre .2 .2)) (c .before .before .before .before .before .before .match-packet .ensures) (c .before .before .before .before .before .if2 .taken)
+    (c .row-bits .ensures)
 
 returns-3 : tie.Need-returns-3
-returns-3 c = let a = c .before .before .before .before .before .before .before .before .before .before .before .before .before .before .before .args in
+returns-3 c = let a = c .before .before .before .before .before .before .before .before .before .before .before .before .before .before .before .before .args in
     let s : List ℕ = a .s .now in
     let l : List ℕ = a .payload .now in
-    let n : ℕ = c .before .before .before .before .before .before .before .before .before .at-most .result in
+    let n : ℕ = c .before .before .before .before .before .before .before .before .before .before .at-most .result in
     let k : monitorsAt + monitorSize * a .h + 7 + n - (monitorsAt + monitorSize * a .h + 7) ≡ n = omega arith in
-    let j : 9 + c .before .before .before .before .before .before .before .wide .result - 9 ≡ getD l 8 0 = omega (arith, c .before .before .before .before .before .before .before .wide .ensures .0) in
-    mark-unmatched s (a .h) l n (c .before .before .before .before .before .before .before .before .before .before .before .if1 .left) (clamped (c .before .before .before .before .before .before .before .before .before .at-most .ensures)) (ap (λ (i : ℕ). take i (drop (monitorsAt + monitorSize * a .h + 7) s)) k) refl
-    (ap (λ (i : ℕ). take i (drop 9 l)) j) (c .before .match-packet .ensures) (c .if2 .left)
+    let j : 9 + c .before .before .before .before .before .before .before .before .wide .result - 9 ≡ getD l 8 0 = omega (arith, c .before .before .before .before .before .before .before .before .wide .ensures .0) in
+    mark-unmatched s (a .h) l n (c .before .before .before .before .before .before .before .before .before .before .before .before .if1 .left) (clamped (c .before .before .before .before .before .before .before .before .before .before .at-most .ensures)) (ap (λ (i : ℕ). take i (drop (monitorsAt + monitorSize * a .h + 7) s)) k) refl
+    (ap (λ (i : ℕ). take i (drop 9 l)) j) (ap (λ (i : ℕ). take (length l - 1 - i) (drop i l)) (c .before .before .before .before .before .before .before .before .before .before .before .before .before .before .before .before .pre .3) ∙ scan-is l (c .before .before .before .before .before .before .before .before .before .before .before .before .before .before .before .before .pre .2 .2)) (c .before .match-packet .ensures) (c .if2 .left)
 
 pub mark-at-spec : {M : Type 1} → statement M
 mark-at-spec =
@@ -151,6 +169,7 @@ mark-at-spec =
     shared-slice-read-wide
     wide-requires
     add-end
+    sub-last
     add-match-packet
     shared-slice-read-match-packet
     sub-match-packet
@@ -163,6 +182,9 @@ mark-at-spec =
     sub-match-packet-3
     part-match-packet-start-3
     part-match-packet-end-3
+    sub-match-packet-4
+    part-match-packet-start-4
+    part-match-packet-end-4
     match-packet-requires
     add-row-bits
     shared-slice-read-row-bits

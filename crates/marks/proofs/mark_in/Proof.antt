@@ -14,10 +14,13 @@ use Rattle.marks.proofs.mark_in.Tie as tie
 use Rattle.model.specs.Layout.{monitorSize, monitorsAt, mostMonitors}
 
 abbrev Inv-loop : tie.InvT-loop
-Inv-loop acts₀ s payload h₀ acts h = (h ≤ mostMonitors) × (length acts ≡ length acts₀) × (acts ≡ put acts₀ 0 (upTo (λ g. markRow (row monitorSize g (drop monitorsAt s)) (packetOf payload) ∷ []) h))
+Inv-loop acts₀ s payload scan₀ h₀ acts h = (h ≤ mostMonitors) × (length acts ≡ length acts₀) × (acts ≡ put acts₀ 0 (upTo (λ g. markRow (row monitorSize g (drop monitorsAt s)) (packetOf payload) ∷ []) h))
 
 abbrev μ-loop : tie.MeasureT-loop
-μ-loop acts₀ s payload h₀ acts h = mostMonitors - h
+μ-loop acts₀ s payload scan₀ h₀ acts h = mostMonitors - h
+
+scan-at-requires : tie.Need-scan-at-requires Inv-loop μ-loop
+scan-at-requires c κs = search needs
 
 loop-holds : tie.Need-loop-holds Inv-loop μ-loop
 unfolding upTo
@@ -36,7 +39,7 @@ loop-less : tie.Need-loop-less Inv-loop μ-loop
 loop-less c = omega arith
 
 loop-again : tie.Need-loop-again Inv-loop μ-loop
-loop-again c = let a = c .before .before .before .before .before .before .args in let l = c .before .before .loop in (
+loop-again c = let a = c .before .before .before .before .before .before .before .args in let l = c .before .before .loop in (
   omega arith,
   simp length-set (l .inv .1),
   rw (c .mark-at .ensures) (marks-turn (λ g. markRow (row monitorSize g (drop monitorsAt (a .s .now))) (packetOf (a .payload .now))) (a .acts .now) (l .h)
@@ -48,7 +51,7 @@ same-length c = c .before .loop .inv .1
 
 returns : tie.Need-returns Inv-loop μ-loop
 unfolding marksAt
-returns c = let a = c .before .before .before .before .before .args in let l = c .before .loop in
+returns c = let a = c .before .before .before .before .before .before .args in let l = c .before .loop in
     let e : l .h ≡ mostMonitors = omega arith in
     rw e at (l .inv .2) ∙ marks-end (a .s .now) (packetOf (a .payload .now)) (a .acts .now) (omega arith)
 
@@ -58,6 +61,7 @@ mark-in-spec =
     (tie.spec
     Inv-loop
     μ-loop
+    scan-at-requires
     loop-holds
     mark-at-requires
     slice-write-acts

@@ -21,6 +21,9 @@ wide-requires c κs = search needs
 add-end : tie.Need-add-end
 add-end c = search needs
 
+sub-last : tie.Need-sub-last
+sub-last c = search needs
+
 get32-requires : tie.Need-get32-requires
 get32-requires c κs = search needs
 
@@ -120,7 +123,7 @@ returns c = let a = c .before .before .before .before .before .before .before .b
     let k2 : length (c .before .before .before .before .before .before .before .before .before .before .before .before .before .put64 .last .0) ≡ length (c .before .before .before .before .before .before .before .before .before .before .before .before .before .before .before .before .before .before .before .before .put32 .last .0) = c .before .before .before .before .before .before .before .before .before .before .before .before .before .put64 .kept .0 in
     let j : length b ≡ length (c .before .before .before .before .before .before .before .before .before .before .before .before .before .put64 .last .0) = simp length-set in
     let k3 : length (c .before .before .before .before .before .before .copy .last .0) ≡ length b = c .before .before .before .before .before .before .copy .kept .0 in
-    let g : length l ≡ 10 + getD l 8 0 = c .before .before .before .before .before .before .before .before .before .before .before .before .before .before .before .before .before .before .before .before .before .before .before .before .before .before .before .before .before .before .before .pre .1 .0 in
+    let g : 10 + getD l 8 0 ≤ length l = c .before .before .before .before .before .before .before .before .before .before .before .before .before .before .before .before .before .before .before .before .before .before .before .before .before .before .before .before .before .before .before .pre .1 .0 in
     let g2 : getD l 8 0 ≤ mostData = c .before .before .before .before .before .before .before .before .before .before .before .before .before .before .before .before .before .before .before .before .before .before .before .before .before .before .before .before .before .before .before .pre .1 .1 in
     let g3 : a .at + windowSize ≤ length s = c .before .before .before .before .before .before .before .before .before .before .before .before .before .before .before .before .before .before .before .before .before .before .before .before .before .before .before .before .before .before .before .pre .0 in
     let k9 : length (drop 9 l) ≡ length l - 9 = lib.ListN.length-drop 9 l in
@@ -142,6 +145,7 @@ gather-at-spec =
     shared-slice-read-wide
     wide-requires
     add-end
+    sub-last
     get32-requires
     add-get64
     get64-requires

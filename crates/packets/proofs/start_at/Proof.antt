@@ -7,10 +7,10 @@ use Rattle.packets.proofs.start_at.Statement.{statement}
 use Rattle.packets.proofs.start_at.Tie as tie
 
 returns : tie.Need-returns
-returns c = let a = c .before .before .args in (omega arith, omega arith, λ m p w x d. start-weak m (a .s .now) (a .n) p (a .a) (a .h) w (c .if1 .taken))
+returns c = let a = c .before .before .args in (omega arith, omega arith, omega arith, λ m p w x d. start-weak m (a .s .now) (a .n) p (a .a) (a .h) w (c .if1 .taken))
 
 returns-2 : tie.Need-returns-2
-returns-2 c = let a = c .before .before .before .args in (omega arith, omega arith, λ m p w x d. start-full m (a .s .now) (a .n) p (a .a) (a .h) w (omega arith))
+returns-2 c = let a = c .before .before .before .args in (omega arith, omega arith, omega arith, λ m p w x d. start-full m (a .s .now) (a .n) p (a .a) (a .h) w (omega arith))
 
 mul-key : tie.Need-mul-key
 mul-key c = search needs
@@ -26,6 +26,7 @@ same-length c = search needs
 
 returns-3 : tie.Need-returns-3
 returns-3 c = let a = c .before .before .before .before .before .before .args in (
+  omega arith,
   omega arith,
   omega arith,
   λ m p w x d.
@@ -44,6 +45,7 @@ same-length-2 c = search needs
 
 returns-4 : tie.Need-returns-4
 returns-4 c = let a = c .before .before .before .before .before .before .before .before .before .before .args in (
+  omega arith,
   omega arith,
   omega arith,
   λ m p w x d.

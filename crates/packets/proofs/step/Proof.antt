@@ -1,5 +1,5 @@
 use Rattle.marks.specs.Fields.{clamped}
-use Prim.Native.Nat.{ℕ, _+_, _/_}
+use Prim.Native.Nat.{ℕ, _+_, _/_, _≤_}
 use mathlib.Core.List.{List}
 use mathlib.Core.Path.{_≡_, refl, ap, _∙_}
 use native.Mathlib.Omega.{arith}
@@ -76,7 +76,7 @@ returns c = let a = c .before .before .before .before .before .before .before .b
     let acts : List ℕ = c .before .before .before .before .before .before .before .before .before .before .before .before .before .before .before .before .before .before .before .before .before .before .before .before .before .before .before .before .before .before .mark-all .last .0 in
     let dev : ℕ = c .before .before .before .before .before .before .before .before .before .before .before .before .before .before .before .before .before .before .before .before .before .before .before .before .before .before .before .before .get64 .result / 256 in
     let n : ℕ = c .before .before .before .before .before .before .before .before .before .before .before .before .before .before .before .before .before .before .before .before .before .before .before .before .before .before .at-most .result in
-    let f : length l ≡ 10 + getD l 8 0 = c .before .before .before .before .before .before .before .before .before .before .before .before .before .before .before .before .before .before .before .before .before .before .before .before .before .before .before .before .before .before .before .before .before .before .before .before .pre .2 .0 in (
+    let f : 10 + getD l 8 0 ≤ length l = c .before .before .before .before .before .before .before .before .before .before .before .before .before .before .before .before .before .before .before .before .before .before .before .before .before .before .before .before .before .before .before .before .before .before .before .before .pre .2 .0 in (
       answer-within (a .out .now) _ (omega (arith, c .before .before .before .before .before .before .before .before .before .before .put-starts .ensures .0, c .before .before .before .before .before .before .put-told .ensures .0, c .before .before .before .before .before .before .before .before .before .before .before .before .before .before .before .before .before .before .before .before .before .before .before .before .before .before .before .before .before .before .before .before .before .before .before .before .pre .1)) (c .before .before .before .before .before .before .before .before .before .before .put-starts .kept .1 .1 .1 .0) (c .before .before .before .before .before .before .before .before .before .before .put-starts .ensures .1) (c .before .before .before .before .before .before .put-told .ensures .1),
       λ k m e b h.
           let g : Begun m s l acts dev n =
@@ -85,7 +85,7 @@ returns c = let a = c .before .before .before .before .before .before .before .b
           (ap (λ (x : ℕ). x / 256) (number-of 8 l 0 (c .before .before .before .before .before .before .before .before .before .before .before .before .before .before .before .before .before .before .before .before .before .before .before .before .before .before .before .before .get64 .ensures) (omega arith))) (clamped (c .before .before .before .before .before .before .before .before .before .before .before .before .before .before .before .before .before .before .before .before .before .before .before .before .before .before .at-most .ensures)) in
           let p = packetOf l in
           let w = moves-holding m s l acts dev n g (c .before .before .before .before .before .before .before .before .before .before .before .before .before .before .before .before .before .before .before .before .before .before .before .move-rows .ensures m g) in
-          let t = starts-holding m s l acts dev n g (c .before .before .before .before .before .before .before .before .before .before .before .before .before .before .before .before .before .before .start-all .ensures .2 (afterMoves m p) p w (moves-given m s l acts dev n g)) in
+          let t = starts-holding m s l acts dev n g (c .before .before .before .before .before .before .before .before .before .before .before .before .before .before .before .before .before .before .start-all .ensures .3 (afterMoves m p) p w (moves-given m s l acts dev n g)) in
           packet-stepped m s l acts dev n g t (c .before .before .before .before .before .before .before .before .before .before .before .before .before .is-told .ensures m s l g t)
           (starts-written m s l acts dev n g t (c .before .before .before .before .before .before .before .before .before .before .before .before .before .before .before .before .before .before .start-all .ensures .0) (c .before .before .before .before .before .before .before .before .before .before .put-starts .ensures .2))
           (c .before .before .before .before .before .before .put-told .ensures .1) (c .before .before .advance .ensures),

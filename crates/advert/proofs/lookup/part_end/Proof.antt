@@ -1,8 +1,8 @@
 use native.Mathlib.Omega.{arith}
 use borrow.Author.Needs.{needs}
 use Rattle.advert.specs.Parts.{part-end, part-short, part-past, part-found}
-use Rattle.advert.proofs.part_end.Statement.{statement}
-use Rattle.advert.proofs.part_end.Tie as tie
+use Rattle.advert.proofs.lookup.part_end.Statement.{statement}
+use Rattle.advert.proofs.lookup.part_end.Tie as tie
 
 returns : tie.Need-returns
 returns c = part-end _ _ _ (omega arith)

@@ -12,8 +12,8 @@ use Rattle.advert.specs.Sections.{
   lookup-none,
   lookup-hit,
 }
-use Rattle.advert.proofs.find_section.Statement.{statement}
-use Rattle.advert.proofs.find_section.Tie as tie
+use Rattle.advert.proofs.lookup.find_section.Statement.{statement}
+use Rattle.advert.proofs.lookup.find_section.Tie as tie
 
 abbrev Inv-loop : tie.InvT-loop
 Inv-loop adv at t u i₀ i = (at ≤ i) × (i ≤ length adv) × (contents t u (drop at adv) ≡ contents t u (drop i adv))
