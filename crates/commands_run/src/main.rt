@@ -133,7 +133,7 @@ fn perform(o: &[u8], s: &mut [u8]) {
 
 fn line(text: &[u8], s: &mut [u8]) {
     let mut octets = [0u8; 300];
-    let w = lines::take_text(text, &mut octets);
+    let w = reader::take_text(text, &mut octets);
     match w {
         Wrote::Done(n) => {
             if n <= 300 {

@@ -5,6 +5,7 @@ pub mod Ends
 pub mod Turns
 pub mod Texts
 pub mod Replays
+pub mod Takes
 pub mod Keeps
 pub mod Loop
 pub mod Bounds

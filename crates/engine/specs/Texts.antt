@@ -17,7 +17,7 @@ use Rattle.laws.specs.Loops.{every}
 use Rattle.octets.specs.Little.{isOctet}
 use Rattle.lines.specs.Hex.{isText, octetsIn}
 use Rattle.lines.specs.Frame.{frame-most, isFrame, mostFrame}
-use Rattle.lines.specs.Answers.{takeText, afterWrite, take-read}
+use Rattle.reader.specs.Answers.{takeText, take-read}
 use Rattle.lines.specs.declared.Refusal.{Refusal}
 use Rattle.lines.specs.declared.Wrote.{Wrote}
 use Rattle.lines.specs.declared.Wrote.the-variants.{Done, Refused}
@@ -34,11 +34,11 @@ tail l k = take-all (length l - k) (drop k l) (simp length-drop (omega arith))
 pub read-front : (out ys : List ℕ) (n : ℕ) → n ≡ length ys → take n (put out 0 ys) ≡ ys
 read-front out ys n e = ap (λ (k : ℕ). take k (put out 0 ys)) e ∙ take-put out 0 ys (omega arith)
 
-read-none : (raw : List ℕ) → isFrame raw ≡ false → readRaw raw ≡ none
+pub read-none : (raw : List ℕ) → isFrame raw ≡ false → readRaw raw ≡ none
 unfolding readRaw
 read-none raw e = pick-false (some (frameOf raw)) none (and-not-right (every isOctet raw) (isFrame raw) e)
 
-long-frame : (raw : List ℕ) → mostFrame < length raw → isFrame raw ≡ false
+pub long-frame : (raw : List ℕ) → mostFrame < length raw → isFrame raw ≡ false
 long-frame raw h = go (isFrame raw) refl
   where
     go : (t : Bool) → isFrame raw ≡ t → t ≡ false

@@ -1,4 +1,4 @@
-// Runs vectors through the crate lines, one line of output for each: the line, or the refusal's number (document 01,
+// Runs vectors through the crates lines and reader, one line of output for each: the line, or the refusal's number (document 01,
 // Lines, Refusal numbers, A session in full). What it must write stands in stdout, which is written from the document
 // by hand.
 use lines::Refusal;
@@ -78,8 +78,26 @@ fn show_frame(label: &[u8], octets: &[u8; 263], w: Wrote) {
         Wrote::Refused(r) => {
             io::write_all(1, label);
             show_number(r);
-            show_changed(octets, 0);
         }
+    }
+}
+
+// The first n octets where they are a frame's.
+fn frame_of(octets: &[u8], n: usize) -> Wrote {
+    if n <= octets.len() {
+        if lines::is_frame(&octets[..n]) {
+            return Wrote::Done(n);
+        }
+    }
+    Wrote::Refused(Refusal::NotLine)
+}
+
+// A text read as the line of a frame.
+fn read_frame(text: &[u8], octets: &mut [u8]) -> Wrote {
+    let w = reader::take_text(text, octets);
+    match w {
+        Wrote::Done(n) => frame_of(octets, n),
+        Wrote::Refused(r) => Wrote::Refused(r),
     }
 }
 
@@ -90,7 +108,7 @@ fn marked_frame() -> [u8; 263] {
 // A line read, and its octets written again.
 fn show_read(label: &[u8], text: &[u8]) {
     let mut octets = marked_frame();
-    let w = lines::read_line(text, &mut octets);
+    let w = read_frame(text, &mut octets);
     show_frame(label, &octets, w);
 }
 
@@ -133,10 +151,10 @@ fn text_again(octets: &[u8], n: usize) {
 
 fn take_into(text: &[u8], octets: &mut [u8]) {
     mark(octets);
-    let w = lines::take_text(text, octets);
+    let w = reader::take_text(text, octets);
     match w {
         Wrote::Done(n) => text_again(octets, n),
-        Wrote::Refused(r) => show_answer(Wrote::Refused(r), octets),
+        Wrote::Refused(r) => show_number(r),
     }
 }
 

@@ -5,23 +5,14 @@ use Prim.Native.Nat.{ℕ, suc, _+_, _-_, _*_, _≤_, _<_}
 use mathlib.Core.Path.{_≡_, sym, ap, _∙_}
 use mathlib.Core.Bool.{Bool, true, false}
 use mathlib.Core.List.{List, [], _∷_}
-use native.Mathlib.Numerals.{add-one}
 use native.Mathlib.Omega.{arith}
 use borrow.Author.Tests.{lt-ltb, le-ltb, eq-eqb, ne-eqb}
 use lib.Dec.{ltb, eqb}
-use lib.ListN.{length, take, drop, getD, set, replicate, length-drop, drop-of-length-le}
-use lib.Seq.{drop-cons}
+use lib.ListN.{length, take, drop, getD, set}
 use Rattle.laws.specs.Tests.{pick}
 use Rattle.laws.specs.Put.{put, set-put, length-put}
-use Rattle.lines.specs.Hex.{lf, octetsIn}
-use Rattle.lines.specs.Answers.{takeText, afterWrite}
-use Rattle.lines.specs.declared.Wrote.{Wrote}
 use Rattle.model.specs.Block.{padTo}
 use Rattle.model.specs.Layout.{blockSize, countAt, handleAt, headSize, lineRow, monitorSize, monitorsAt, mostMonitors, mostPairs, pairSize, pairsAt}
-
--- the octets of a line's text in 72 octets with zeros behind them; zeros alone where it is no text or holds more
-unfoldable pub lineIn : List ℕ → List ℕ
-lineIn t = afterWrite (takeText t lineRow) (replicate lineRow 0) (octetsIn t)
 
 -- A1: the row of its handle, where that is one
 unfoldable pub storedMonitor : List ℕ → List ℕ → List ℕ
@@ -43,11 +34,6 @@ stored s l =
 unfoldable pub storedAll : List ℕ → List (List ℕ) → List ℕ
 storedAll s [] = s
 storedAll s (r ∷ rs) = storedAll (stored s (padTo lineRow r)) rs
-
--- the characters up to the first LF, with it; all of them where there is none
-unfoldable pub lineLength : List ℕ → ℕ
-lineLength [] = 0
-lineLength (c ∷ t) = pick (eqb c lf) 1 (suc (lineLength t))
 
 -- the branches of the code
 
@@ -97,59 +83,3 @@ pub name-other : (s l : List ℕ) → (getD l 0 0 ≡ 0xA0 → ⊥) → (getD l 
     → s ≡ stored s l
 unfolding stored pick
 name-other s l a b c = rw (ne-eqb (getD l 0 0) 0xA0 a, ne-eqb (getD l 0 0) 0xA1 b, ne-eqb (getD l 0 0) 0xA2 c)
-
--- a text read into 72 octets of 0, and stored
-pub text-stored : (s t : List ℕ) {w : Wrote} {l u : List ℕ}
-    → (w ≡ takeText t (length {A = ℕ} (replicate lineRow 0))) × (l ≡ afterWrite w (replicate lineRow 0) (octetsIn t))
-    → u ≡ stored s l
-    → u ≡ stored s (lineIn t)
-unfolding lineIn
-text-stored s t p q = q ∙ ap (stored s) (p .1)
-    ∙ ap (λ (w : Wrote). stored s (afterWrite w (replicate lineRow 0) (octetsIn t))) (p .0)
-
--- lengths of lines
-
-pub line-most : (t : List ℕ) → lineLength t ≤ length t
-unfolding lineLength pick
-line-most [] = omega arith
-line-most (c ∷ t) = go (eqb c lf) (line-most t)
-  where
-    go : (b : Bool) → lineLength t ≤ length t → pick b 1 (suc (lineLength t)) ≤ suc (length t)
-    go true h = omega arith
-    go false h = omega arith
-
-pub line-least : (t : List ℕ) → 0 < length t → 0 < lineLength t
-unfolding lineLength pick
-line-least [] h = absurd (omega arith)
-line-least (c ∷ t) h = go (eqb c lf)
-  where
-    go : (b : Bool) → 0 < pick b 1 (suc (lineLength t))
-    go true = omega arith
-    go false = omega arith
-
-pub line-within : (t : List ℕ) (at : ℕ) → at ≤ length t → at + lineLength (drop at t) ≤ length t
-line-within t at h = let n : length (drop at t) ≡ length t - at =
-    length-drop at t in omega (arith, line-most (drop at t))
-
-pub line-further : (t : List ℕ) (at : ℕ) → at < length t → at < at + lineLength (drop at t)
-line-further t at h =
-    let n : length (drop at t) ≡ length t - at = length-drop at t in
-    let k : 0 < lineLength (drop at t) = line-least (drop at t) (omega arith) in
-    omega arith
-
--- the search for the end of a line: what is left at index i has the answer
-module _ (t : List ℕ) (at i : ℕ) (q : at + lineLength (drop at t) ≡ i + lineLength (drop i t)) where
-  pub end-here : i < length t → getD t i 0 ≡ lf → i + 1 ≡ at + lineLength (drop at t)
-  unfolding lineLength pick
-  end-here h e = sym (q ∙ rw (drop-cons t i 0 h, eq-eqb (getD t i 0) lf e))
-
-  pub end-later : i < length t → (getD t i 0 ≡ lf → ⊥)
-      → at + lineLength (drop at t) ≡ i + 1 + lineLength (drop (i + 1) t)
-  unfolding lineLength pick
-  end-later h e =
-      let z : i + suc (lineLength (drop (suc i) t)) ≡ i + 1 + lineLength (drop (suc i) t) = omega arith in
-      q ∙ rw (drop-cons t i 0 h, ne-eqb (getD t i 0) lf e, add-one i) (z ∙ rw (add-one i))
-
-  pub end-none : i ≡ length t → i ≡ at + lineLength (drop at t)
-  unfolding lineLength
-  end-none h = sym (q ∙ rw (drop-of-length-le t {i = i} (omega arith)) (omega arith))

@@ -1,14 +1,14 @@
 // Restore: the state that an image's text holds, read into a block of 4,761 octets (document 01, The image; refusal
 // 10). The lines are stored in one pass, whatever they hold: A0 at the start, A1 in the row of its handle, A2 behind
-// the pairs. Then the block is tested: the text is an image exactly if the block is sound and save writes this text
-// of it.
+// the pairs; the first piece that is no line of at most 72 octets ends it. Then the block is tested: the text is an
+// image exactly if the block is sound and save writes this text of it.
 use state::State;
 ghost use Prim.Native.Nat.{_+_, _*_, _≤_, _<_};
 ghost use mathlib.Core.Path.{_≡_};
 ghost use mathlib.Core.Bool.{true};
 ghost use mathlib.Core.List.{List};
 ghost use Prim.Native.Nat.{ℕ};
-ghost use lib.ListN.{length, drop};
+ghost use lib.ListN.{length};
 ghost use Rattle.laws.specs.Tests.{sames};
 ghost use Rattle.laws.specs.Loops.{each};
 ghost use Rattle.lines.specs.Hex.{textOf};
@@ -18,12 +18,10 @@ ghost use Rattle.model.specs.Types.{Model};
 ghost use Rattle.model.specs.Sound.{soundModel};
 ghost use Rattle.model.specs.Image.{imageText};
 ghost use Rattle.model.specs.Block.{padded};
-ghost use Rattle.restore.specs.Lines.{lineIn, storedMonitor, storedPair, stored, storedAll, lineLength};
-ghost use Rattle.restore.specs.Rows.{Row};
+ghost use Rattle.restore.specs.Lines.{storedMonitor, storedPair, stored, storedAll};
+ghost use Rattle.restore.specs.Rows.{Row, Placed};
 ghost use Rattle.restore.specs.Accept.{restores, restored, Read};
 ghost use Rattle.model.specs.Layout.{blockSize, lineRow, monitorSize, pairSize};
-
-const LF: u8 = 10;
 
 // An A1 row at the place of its handle.
 fn store_monitor(s: &mut [u8], row: &[u8])
@@ -71,32 +69,23 @@ fn store_line(s: &mut [u8], line: &[u8])
     }
 }
 
-// A line's text; one that is no text, or holds over 72 octets, is passed over.
-fn store_text(s: &mut [u8], text: &[u8])
-    requires { ⌜ length (now s) ≡ blockSize ⌝ }
-    ensures { λ _. ⌜ now (s .exit) ≡ stored (now (s .entry)) (lineIn (now (text .entry))) ⌝ }
+// The line at an index, read in one pass and stored: the answer is the index behind it, or the index itself where no
+// line of at most 72 octets stands there.
+fn store_text(s: &mut [u8], text: &[u8], at: usize) -> usize
+    requires { ⌜ (length (now s) ≡ blockSize) × (at ≤ length (now text)) ⌝ }
+    ensures { λ r. ⌜ Placed (now (text .entry)) at (now (s .entry)) (now (s .exit)) r ⌝ }
 {
     let mut line = [0u8; State::LINE_ROW];
-    lines::take_text(text, &mut line);
-    store_line(s, &line);
-}
-
-// Where the line that begins at an index ends: behind its LF, or at the end of the text.
-fn line_end(text: &[u8], at: usize) -> usize
-    requires { ⌜ at ≤ length (now text) ⌝ }
-    ensures { λ r. ⌜ r ≡ at + lineLength (drop at (now (text .entry))) ⌝ }
-{
-    let n = text.len();
-    let mut i = at;
-    while i < n {
-        if text[i] == LF {
-            return i + 1;
-        }
-        i += 1;
+    let k = reader::read_pairs(text, at, &mut line);
+    let e = at + 2 * k;
+    if reader::is_end(text, e) {
+        store_line(s, &line);
+        return e + 1;
     }
-    i
+    at
 }
 
+// The lines of a text, up to the first that cannot be stored.
 fn store_lines(s: &mut [u8], text: &[u8])
     requires { ⌜ length (now s) ≡ blockSize ⌝ }
     ensures { λ _. ⌜ ((rs : List (List ℕ)) → All Row rs → now (text .entry) ≡ each textOf rs → now (s .exit) ≡ storedAll (now (s .entry)) rs) ⌝ }
@@ -104,8 +93,10 @@ fn store_lines(s: &mut [u8], text: &[u8])
     let n = text.len();
     let mut at = 0;
     while at < n {
-        let e = line_end(text, at);
-        store_text(s, &text[at..e]);
+        let e = store_text(s, text, at);
+        if e == at {
+            return;
+        }
         at = e;
     }
 }

@@ -61,7 +61,7 @@ fn check(parts: &[u8])
 
 fn line(text: &[u8]) {
     let mut buffer = [0u8; 8192];
-    match lines::take_text(text, &mut buffer) {
+    match reader::take_text(text, &mut buffer) {
         Wrote::Done(n) => {
             if n <= 8192 {
                 check(&buffer[..n]);

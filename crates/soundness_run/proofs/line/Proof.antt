@@ -8,7 +8,7 @@ use Rattle.soundness_run.proofs.line.Statement.{statement}
 use Rattle.soundness_run.proofs.line.Tie as tie
 use Rattle.soundness_run.proofs.line.Reads as reads
 use Rattle.soundness_run.proofs.line.Lts as lts
-use Rattle.lines.proofs.take_text.Reads as take-text-reads
+use Rattle.reader.proofs.take_text.Reads as take-text-reads
 use Rattle.soundness_run.proofs.check.Reads as check-reads
 
 -- src/main.rt:64:34
