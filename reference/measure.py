@@ -65,7 +65,7 @@ def nanoseconds(words, image, text, folder):
         with open(os.path.join(folder, name), "w") as f:
             f.write(content)
     before = resource.getrusage(resource.RUSAGE_CHILDREN).ru_utime
-    subprocess.run(words + [os.path.join(folder, "image"), os.path.join(folder, "journal")], stdout=subprocess.DEVNULL, check=True)
+    subprocess.run(words + [os.path.join(folder, "image"), os.path.join(folder, "journal")], stdout=subprocess.DEVNULL, stderr=subprocess.DEVNULL, check=True)
     return (resource.getrusage(resource.RUSAGE_CHILDREN).ru_utime - before) * 1e9
 
 

@@ -6,8 +6,8 @@ use Rattle.standby.proofs.run.Tie as tie
 use Rattle.standby.proofs.run.Reads as reads
 use Rattle.standby.proofs.run.Lts as lts
 use Rattle.libc.proofs.close.Reads as close-reads
-use Rattle.standby.proofs.open.Reads as open-reads
-use Rattle.standby.proofs.read_all.Reads as read-all-reads
+use Rattle.standby.proofs.files.open.Reads as open-reads
+use Rattle.standby.proofs.files.read_all.Reads as read-all-reads
 use Rattle.standby.proofs.stand_by.Reads as stand-by-reads
 
 -- src/main.rt:339:9

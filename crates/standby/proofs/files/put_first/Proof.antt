@@ -1,11 +1,11 @@
 use native.Mathlib.Omega.{arith}
 use lib.ListN.{length-take}
 use borrow.Author.Needs.{needs}
-use Rattle.standby.proofs.put_first.Statement.{statement}
-use Rattle.standby.proofs.put_first.Tie as tie
-use Rattle.standby.proofs.put_first.Reads as reads
-use Rattle.standby.proofs.put_first.Lts as lts
-use Rattle.standby.proofs.put.Reads as put-reads
+use Rattle.standby.proofs.files.put_first.Statement.{statement}
+use Rattle.standby.proofs.files.put_first.Tie as tie
+use Rattle.standby.proofs.files.put_first.Reads as reads
+use Rattle.standby.proofs.files.put_first.Lts as lts
+use Rattle.standby.proofs.files.put.Reads as put-reads
 
 -- src/main.rt:55:9
 returns : tie.Need-returns

@@ -3,11 +3,11 @@ use Prim.Native.Nat.{_-_, _≤_, _<_}
 use lib.ListN.{length}
 use native.Mathlib.Omega.{arith}
 use borrow.Author.Needs.{needs}
-use Rattle.standby.proofs.read_all.Statement.{statement}
-use Rattle.standby.proofs.read_all.Tie as tie
-use Rattle.standby.proofs.read_all.Reads as reads
-use Rattle.standby.proofs.read_all.Lts as lts
-use Rattle.standby.proofs.read_some.Reads as read-some-reads
+use Rattle.standby.proofs.files.read_all.Statement.{statement}
+use Rattle.standby.proofs.files.read_all.Tie as tie
+use Rattle.standby.proofs.files.read_all.Reads as reads
+use Rattle.standby.proofs.files.read_all.Lts as lts
+use Rattle.standby.proofs.files.read_some.Reads as read-some-reads
 
 abbrev Inv-loop : tie.InvT-loop
 Inv-loop fd name text₀ most held₀ text held = (held ≤ length text₀) × (length text ≡ length text₀)
