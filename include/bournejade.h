@@ -23,8 +23,8 @@
  * examples/gateway does it, docs/FORMATS.md has the formats octet by octet.
  *
  * What a call needs. Octets of stack, measured over journals (reference/stack): write_line none, save 144, submit
- * 376, submit_line 760, replay and replay_to 904, begin 4,808, restore 14,768. No memory beside that and the
- * caller's buffers: a state of 4,761 octets, outputs of 2,880, 9,770 and 527. The code is 22 KB and reentrant. By the
+ * 520, submit_line 1,064, replay and replay_to 1,176, begin 4,808, restore 14,768. No memory beside that and the
+ * caller's buffers: a state of 4,761 octets, outputs of 2,880, 9,770 and 527. The code is 21 KB and reentrant. By the
  * System V calling convention it uses the general registers and those of SSE2 (xmm0 to xmm15), no x87, MMX or AVX: a
  * kernel or an interrupt handler saves these first. Every call's work is bounded, that of the replays by the length
  * of the journal.
