@@ -144,6 +144,14 @@ uint8_t bournejade_replay(bournejade_state *state, const uint8_t *journal, size_
 uint8_t bournejade_replay_to(bournejade_state *state, uint32_t last, const uint8_t *journal, size_t journal_size,
                              uint8_t *out, size_t out_size, size_t *taken, size_t *wrote);
 
+/* What a match costs, for a budget of work per packet: matches a pattern condition, as command 03 gives it (a count, then
+ * patterns), against an advertisement and a scan response (size 0 where there is none). Returns 1 if it matches and 0
+ * if not. *comparisons is how many octets of the condition were compared with octets of the two texts, AD types
+ * included: at most 450 for a condition of at most 64 octets and an advertisement of at most 31, at most 900 with a
+ * scan response of at most 31. Needs no state, and is never refused. */
+uint8_t bournejade_match(const uint8_t *condition, size_t condition_size, const uint8_t *adv, size_t adv_size,
+                         const uint8_t *scan, size_t scan_size, size_t *comparisons);
+
 #ifdef __cplusplus
 }
 #endif

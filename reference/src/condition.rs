@@ -47,14 +47,14 @@ pub fn matches(kind: u8, condition: &[u8], packet: &Packet, fault: Fault) -> boo
 }
 
 /// A pattern: AD type, start byte, octets.
-struct Pattern<'a> {
-    ad_type: u8,
-    start: usize,
-    octets: &'a [u8],
+pub struct Pattern<'a> {
+    pub ad_type: u8,
+    pub start: usize,
+    pub octets: &'a [u8],
 }
 
 /// Type 1: a count of at least 1, then that many patterns, filling the condition exactly.
-fn patterns(condition: &[u8]) -> Option<Vec<Pattern<'_>>> {
+pub fn patterns(condition: &[u8]) -> Option<Vec<Pattern<'_>>> {
     let (count, mut rest) = condition.split_first()?;
     if *count == 0 {
         return None;

@@ -146,6 +146,12 @@ faults! {
     ;
     // T-06: a condition matches if either text does, whichever is looked at first.
     ScanFirst: "the scan response is looked at first",
+    // T-08.
+    DifferenceNotCounted: "the octet that differs is not counted",
+    TypeNotCounted: "the AD type is not counted",
+    CountsOn: "counting goes on after the match",
+    ShortCounted: "octets of a structure that is too short are counted",
+    PatternsInTurn: "all patterns go over the advertisement, then all over the scan response",
 }
 
 impl Fault {

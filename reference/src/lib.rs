@@ -7,6 +7,7 @@ pub mod cases;
 pub mod command;
 pub mod compare;
 pub mod condition;
+pub mod cost;
 pub mod coverage;
 pub mod engine;
 pub mod event;

@@ -1,6 +1,7 @@
 //! The command line of the reference.
 
-use reference::{calls, cases, compare, fault::Fault, history::History, program, timers::Timers};
+use reference::fault::{Fault, VECTOR_FAULTS};
+use reference::{calls, cases, compare, cost, history::History, program, timers::Timers};
 use std::io::{self, Write};
 use std::path::Path;
 use std::process::ExitCode;
@@ -14,6 +15,8 @@ reference calls DIR SEED COUNT      writes DIR/stdin and DIR/stdout: COUNT scrip
 reference calls DIR SEED COUNT N    the same scripts, and what wrong build N gives
 reference cases DIR SEED COUNT      writes COUNT cases: DIR/N.image, N.journal, N.expected
 reference vectors KIND SEED COUNT   COUNT vectors, KIND: lines frames conditions sections commands images means
+reference costs SEED COUNT          COUNT vectors of the cost of a match
+reference costs SEED COUNT N        what wrong build N of those that only vectors notice gives
 reference coverage SEED COUNT       how often COUNT scripts reach each rule, status and refusal
 reference agree SEED COUNT          compares the two engines on COUNT sessions and COUNT scripts
 reference faults SEED COUNT         how many of COUNT scripts notice each wrong build
@@ -57,6 +60,14 @@ fn run(arguments: &[&str]) -> Result<Vec<u8>, (u8, String)> {
         ["vectors", kind, seed, count] => {
             let rows = cases::vectors(kind, number(seed)?, number(count)? as usize).ok_or_else(usage)?;
             Ok((rows.join("\n") + "\n").into_bytes())
+        }
+        ["costs", seed, count] => {
+            Ok((cost::costs(number(seed)?, number(count)?, Fault::None).join("\n") + "\n").into_bytes())
+        }
+        ["costs", seed, count, fault] => {
+            let place = (number(fault)? as usize).checked_sub(1).ok_or_else(usage)?;
+            let (fault, _) = VECTOR_FAULTS.get(place).ok_or_else(usage)?;
+            Ok((cost::costs(number(seed)?, number(count)?, *fault).join("\n") + "\n").into_bytes())
         }
         ["coverage", seed, count] => {
             let rules = compare::reached(number(seed)?, number(count)?);

@@ -102,7 +102,7 @@ pub address-length : (condition : List ℕ) → wellFormed 4 condition ≡ true 
 address-length condition e = address-bounds condition (sym (well-address condition) ∙ e) .0
 
 -- a part takes four octets or more
-extent-parts : (xs : List ℕ) (k : ℕ) → 4 * length (partsFrom 3 xs k) ≤ extent (partsFrom 3 xs k)
+pub extent-parts : (xs : List ℕ) (k : ℕ) → 4 * length (partsFrom 3 xs k) ≤ extent (partsFrom 3 xs k)
 unfolding partsFrom extent when
 extent-parts [] k = omega arith
 extent-parts (x ∷ xs) (suc k) = extent-parts xs k

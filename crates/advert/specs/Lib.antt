@@ -7,4 +7,6 @@ pub mod Uuid
 pub mod Address
 pub mod Condition
 pub mod Laws
+pub mod Cost
+pub mod CostMost
 pub mod Examples

@@ -1,13 +1,16 @@
 // Whether a condition is well formed, and whether a packet matches it (document 01, Conditions). Every match reads the
-// advertisement and the scan response through one lookup, next_section, and compares octets by one function, holds.
+// advertisement and the scan response through one lookup, next_section, and compares octets by one function, compare.
+mod cost;
 mod lookup;
+mod patterns;
 
-ghost use Prim.Native.Nat.{_+_, _*_, _≤_, _<_};
+ghost use Prim.Native.Nat.{_+_, _*_, _<_};
 ghost use mathlib.Core.Path.{_≡_};
 ghost use lib.ListN.{length};
 ghost use Rattle.laws.specs.Loops.{some};
 ghost use Rattle.advert.specs.Either.{both};
-ghost use Rattle.advert.specs.Pattern.{holdsAt, patternsForm, patternMeets, patternsMeet};
+ghost use Rattle.advert.specs.Cost.{matchCost, wrapped};
+ghost use Rattle.advert.specs.Pattern.{patternsMeet};
 ghost use Rattle.advert.specs.Uuid.{listed, uuidForm, uuidMeets};
 ghost use Rattle.advert.specs.Address.{addressForm, addressMeets};
 ghost use Rattle.advert.specs.Condition.{formOf, formStatus, meets, wellFormed};
@@ -20,102 +23,10 @@ pub enum Form {
     Unknown,
 }
 
-// What is said of a packet and a condition.
+// What is said of a packet and a pattern condition, with how many comparisons it took.
 pub struct Match {
     pub found: bool,
-}
-
-// Whether the text holds these octets at that index.
-fn holds(text: &[u8], at: usize, octets: &[u8]) -> bool
-    ensures { λ r. ⌜ r ≡ holdsAt at (now (octets .entry)) (now (text .entry)) ⌝ }
-{
-    let n = octets.len();
-    if text.len() < n {
-        return false;
-    }
-    if text.len() - n < at {
-        return false;
-    }
-    let mut j = 0;
-    while j < n {
-        if text[at + j] != octets[j] {
-            return false;
-        }
-        j += 1;
-    }
-    true
-}
-
-// Whether some section of AD type t, of either text, holds the octets at the start byte.
-fn some_holds<'a, 'b>(adv: &'a [u8], scan: &'a [u8], t: u8, start: usize, octets: &'b [u8]) -> bool
-    ensures { λ r. ⌜ r ≡ some (holdsAt start (now (octets .entry))) (both t t (now (adv .entry)) (now (scan .entry))) ⌝ }
-{
-    let mut second = false;
-    let mut at = 0;
-    loop {
-        let part = lookup::next_section(adv, scan, &mut second, &mut at, t, t);
-        if part.len() == 0 {
-            return false;
-        }
-        if holds(&part[1..], start, octets) {
-            return true;
-        }
-    }
-}
-
-// Whether either text matches the pattern: AD type, start byte, octets.
-fn pattern_meets<'a, 'b>(pattern: &'b [u8], adv: &'a [u8], scan: &'a [u8]) -> bool
-    requires { ⌜ 2 ≤ length (now pattern) ⌝ }
-    ensures { λ r. ⌜ r ≡ patternMeets (now (adv .entry)) (now (scan .entry)) (now (pattern .entry)) ⌝ }
-{
-    let t = pattern[0];
-    let start = octets::wide(pattern[1]);
-    some_holds(adv, scan, t, start, &pattern[2..])
-}
-
-// Whether either text matches some pattern of the condition.
-fn patterns_meet<'a, 'b>(condition: &'b [u8], adv: &'a [u8], scan: &'a [u8]) -> bool
-    ensures { λ r. ⌜ r ≡ patternsMeet (now (condition .entry)) (now (adv .entry)) (now (scan .entry)) ⌝ }
-{
-    let mut i = 1;
-    while i < condition.len() {
-        let e = lookup::part_end(condition, i, 3);
-        if e == i {
-            return false;
-        }
-        let b = i + 1;
-        if pattern_meets(&condition[b..e], adv, scan) {
-            return true;
-        }
-        i = e;
-    }
-    false
-}
-
-// Whether the condition is a count of at least 1 and that many patterns.
-fn patterns_form(condition: &[u8]) -> bool
-    ensures { λ r. ⌜ r ≡ patternsForm (now (condition .entry)) ⌝ }
-{
-    if condition.len() == 0 {
-        return false;
-    }
-    let mut left = condition[0];
-    if left == 0 {
-        return false;
-    }
-    let mut i = 1;
-    while i < condition.len() {
-        let next = lookup::part_end(condition, i, 3);
-        if next == i {
-            return false;
-        }
-        if left == 0 {
-            return false;
-        }
-        left -= 1;
-        i = next;
-    }
-    left == 0
+    pub comparisons: usize,
 }
 
 // Whether the list of UUIDs has this one, at a multiple of its size.
@@ -126,7 +37,8 @@ fn lists(content: &[u8], uuid: &[u8]) -> bool
     let size = uuid.len();
     let mut i = 0;
     while size <= content.len() - i {
-        if holds(content, i, uuid) {
+        let c = patterns::compare(content, i, uuid);
+        if c.same {
             return true;
         }
         i += size;
@@ -141,13 +53,17 @@ fn some_lists<'a, 'b>(adv: &'a [u8], scan: &'a [u8], t: u8, u: u8, uuid: &'b [u8
 {
     let mut second = false;
     let mut at = 0;
+    let mut seen = 0;
     loop {
-        let part = lookup::next_section(adv, scan, &mut second, &mut at, t, u);
+        let part = lookup::next_section(adv, scan, &mut second, &mut at, &mut seen, t, u);
         if part.len() == 0 {
             return false;
         }
         if lists(&part[1..], uuid) {
             return true;
+        }
+        if !lookup::has_more(adv, scan, second, at) {
+            return false;
         }
     }
 }
@@ -198,8 +114,8 @@ fn address_meets(condition: &[u8], address_type: u8, address: &[u8]) -> bool
         return false;
     }
     let t = condition[0];
-    let same = holds(condition, 1, address);
-    (t == address_type) & same
+    let c = patterns::compare(condition, 1, address);
+    (t == address_type) & c.same
 }
 
 // The status of each answer on a condition's form; 0 is success.
@@ -238,7 +154,7 @@ fn well_formed(kind: u8, condition: &[u8]) -> bool
     ensures { λ r. ⌜ r ≡ wellFormed kind (now (condition .entry)) ⌝ }
 {
     if kind == 1 {
-        return patterns_form(condition);
+        return patterns::patterns_form(condition);
     }
     if kind == 2 {
         return uuid_form(condition);
@@ -258,21 +174,50 @@ pub fn match_packet<'a, 'b, 'c>(
     address: &'c [u8],
     adv: &'a [u8],
     scan: &'a [u8],
-) -> Match
-    ensures { λ r. ⌜ r .found
-        ≡ meets kind (now (condition .entry)) «address_type» (now (address .entry)) (now (adv .entry)) (now (scan .entry)) ⌝ }
+) -> bool
+    ensures { λ r. ⌜ r ≡ meets kind (now (condition .entry)) «address_type» (now (address .entry)) (now (adv .entry)) (now (scan .entry)) ⌝ }
 {
     if kind == 1 {
-        let found = patterns_meet(condition, adv, scan);
-        return Match { found: found };
+        return patterns::patterns_meet(condition, adv, scan);
     }
     if kind == 2 {
-        let found = uuid_meets(condition, adv, scan);
-        return Match { found: found };
+        return uuid_meets(condition, adv, scan);
     }
     if kind == 4 {
-        let found = address_meets(condition, address_type, address);
-        return Match { found: found };
+        return address_meets(condition, address_type, address);
     }
-    Match { found: false }
+    false
+}
+
+// Whether either text matches some pattern of the condition. The count is the remainder by 2 to the 64th: no condition that is kept and
+// no packet comes near it.
+pub fn match_cost<'a, 'b>(condition: &'b [u8], adv: &'a [u8], scan: &'a [u8]) -> Match
+    ensures { λ r. ⌜ (r .found ≡ patternsMeet (now (condition .entry)) (now (adv .entry)) (now (scan .entry)))
+        × (r .comparisons ≡ wrapped (matchCost (now (condition .entry)) (now (adv .entry)) (now (scan .entry)))) ⌝ }
+{
+    let mut count = 0;
+    let mut i = 1;
+    while i < condition.len() {
+        let e = lookup::part_end(condition, i, 3);
+        if e == i {
+            return Match {
+                found: false,
+                comparisons: count,
+            };
+        }
+        let b = i + 1;
+        let m = cost::pattern_cost(&condition[b..e], adv, scan);
+        count = std::num::wrapping_add_usize(count, m.comparisons);
+        if m.found {
+            return Match {
+                found: true,
+                comparisons: count,
+            };
+        }
+        i = e;
+    }
+    Match {
+        found: false,
+        comparisons: count,
+    }
 }

@@ -1,24 +1,18 @@
 // The lookup of AD sections in a packet's two texts, the advertisement and the scan response (document 01, Conditions; document 02,
 // T-06). It hands back the part found, a part of whichever text holds it. Both texts stand at one lifetime, here and in every caller.
 // No other function of the project walks AD structures; the patterns of a condition have the same layout and use part_end.
-ghost use Prim.Native.Nat.{_+_, _-_, _≤_};
+ghost use Prim.Native.Nat.{_≤_};
 ghost use mathlib.Core.Path.{_≡_};
-ghost use lib.ListN.{length, take, drop};
+ghost use mathlib.Core.Bool.{false};
+ghost use lib.ListN.{length};
 ghost use Rattle.advert.specs.Parts.{PartAt};
 ghost use Rattle.advert.specs.Sections.{Lookup};
-ghost use Rattle.advert.specs.Either.{textOf, Found, Handed};
+ghost use Rattle.advert.specs.Either.{textOf, rest, Handed};
 
-// Where the content of a section stands: from index from on, to before index to.
+// Where the content of a section stands: from index from on, to before index to; and how many AD types were looked at.
 struct Section {
     found: bool,
-    from: usize,
-    to: usize,
-}
-
-// The same in two texts: in the advertisement or, where second, in the scan response.
-struct Place {
-    found: bool,
-    second: bool,
+    seen: usize,
     from: usize,
     to: usize,
 }
@@ -45,23 +39,27 @@ pub(super) fn part_end(text: &[u8], i: usize, least: usize) -> usize
 // The first section of AD type t or u at index at or later of one text.
 fn find_section(adv: &[u8], at: usize, t: u8, u: u8) -> Section
     requires { ⌜ at ≤ length (now adv) ⌝ }
-    ensures { λ r. ⌜ Lookup t u (now (adv .entry)) at (r .found) (r .from) (r .to) ⌝ }
+    ensures { λ r. ⌜ Lookup t u (now (adv .entry)) at (r .found) (r .seen) (r .from) (r .to) ⌝ }
 {
     let mut i = at;
+    let mut seen = 0;
     while i < adv.len() {
         let e = part_end(adv, i, 1);
         if e == i {
             return Section {
                 found: false,
+                seen: seen,
                 from: i,
                 to: i,
             };
         }
         let x = adv[i + 1];
+        seen += 1;
         let hit = (x == t) | (x == u);
         if hit {
             return Section {
                 found: true,
+                seen: seen,
                 from: i + 2,
                 to: e,
             };
@@ -70,74 +68,67 @@ fn find_section(adv: &[u8], at: usize, t: u8, u: u8) -> Section
     }
     Section {
         found: false,
+        seen: seen,
         from: i,
         to: i,
     }
 }
 
-// The same in both texts, from a place on: the advertisement first.
-fn find_either(adv: &[u8], scan: &[u8], second: bool, at: usize, t: u8, u: u8) -> Place
-    requires { ⌜ at ≤ length (textOf second (now adv) (now scan)) ⌝ }
-    ensures { λ r. ⌜ Found t u (now (adv .entry)) (now (scan .entry)) second at (r .found) (r .second) (r .from) (r .to) ⌝ }
+// The text of a place: the scan response where second, else the advertisement.
+fn text_of<'a>(adv: &'a [u8], scan: &'a [u8], second: bool) -> &'a [u8]
+    ensures { λ r. ⌜ now r ≡ textOf second (now (adv .entry)) (now (scan .entry)) ⌝ }
 {
     if second {
-        let s = find_section(scan, at, t, u);
-        return Place {
-            found: s.found,
-            second: true,
-            from: s.from,
-            to: s.to,
-        };
+        return scan;
     }
-    let s = find_section(adv, at, t, u);
-    if s.found {
-        return Place {
-            found: true,
-            second: false,
-            from: s.from,
-            to: s.to,
-        };
-    }
-    let r = find_section(scan, 0, t, u);
-    Place {
-        found: r.found,
-        second: true,
-        from: r.from,
-        to: r.to,
-    }
+    adv
 }
 
-// The part of whichever text holds it.
-fn part_of<'a>(adv: &'a [u8], scan: &'a [u8], second: bool, from: usize, to: usize) -> &'a [u8]
-    requires { ⌜ (from ≤ to) × (to ≤ length (textOf second (now adv) (now scan))) ⌝ }
-    ensures { λ r. ⌜ now r ≡ take (to - from) (drop from (textOf second (now (adv .entry)) (now (scan .entry)))) ⌝ }
+// Whether octets are left at a place.
+pub(super) fn has_more(adv: &[u8], scan: &[u8], second: bool, at: usize) -> bool
+    ensures { λ r. ⌜ (r ≡ false → rest (now (adv .entry)) (now (scan .entry)) second at ≡ 0) ⌝ }
 {
     if second {
-        return &scan[from..to];
+        return at < scan.len();
     }
-    &adv[from..to]
+    (at < adv.len()) | (0 < scan.len())
 }
 
 // The lookup: the next section of AD type t or u, from its AD type octet on, a part of whichever text holds it, the
-// advertisement first. The place then stands after it. Where there is none the part is empty, and the place is left.
-pub(super) fn next_section<'a, 'b, 'c>(
+// advertisement first. The place then stands after it. Where there is none the part is empty, and the place is left. Says how many AD
+// types were looked at.
+pub(super) fn next_section<'a, 'b, 'c, 'd>(
     adv: &'a [u8],
     scan: &'a [u8],
     second: &'b mut bool,
     at: &'c mut usize,
+    seen: &'d mut usize,
     t: u8,
     u: u8,
 ) -> &'a [u8]
     requires { ⌜ now at ≤ length (textOf (now second) (now adv) (now scan)) ⌝ }
-    ensures { λ r. ⌜ Handed t u (now (adv .entry)) (now (scan .entry)) (now (second .entry)) (now (at .entry)) (now (second .exit)) (now (at .exit)) (now r) ⌝ }
+    ensures { λ r. ⌜ Handed t u (now (adv .entry)) (now (scan .entry)) (now (second .entry)) (now (at .entry)) (now (second .exit)) (now (at .exit)) (now (seen .exit)) (now r) ⌝ }
 {
-    let p = find_either(adv, scan, *second, *at, t, u);
-    if !p.found {
+    let text = text_of(adv, scan, *second);
+    let s = find_section(text, *at, t, u);
+    *seen = s.seen;
+    if s.found {
+        let from = s.from - 1;
+        let to = s.to;
+        *at = to;
+        return &text[from..to];
+    }
+    if *second {
         return &adv[0..0];
     }
-    let from = p.from - 1;
-    let to = p.to;
-    *second = p.second;
-    *at = to;
-    part_of(adv, scan, p.second, from, to)
+    let r = find_section(scan, 0, t, u);
+    *seen = s.seen + r.seen;
+    if r.found {
+        let from = r.from - 1;
+        let to = r.to;
+        *second = true;
+        *at = to;
+        return &scan[from..to];
+    }
+    &adv[0..0]
 }

@@ -89,7 +89,7 @@ fn answer<'a, 'b, 'c>(
     let f = advert::condition_form(kind, condition);
     let m = advert::match_packet(kind, condition, address_type, address, adv, scan);
     let n = number(f);
-    let line = [48 + n, sign(n, m.found), 10];
+    let line = [48 + n, sign(n, m), 10];
     io::write_all(1, &line);
 }
 

@@ -4,6 +4,8 @@
 ghost use mathlib.Core.Path.{_≡_};
 ghost use lib.ListN.{length};
 ghost use Rattle.laws.specs.Tests.{pick};
+ghost use Rattle.advert.specs.Cost.{matchCost, wrapped};
+ghost use Rattle.advert.specs.Pattern.{patternsMeet};
 ghost use Rattle.lines.specs.Answers.{writeLine, afterWrite};
 ghost use Rattle.lines.specs.Frame.{lineRoom};
 ghost use Rattle.lines.specs.Hex.{textOf};
@@ -240,4 +242,24 @@ pub extern "C" fn bournejade_replay_to(
 {
     let ran = engine::replay_to(state, last, journal, out);
     read_told(ran, taken, wrote)
+}
+
+// Matches a pattern condition, as command 03 gives it, against an advertisement and a scan response, empty where there is none: 1 or 0,
+// and how many comparisons it took.
+#[no_mangle]
+pub extern "C" fn bournejade_match<'a, 'b, 'c>(
+    condition: &'b [u8],
+    adv: &'a [u8],
+    scan: &'a [u8],
+    comparisons: &'c mut usize,
+) -> u8
+    ensures { λ r. ⌜ r ≡ pick (patternsMeet (now (condition .entry)) (now (adv .entry)) (now (scan .entry))) 1 0 ⌝ }
+    ensures { λ _. ⌜ now (comparisons .exit) ≡ wrapped (matchCost (now (condition .entry)) (now (adv .entry)) (now (scan .entry))) ⌝ }
+{
+    let m = advert::match_cost(condition, adv, scan);
+    *comparisons = m.comparisons;
+    if m.found {
+        return 1;
+    }
+    0
 }

@@ -55,7 +55,7 @@ fn mark_at(s: &[u8], h: usize, payload: &[u8], scan: usize) -> u8
         &payload[9..end],
         &payload[scan..last],
     );
-    if met.found {
+    if met {
         return row_bits(
             s[at + State::HIGH_AT],
             s[at + State::LOW_AT],

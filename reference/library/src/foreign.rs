@@ -45,6 +45,15 @@ extern "C" {
         taken: *mut usize,
         wrote: *mut usize,
     ) -> u8;
+    fn bournejade_match(
+        condition: *const u8,
+        condition_size: usize,
+        adv: *const u8,
+        adv_size: usize,
+        scan: *const u8,
+        scan_size: usize,
+        comparisons: *mut usize,
+    ) -> u8;
 }
 
 type Block = [u8; STATE];
@@ -123,4 +132,20 @@ pub fn replay(block: &mut Block, journal: &[u8], out: &mut [u8]) -> Ran {
         bournejade_replay(state, text, journal.len(), out.as_mut_ptr(), room, &mut taken, &mut wrote)
     };
     Ran { taken, wrote, refusal }
+}
+
+pub fn match_cost(condition: &[u8], adv: &[u8], scan: &[u8]) -> (u8, usize) {
+    let mut comparisons = 0;
+    let matches = unsafe {
+        bournejade_match(
+            condition.as_ptr(),
+            condition.len(),
+            adv.as_ptr(),
+            adv.len(),
+            scan.as_ptr(),
+            scan.len(),
+            &mut comparisons,
+        )
+    };
+    (matches, comparisons)
 }

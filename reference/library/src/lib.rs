@@ -39,6 +39,11 @@ pub fn write_line(frame: &[u8], out: &mut [u8]) -> Result<usize, Refused> {
     foreign::write_line(frame, out)
 }
 
+/// Whether a pattern condition matches an advertisement and a scan response (1 or 0), and the comparisons made.
+pub fn match_cost(condition: &[u8], adv: &[u8], scan: &[u8]) -> (u8, usize) {
+    foreign::match_cost(condition, adv, scan)
+}
+
 impl State {
     /// A fresh state, or the blank one with refusal 9.
     pub fn begin(opcode: u16, prefix: &[u8]) -> (State, Refused) {

@@ -8,6 +8,7 @@ use std::{env, fs};
 
 const USAGE: &str = "\
 library compare COUNT SEED            COUNT random sessions and scripts through both
+library costs COUNT SEED              COUNT pattern conditions against texts: matches or not, and the comparisons
 library faults COUNT SEED             how many of them notice each wrong build of the independent implementation
 library time IMAGE JOURNAL TIMES      replay in memory by both: nanoseconds, the shortest of TIMES runs
 library run WHO IMAGE JOURNAL         one replay by WHO, library or reference: the octets of the answers
@@ -31,6 +32,7 @@ fn main() -> ExitCode {
 fn run(words: &[&str]) -> Result<String, String> {
     match words {
         ["compare", count, seed] => compared(number(count)?, number(seed)?),
+        ["costs", count, seed] => costs(number(count)?, number(seed)?),
         ["faults", count, seed] => Ok(faults(number(count)?, number(seed)?)),
         ["time", image, journal, times] => time(&read(image)?, &read(journal)?, number(times)? as usize),
         ["run", who, image, journal] => {
@@ -66,6 +68,26 @@ fn compared(count: u64, seed: u64) -> Result<String, String> {
     }
     let Counts { scripts, calls, octets } = counts;
     Ok(format!("{scripts} scripts, {calls} calls, {octets} octets written: no difference"))
+}
+
+fn costs(count: u64, seed: u64) -> Result<String, String> {
+    let rows = reference::cost::costs(seed, count, Fault::None);
+    for row in &rows {
+        let words: Vec<&str> = row.split(' ').collect();
+        let [condition, adv, scan, matches, comparisons] = words[..] else { return Err(row.clone()) };
+        let (found, count) = library::match_cost(&octets(condition)?, &octets(adv)?, &octets(scan)?);
+        if (found.to_string(), count.to_string()) != (matches.to_string(), comparisons.to_string()) {
+            return Err(format!("{row}: the library says {found} {count}"));
+        }
+    }
+    Ok(format!("{} matches with their costs: no difference", rows.len()))
+}
+
+/// The octets of a text of digits; `-` is none.
+fn octets(text: &str) -> Result<Vec<u8>, String> {
+    let text = if text == "-" { "" } else { text };
+    let pair = |i: usize| u8::from_str_radix(text.get(i..i + 2).unwrap_or("?"), 16).map_err(|_| text.to_string());
+    (0..text.len()).step_by(2).map(pair).collect()
 }
 
 fn faults(count: u64, seed: u64) -> String {

@@ -25,16 +25,19 @@ fn pattern(random: &mut Random) -> Vec<u8> {
     octets
 }
 
+/// A well-formed condition of type 1, some patterns.
+pub fn patterns(random: &mut Random) -> Vec<u8> {
+    let count = random.pick(&[1, 1, 2, 3]);
+    let mut octets = vec![count as u8];
+    (0..count).for_each(|_| octets.extend(pattern(random)));
+    octets
+}
+
 /// A well-formed condition of at most 64 octets: its type and octets.
 pub fn well_formed(random: &mut Random, devices: &[Device]) -> (u8, Vec<u8>) {
     match random.below(10) {
         0..=2 => flags(),
-        3..=5 => {
-            let count = random.pick(&[1, 1, 2, 3]);
-            let mut octets = vec![count as u8];
-            (0..count).for_each(|_| octets.extend(pattern(random)));
-            (1, octets)
-        }
+        3..=5 => (1, patterns(random)),
         6..=7 => {
             let (kind, size) = random.pick(&[(1, 2), (1, 2), (2, 4), (3, 16)]);
             let mut octets = vec![kind];

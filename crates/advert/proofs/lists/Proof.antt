@@ -6,6 +6,9 @@ use lib.ListN.{length, drop}
 use Rattle.advert.specs.Uuid.{listed, listed-end, listed-hit, listed-miss}
 use Rattle.advert.proofs.lists.Statement.{statement}
 use Rattle.advert.proofs.lists.Tie as tie
+use Rattle.advert.proofs.lists.Reads as reads
+use Rattle.advert.proofs.lists.Lts as lts
+use Rattle.advert.proofs.patterns.compare.Reads as compare-reads
 
 abbrev Inv-loop : tie.InvT-loop
 Inv-loop content uuid size i₀ i = (i ≤ length content) × (listed uuid content ≡ listed uuid (drop i content))
@@ -19,12 +22,11 @@ loop-holds c = (omega arith, refl)
 sub-loop : tie.Need-sub-loop Inv-loop μ-loop
 sub-loop c = omega arith
 
-holds-requires : tie.Need-holds-requires Inv-loop μ-loop
-holds-requires c κs = search needs
+compare-requires : tie.Need-compare-requires Inv-loop μ-loop
+compare-requires c κs = search needs
 
 returns : tie.Need-returns Inv-loop μ-loop
-returns c = listed-hit _ _ (c .before .before .before .loop .i) _ (c .before .before .before .loop .inv .1)
-    (omega arith) (omega arith) (sym (c .before .holds .ensures) ∙ c .if1 .taken)
+returns c = listed-hit _ _ (c .before .before .before .loop .i) _ (c .before .before .before .loop .inv .1) (omega arith) (omega arith) (sym (c .before .compare .ensures .0) ∙ c .if1 .taken)
 
 add-i : tie.Need-add-i Inv-loop μ-loop
 add-i c = omega arith
@@ -33,11 +35,9 @@ loop-less : tie.Need-loop-less Inv-loop μ-loop
 loop-less c = omega arith
 
 loop-again : tie.Need-loop-again Inv-loop μ-loop
-loop-again c = (
+loop-again c = let l = c .before .before .before .loop in (
   omega arith,
-  listed-miss _ _ (c .before .before .before .loop .i) _
-      (c .before .before .before .loop .inv .1) (omega arith) (omega arith)
-      (sym (c .before .holds .ensures) ∙ c .if1 .left),
+  listed-miss _ _ (l .i) _ (l .inv .1) (omega arith) (omega arith) (sym (c .before .compare .ensures .0) ∙ c .if1 .left),
 )
 
 returns-2 : tie.Need-returns-2 Inv-loop μ-loop
@@ -51,7 +51,7 @@ lists-spec =
     μ-loop
     loop-holds
     sub-loop
-    holds-requires
+    compare-requires
     returns
     add-i
     loop-less

@@ -1,35 +1,29 @@
-use Prim.Native.Nat.{_-_, _≤_}
-use mathlib.Core.Path.{_≡_, refl, _∙_}
+use Prim.Native.Nat.{_+_, _-_, _≤_}
+use mathlib.Core.Path.{_≡_}
 use native.Mathlib.Omega.{arith}
 use borrow.Author.Needs.{needs}
-use lib.ListN.{length, drop}
-use Rattle.advert.specs.Sections.{
-  contents,
-  isType,
-  contents-end,
-  contents-none,
-  contents-skip,
-  lookup-none,
-  lookup-hit,
-}
+use lib.ListN.{length}
+use Rattle.advert.specs.Sections.{isType, Passed, passed-none, passed-skip, lookup-none, lookup-end, lookup-hit}
 use Rattle.advert.proofs.lookup.find_section.Statement.{statement}
 use Rattle.advert.proofs.lookup.find_section.Tie as tie
+use Rattle.advert.proofs.lookup.find_section.Reads as reads
+use Rattle.advert.proofs.lookup.find_section.Lts as lts
+use Rattle.advert.proofs.lookup.part_end.Reads as part-end-reads
 
 abbrev Inv-loop : tie.InvT-loop
-Inv-loop adv at t u i₀ i = (at ≤ i) × (i ≤ length adv) × (contents t u (drop at adv) ≡ contents t u (drop i adv))
+Inv-loop adv at t u i₀ seen₀ i seen = (at ≤ i) × (i ≤ length adv) × (seen + at ≤ i) × Passed t u adv at i seen
 
 abbrev μ-loop : tie.MeasureT-loop
-μ-loop adv at t u i₀ i = length adv - i
+μ-loop adv at t u i₀ seen₀ i seen = length adv - i
 
 loop-holds : tie.Need-loop-holds Inv-loop μ-loop
-loop-holds c = (omega arith, omega arith, refl)
+loop-holds c = (omega arith, omega arith, omega arith, passed-none _ _ _ _)
 
 part-end-requires : tie.Need-part-end-requires Inv-loop μ-loop
 part-end-requires c κs = search needs
 
 returns : tie.Need-returns Inv-loop μ-loop
-returns c = lookup-none _ _ _ _ (c .before .before .before .loop .i) _ _ (c .before .before .before .loop .inv .2)
-    (contents-none _ _ _ (c .before .before .before .loop .i) _ (c .before .part-end .ensures) (c .if1 .taken))
+returns c = let l = c .before .before .before .loop in lookup-none _ _ _ _ (l .i) (l .seen) (l .inv .3) _ _ (omega arith) (c .before .part-end .ensures) (c .if1 .taken)
 
 add-x : tie.Need-add-x Inv-loop μ-loop
 add-x c = omega arith
@@ -37,29 +31,31 @@ add-x c = omega arith
 shared-slice-read-x : tie.Need-shared-slice-read-x Inv-loop μ-loop
 shared-slice-read-x c = omega (arith, c .before .before .part-end .ensures .room (omega arith))
 
-add-t14 : tie.Need-add-t14 Inv-loop μ-loop
-add-t14 c = omega arith
+add-seen : tie.Need-add-seen Inv-loop μ-loop
+add-seen c = omega arith
+
+add-t15 : tie.Need-add-t15 Inv-loop μ-loop
+add-t15 c = omega arith
 
 returns-2 : tie.Need-returns-2 Inv-loop μ-loop
 unfolding isType
-returns-2 c = lookup-hit _ _ _ _ _ _ (omega arith) (c .before .before .before .part-end .ensures) (omega arith)
-    (c .before .before .before .before .before .loop .inv .2) (c .if2 .taken)
+returns-2 c = let l = c .before .before .before .before .before .loop in lookup-hit _ _ _ _ (l .i) (l .seen) (l .inv .3) _ (omega arith) (c .before .before .before .part-end .ensures) (omega arith) (c .if2 .taken)
 
 loop-less : tie.Need-loop-less Inv-loop μ-loop
 loop-less c = omega arith
 
 loop-again : tie.Need-loop-again Inv-loop μ-loop
 unfolding isType
-loop-again c = let p = c .before .before .before .part-end .ensures in (
-  omega arith,
-  omega arith,
-  c .before .before .before .before .before .loop .inv .2
-      ∙ contents-skip _ _ _ (c .before .before .before .before .before .loop .i) _ p (omega arith) (c .if2 .left),
-)
+loop-again c = let p = c .before .before .before .part-end .ensures in
+    let l = c .before .before .before .before .before .loop in (
+      omega arith,
+      omega arith,
+      omega arith,
+      passed-skip _ _ _ _ (l .i) (l .seen) (l .inv .3) _ p (omega arith) (c .if2 .left),
+    )
 
 returns-3 : tie.Need-returns-3 Inv-loop μ-loop
-returns-3 c = lookup-none _ _ _ _ (c .before .loop .i) _ _ (c .before .loop .inv .2)
-    (contents-end _ _ _ (c .before .loop .i) (omega arith))
+returns-3 c = let l = c .before .loop in lookup-end _ _ _ _ (l .i) (l .seen) (l .inv .3) _ (omega arith) (omega arith)
 
 pub find-section-spec : {M : Type 1} → statement M
 find-section-spec =
@@ -72,7 +68,8 @@ find-section-spec =
     returns
     add-x
     shared-slice-read-x
-    add-t14
+    add-seen
+    add-t15
     returns-2
     loop-less
     loop-again

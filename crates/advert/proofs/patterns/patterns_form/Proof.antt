@@ -15,8 +15,8 @@ use Rattle.advert.specs.Pattern.{
   filled-over,
   filled-more,
 }
-use Rattle.advert.proofs.patterns_form.Statement.{statement}
-use Rattle.advert.proofs.patterns_form.Tie as tie
+use Rattle.advert.proofs.patterns.patterns_form.Statement.{statement}
+use Rattle.advert.proofs.patterns.patterns_form.Tie as tie
 
 abbrev Inv-loop : tie.InvT-loop
 Inv-loop condition left₀ i₀ left i = (i ≤ length condition)

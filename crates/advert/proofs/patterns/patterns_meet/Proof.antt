@@ -15,8 +15,8 @@ use Rattle.advert.specs.Pattern.{
   asked-hit,
   asked-miss,
 }
-use Rattle.advert.proofs.patterns_meet.Statement.{statement}
-use Rattle.advert.proofs.patterns_meet.Tie as tie
+use Rattle.advert.proofs.patterns.patterns_meet.Statement.{statement}
+use Rattle.advert.proofs.patterns.patterns_meet.Tie as tie
 
 abbrev Inv-loop : tie.InvT-loop
 Inv-loop condition adv scan i₀ i = patternsMeet condition adv scan ≡ some (patternMeets adv scan) (parts 3 (drop i condition))

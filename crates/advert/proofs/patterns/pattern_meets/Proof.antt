@@ -1,8 +1,8 @@
 use native.Mathlib.Omega.{arith}
 use borrow.Author.Needs.{needs}
 use Rattle.advert.specs.Pattern.{pattern-of}
-use Rattle.advert.proofs.pattern_meets.Statement.{statement}
-use Rattle.advert.proofs.pattern_meets.Tie as tie
+use Rattle.advert.proofs.patterns.pattern_meets.Statement.{statement}
+use Rattle.advert.proofs.patterns.pattern_meets.Tie as tie
 
 shared-slice-read-t : tie.Need-shared-slice-read-t
 shared-slice-read-t c = search needs
