@@ -5,14 +5,16 @@ use Prim.Native.Nat.{ℕ, _+_, _*_, _/_, _≤_, _<_}
 use mathlib.Core.Path.{_≡_, refl, sym, ap, _∙_}
 use mathlib.Core.Bool.{Bool, true, false, _&&_}
 use mathlib.Core.List.{List, _∷_, _++_}
+use native.Mathlib.Nat.{add-zero}
 use native.Mathlib.Omega.{arith}
 use lib.Dec.{eqb}
-use lib.ListN.{length, take, drop, getD}
-use lib.Seq.{drop-cons, take-at}
-use borrow.Author.Tests.{eqb-true, eq-eqb}
+use lib.ListN.{length, take, drop, getD, length-drop}
+use lib.Seq.{drop-cons, take-at, length-take-le}
+use borrow.Author.Tests.{eqb-true, eq-eqb, le-leb}
 use Rattle.laws.specs.Tests.{sames, sames-eq, eq-sames, and-left, and-right}
 use Rattle.laws.specs.Loops.{every}
-use Rattle.octets.specs.Little.{little, value, isOctet, octets-value, value-lt, little-value, little-drop, little-row}
+use Rattle.octets.specs.Little.{little, value, isOctet, octets-value, value-lt, little-value, little-drop, little-take, little-row}
+use Rattle.octets.specs.Numbers.{numberAt, number-of, number-in}
 use Rattle.model.specs.Types.{Model, Packet, Pair, device, deviceOf, watched}
 use Rattle.model.specs.Frames.{packetOf}
 use Rattle.model.specs.Watch.{isPair}
@@ -28,6 +30,15 @@ use Rattle.model.specs.Layout.{handleAt, mostMonitors, pairSize, pairsAt}
 -- the number of a packet's device
 unfoldable pub deviceNumber : Packet → ℕ
 deviceNumber p = value (deviceOf p)
+
+-- the key read from its own part of the block
+pub key-part : (s : List ℕ) (at n : ℕ) {v : ℕ} → n ≡ 8 → at + 8 ≤ length s → v ≡ numberAt 8 (take n (drop at s)) 0
+    → v ≡ numberAt 8 s at
+key-part s at n e h w =
+    let m : length (take n (drop at s)) ≡ n = length-take-le n (drop at s) (rw (length-drop at s) (omega arith)) in
+    let x : _ ≡ little 8 (take n (drop at s)) 0 = number-of 8 (take n (drop at s)) 0 w (omega arith) in
+    number-in 8 s at (x ∙ little-take 8 n (drop at s) 0 (omega arith) ∙ little-drop 8 at s 0 ∙ ap (little 8 s) (add-zero at))
+    (le-leb (at + 8) (length s) h)
 
 -- octets of one length that make one number are the same
 pub value-same : (a b : List ℕ) → length a ≡ length b → every isOctet a ≡ true → every isOctet b ≡ true

@@ -2,21 +2,21 @@
 // crate marks asks the monitors, and keeps what each says of the packet as one octet a handle. Then the rows of the pairs held are
 // changed in place, the starts appended behind them, and the answer written.
 mod reports;
+mod windows;
 
 use state::State;
 ghost use Prim.Native.Nat.{ℕ, _+_, _*_, _/_, _≤_, _<_};
 ghost use mathlib.Core.Path.{_≡_};
-ghost use mathlib.Core.Bool.{Bool, true, false, _&&_};
+ghost use mathlib.Core.Bool.{true, false, _&&_};
 ghost use mathlib.Core.List.{List, [], _∷_};
-ghost use lib.ListN.{length, drop, getD};
+ghost use lib.ListN.{length, drop};
 ghost use Rattle.laws.specs.Put.{put};
 ghost use Rattle.laws.specs.Loops.{each};
-ghost use Rattle.octets.specs.Little.{little, octetsOf};
-ghost use Rattle.model.specs.Level.{extended};
+ghost use Rattle.octets.specs.Little.{octetsOf};
+ghost use Rattle.octets.specs.Numbers.{numberAt};
 ghost use Rattle.model.specs.Types.{Model, Packet, deviceOf};
-ghost use Rattle.sessions.specs.Machine.{lastNumber, answerRoom};
+ghost use Rattle.sessions.specs.Machine.{answerRoom};
 ghost use Rattle.model.specs.Frames.{hasPacket, packetOf, packet as packetFrame};
-ghost use Rattle.model.specs.Sound.{soundModel};
 ghost use Rattle.model.specs.Watch.{packetMove, holds, turns, reported};
 ghost use Rattle.model.specs.Events.{startEvent};
 ghost use Rattle.model.specs.Block.{padded};
@@ -26,48 +26,14 @@ ghost use Rattle.marks.specs.Marks.{tells};
 ghost use Rattle.marks.specs.Fields.{Framed};
 ghost use Rattle.packets.specs.Changes.{freshened, collected, changed};
 ghost use Rattle.packets.specs.Keys.{deviceNumber};
-ghost use Rattle.packets.specs.Windows.{takenBy};
 ghost use Rattle.packets.specs.Moves.{AtPair, pairAt, withPair};
 ghost use Rattle.packets.specs.Held.{Given};
 ghost use Rattle.packets.specs.Starts.{Holding, Sought, Turned, after};
 ghost use Rattle.packets.specs.Whole.{Begun, afterMoves, afterStarts};
 ghost use Rattle.packets.specs.Reports.{anyFrom, wantsAt};
 ghost use Rattle.packets.specs.Answers.{Wrote};
-ghost use Rattle.model.specs.Layout.{eventMost, packetMost, startsMost};
-ghost use Rattle.model.specs.Layout.{blockSize, countAt, mostMonitors, mostPairs, pairSize, pairsAt, positionAt, windowSize};
-
-// An RSSI octet as a number of 8 octets in two's complement.
-fn extend(o: u8) -> u64
-    ensures { λ r. ⌜ r ≡ extended o ⌝ }
-{
-    let x = o as u64;
-    if o < 128 {
-        return x;
-    }
-    x + 18446744073709551360
-}
-
-// A window that begins at an index takes the packet: one packet more, its RSSI in the sum, its event type and data.
-fn gather_at(s: &mut [u8], at: usize, payload: &[u8])
-    requires { ⌜ (at + windowSize ≤ length (now s)) × Framed (now payload) ⌝ }
-    ensures { λ _. ⌜ now (s .exit) ≡ put (now (s .entry)) at (takenBy (packetOf (now (payload .entry))) (now (s .entry)) at) ⌝ }
-{
-    let n = octets::wide(payload[8]);
-    let end = 9 + n;
-    let last = payload.len() - 1;
-    let count = octets::get32(s, at);
-    let sum = octets::get64(s, at + 4);
-    octets::put32(s, at, std::num::wrapping_add_u32(count, 1));
-    octets::put64(
-        s,
-        at + 4,
-        std::num::wrapping_add_u64(sum, extend(payload[last])),
-    );
-    s[at + 12] = payload[0];
-    s[at + 13] = payload[8];
-    parts::copy(s, at + 14, &payload[9..end]);
-    parts::fill(s, at + 14 + n, State::DATA - n, 0);
-}
+ghost use Rattle.model.specs.Layout.{eventMost, startsMost};
+ghost use Rattle.model.specs.Layout.{blockSize, countAt, mostMonitors, mostPairs, pairSize, pairsAt};
 
 // The count of ticks of pair i starts anew, where its handle's octet says so.
 fn refresh(s: &mut [u8], i: usize, a: u8)
@@ -89,7 +55,7 @@ fn gather(s: &mut [u8], i: usize, a: u8, payload: &[u8])
     ensures { λ _. ⌜ ((m : Model) → AtPair m (now (s .entry)) i → Sent (packetOf (now (payload .entry))) → pairAt m i .packets < 4294967295 → now (s .exit) ≡ padded (withPair m i (collected a (packetOf (now (payload .entry))) (pairAt m i)))) ⌝ }
 {
     if a / 2 % 2 == 1 {
-        gather_at(
+        windows::gather_at(
             s,
             State::PAIRS_AT + State::PAIR_ROW * i + State::PACKETS_AT,
             payload,
@@ -105,12 +71,22 @@ fn change_row(s: &mut [u8], i: usize, a: u8, payload: &[u8])
     gather(s, i, a, payload);
 }
 
+// The key of pair i. It is read from its own part, so that its end need not be asked for.
+fn key_at(s: &[u8], i: usize) -> u64
+    requires { ⌜ (length (now s) ≡ blockSize) × (i < mostPairs) ⌝ }
+    ensures { λ r. ⌜ r ≡ numberAt 8 (now (s .entry)) (pairsAt + pairSize * i) ⌝ }
+{
+    let from = State::PAIRS_AT + State::PAIR_ROW * i;
+    let to = from + State::KEY;
+    octets::get64(&s[from..to], 0)
+}
+
 // Pair i over the packet: changed where it is a pair of the packet's device. A row opens with its key, the handle and the device.
 fn move_row(s: &mut [u8], i: usize, acts: &[u8], payload: &[u8], dev: u64)
     requires { ⌜ (length (now s) ≡ blockSize) × (i < mostPairs) × (length (now acts) ≡ mostMonitors) × Framed (now payload) ⌝ }
     ensures { λ _. ⌜ ((m : Model) → AtPair m (now (s .entry)) i → Given (m .mons) (packetOf (now (payload .entry))) (now (acts .entry)) dev → pairAt m i .packets < 4294967295 → now (s .exit) ≡ padded (withPair m i (packetMove (m .mons) (packetOf (now (payload .entry))) (pairAt m i)))) ⌝ }
 {
-    let key = octets::get64(s, State::PAIRS_AT + State::PAIR_ROW * i);
+    let key = key_at(s, i);
     if key / 256 != dev {
         return;
     }
@@ -139,7 +115,7 @@ fn is_held(s: &[u8], n: usize, key: u64) -> bool
 {
     let mut i = 0;
     while i < n {
-        if octets::get64(s, State::PAIRS_AT + State::PAIR_ROW * i) == key {
+        if key_at(s, i) == key {
             return true;
         }
         i += 1;

@@ -12,7 +12,7 @@ use borrow.Rule.Slice.PartMut.{putMid}
 use borrow.Author.Tests.{leb-true, leb-false, le-leb, le-ltb, eq-eqb}
 use Rattle.laws.specs.Put.{put, putIf, put-nil, put-of, put-then, length-put, take-before-put}
 use Rattle.laws.specs.Put.{drop-after-put, set-put}
-use Rattle.laws.specs.Tests.{pick, pick-false, and-left, and-right}
+use Rattle.laws.specs.Tests.{and-not-left, and-not-right, pick, pick-false, and-left, and-right}
 use Rattle.laws.specs.Loops.{when, length-when}
 use Rattle.octets.specs.Little.{little, octetsOf, length-octets}
 use Rattle.octets.specs.Numbers.{numberAt, number-of}
@@ -133,9 +133,15 @@ closes-past period ticks h = rw (le-leb period (ticks + 1) (omega arith)) (go (w
 pub stays-over : (silent run : ℕ) → run ≤ silent → false ≡ ltb (silent + 1) run
 stays-over silent run h = sym (le-ltb (silent + 1) run (omega arith))
 
-pub says-of : (on : Bool) (period filter : ℕ) (r : List ℕ) {c : Bool} {p : ℕ} → length r ≡ pairSize
-    → c ≡ closesAt period (getD r ticksAt 0)
-    → p ≡ numberAt 4 r packetsAt → (on && (eqb filter 1 && (c && (leb 1 p && leb (getD r lengthAt 0) mostData))))
+pub says-open : (on : Bool) (period filter : ℕ) (r : List ℕ) → closesAt period (getD r ticksAt 0) ≡ false
+    → false ≡ saysRow on period filter r
+unfolding saysRow
+says-open on period filter r e =
+    sym (and-not-right on _ (and-not-right (eqb filter 1) _ (and-not-left (closesAt period (getD r ticksAt 0)) _ e)))
+
+pub says-of : (on : Bool) (period filter : ℕ) (r : List ℕ) {p : ℕ} → length r ≡ pairSize
+    → closesAt period (getD r ticksAt 0) ≡ true
+    → p ≡ numberAt 4 r packetsAt → (on && (eqb filter 1 && (leb 1 p && leb (getD r lengthAt 0) mostData)))
     ≡ saysRow on period filter r
 unfolding saysRow
 says-of on period filter r h e f = rw (e, number-of 4 r 11 f (omega arith))

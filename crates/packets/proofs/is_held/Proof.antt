@@ -20,19 +20,13 @@ abbrev μ-loop : tie.MeasureT-loop
 loop-holds : tie.Need-loop-holds Inv-loop μ-loop
 loop-holds c = (omega arith, λ m p h w x. refl)
 
-mul-get64 : tie.Need-mul-get64 Inv-loop μ-loop
-mul-get64 c = omega arith
-
-add-get64 : tie.Need-add-get64 Inv-loop μ-loop
-add-get64 c = omega arith
-
-get64-requires : tie.Need-get64-requires Inv-loop μ-loop
-get64-requires c κs = search needs
+key-at-requires : tie.Need-key-at-requires Inv-loop μ-loop
+key-at-requires c κs = search needs
 
 returns : tie.Need-returns Inv-loop μ-loop
 returns c = let a = c .before .before .before .before .before .args in let l = c .before .before .before .loop in λ m p h w x.
-    search-hit m (a .s .now) (a .n) p h (a .key) (l .i) w x (l .inv .1 m p h w x) (c .before .get64 .result) (omega arith)
-    (number-of 8 (a .s .now) (pairsAt + pairSize * l .i) (c .before .get64 .ensures) (omega arith)) (c .if1 .taken)
+    search-hit m (a .s .now) (a .n) p h (a .key) (l .i) w x (l .inv .1 m p h w x) (c .before .key-at .result) (omega arith)
+    (number-of 8 (a .s .now) (pairsAt + pairSize * l .i) (c .before .key-at .ensures) (omega arith)) (c .if1 .taken)
 
 add-i : tie.Need-add-i Inv-loop μ-loop
 add-i c = omega arith
@@ -44,8 +38,8 @@ loop-again : tie.Need-loop-again Inv-loop μ-loop
 loop-again c = let a = c .before .before .before .before .before .args in let l = c .before .before .before .loop in (
   omega arith,
   λ m p h w x.
-      search-miss m (a .s .now) (a .n) p h (a .key) (l .i) w x (l .inv .1 m p h w x) (c .before .get64 .result) (omega arith)
-      (number-of 8 (a .s .now) (pairsAt + pairSize * l .i) (c .before .get64 .ensures) (omega arith)) (c .if1 .left),
+      search-miss m (a .s .now) (a .n) p h (a .key) (l .i) w x (l .inv .1 m p h w x) (c .before .key-at .result) (omega arith)
+      (number-of 8 (a .s .now) (pairsAt + pairSize * l .i) (c .before .key-at .ensures) (omega arith)) (c .if1 .left),
 )
 
 returns-2 : tie.Need-returns-2 Inv-loop μ-loop
@@ -59,9 +53,7 @@ is-held-spec =
     Inv-loop
     μ-loop
     loop-holds
-    mul-get64
-    add-get64
-    get64-requires
+    key-at-requires
     returns
     add-i
     loop-less

@@ -9,22 +9,16 @@ use Rattle.packets.proofs.move_row.Statement.{statement}
 use Rattle.packets.proofs.move_row.Tie as tie
 use Rattle.model.specs.Layout.{pairSize, pairsAt}
 
-mul-get64 : tie.Need-mul-get64
-mul-get64 c = search needs
-
-add-get64 : tie.Need-add-get64
-add-get64 c = search needs
-
-get64-requires : tie.Need-get64-requires
-get64-requires c κs = search needs
+key-at-requires : tie.Need-key-at-requires
+key-at-requires c κs = search needs
 
 same-length : tie.Need-same-length
 same-length c = search needs
 
 returns : tie.Need-returns
 returns c = let a = c .before .before .before .before .before .before .args in λ m w g r.
-    row-other m (a .s .now) (a .i) (packetOf (a .payload .now)) (a .acts .now) (a .dev) (c .before .get64 .result) w g
-    (number-of 8 (a .s .now) (pairsAt + pairSize * a .i) (c .before .get64 .ensures) (omega arith)) (c .if1 .taken)
+    row-other m (a .s .now) (a .i) (packetOf (a .payload .now)) (a .acts .now) (a .dev) (c .before .key-at .result) w g
+    (number-of 8 (a .s .now) (pairsAt + pairSize * a .i) (c .before .key-at .ensures) (omega arith)) (c .if1 .taken)
 
 shared-slice-read-change-row : tie.Need-shared-slice-read-change-row
 shared-slice-read-change-row c = search needs
@@ -37,8 +31,8 @@ same-length-2 c = search needs
 
 returns-2 : tie.Need-returns-2
 returns-2 c = let a = c .before .before .before .before .before .before .before .before .before .before .before .before .args in λ m w g r.
-    row-own m (a .s .now) (a .i) (packetOf (a .payload .now)) (a .acts .now) (a .dev) (c .before .before .before .before .before .before .before .get64 .result) w g
-    (number-of 8 (a .s .now) (pairsAt + pairSize * a .i) (c .before .before .before .before .before .before .before .get64 .ensures) (omega arith)) _ (c .before .before .before .before .before .before .if1 .left) refl
+    row-own m (a .s .now) (a .i) (packetOf (a .payload .now)) (a .acts .now) (a .dev) (c .before .before .before .before .before .before .before .key-at .result) w g
+    (number-of 8 (a .s .now) (pairsAt + pairSize * a .i) (c .before .before .before .before .before .before .before .key-at .ensures) (omega arith)) _ (c .before .before .before .before .before .before .if1 .left) refl
     (c .before .before .change-row .ensures m w (g .sent) r)
 
 same-length-3 : tie.Need-same-length-3
@@ -48,8 +42,8 @@ returns-3 : tie.Need-returns-3
 returns-3 c = let a = c .before .before .before .before .before .before .before .args in λ m w g r.
     absurd (omega (
       arith,
-      handle-low m (a .s .now) (a .i) (packetOf (a .payload .now)) (a .acts .now) (a .dev) (c .before .before .get64 .result) w g
-          (number-of 8 (a .s .now) (pairsAt + pairSize * a .i) (c .before .before .get64 .ensures) (omega arith)),
+      handle-low m (a .s .now) (a .i) (packetOf (a .payload .now)) (a .acts .now) (a .dev) (c .before .before .key-at .result) w g
+          (number-of 8 (a .s .now) (pairsAt + pairSize * a .i) (c .before .before .key-at .ensures) (omega arith)),
       c .if2 .left,
     ))
 
@@ -57,9 +51,7 @@ pub move-row-spec : {M : Type 1} → statement M
 move-row-spec =
     tie.close
     (tie.spec
-    mul-get64
-    add-get64
-    get64-requires
+    key-at-requires
     same-length
     returns
     shared-slice-read-change-row

@@ -2,8 +2,8 @@ use borrow.Author.Tests.{lt-ltb, le-ltb}
 use borrow.Author.Needs.{needs}
 use Rattle.model.specs.Level.{extended}
 use Rattle.laws.specs.Tests.{pick}
-use Rattle.packets.proofs.extend.Statement.{statement}
-use Rattle.packets.proofs.extend.Tie as tie
+use Rattle.packets.proofs.windows.extend.Statement.{statement}
+use Rattle.packets.proofs.windows.extend.Tie as tie
 
 returns : tie.Need-returns
 unfolding extended pick

@@ -8,8 +8,8 @@ use Rattle.packets.specs.Windows.{window-written}
 use Rattle.octets.specs.Numbers.{number-of}
 use Rattle.octets.specs.Little.{octetsOf}
 use Rattle.laws.specs.Put.{put-of}
-use Rattle.packets.proofs.gather_at.Statement.{statement}
-use Rattle.packets.proofs.gather_at.Tie as tie
+use Rattle.packets.proofs.windows.gather_at.Statement.{statement}
+use Rattle.packets.proofs.windows.gather_at.Tie as tie
 use Rattle.model.specs.Layout.{mostData, windowSize}
 
 shared-slice-read-wide : tie.Need-shared-slice-read-wide
