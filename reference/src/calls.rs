@@ -5,6 +5,7 @@
 //! Tag 0 ends a script: an image is saved, and the line is written. The line has a digest over all that is seen of
 //! the calls, how many they are, and how many octets they wrote.
 
+use crate::aimed;
 use crate::block;
 use crate::cases::given;
 use crate::engine::Engine;
@@ -54,7 +55,7 @@ pub fn scripts(seed: u64, count: usize) -> Vec<Stored> {
         }
         if wanted(made.len(), &calls) {
             let showings = showings(&mut random, &mut sizes, &calls);
-            made.push(Stored { calls, showings });
+            made.push(aimed::with(seed, made.len(), Stored { calls, showings }));
         }
     }
     made
@@ -183,7 +184,7 @@ pub fn input(stored: &Stored) -> Vec<u8> {
             Call::Save { lent } | Call::WriteLine { lent, .. } => (*lent, 0),
             Call::Failover => (IMAGE, 0),
             Call::Restore { .. } | Call::Adopt(_) => (0, 0),
-            Call::Replay { .. } => {
+            Call::Replay { .. } | Call::ReplayTo { .. } => {
                 let showing = showings.next().expect("a showing for each replay");
                 (showing.lent, showing.piece)
             }
@@ -200,8 +201,8 @@ pub fn input(stored: &Stored) -> Vec<u8> {
 }
 
 /// The names of the calls, in the order of their tags from 1.
-pub const NAMES: [&str; 9] =
-    ["start", "octets", "line", "save", "write a line", "restore", "failover", "replay", "adopt"];
+pub const NAMES: [&str; 10] =
+    ["start", "octets", "line", "save", "write a line", "restore", "failover", "replay", "adopt", "replay to"];
 
 fn tag(call: &Call) -> u8 {
     match call {
@@ -214,6 +215,7 @@ fn tag(call: &Call) -> u8 {
         Call::Failover => 7,
         Call::Replay { .. } => 8,
         Call::Adopt(_) => 9,
+        Call::ReplayTo { .. } => 10,
     }
 }
 
@@ -221,7 +223,7 @@ fn tag(call: &Call) -> u8 {
 #[derive(Clone, PartialEq, Eq, Debug, Default)]
 pub struct Census {
     /// Calls of each kind, in the order of `NAMES`; the save at each script's end is not counted.
-    pub calls: [usize; 9],
+    pub calls: [usize; 10],
     /// Calls with refusal n, at place n; the number 8 is not used.
     pub refusals: [usize; 11],
     /// Sizes of pieces that are smaller than their text.
@@ -236,7 +238,7 @@ pub fn census(scripts: &[Stored]) -> Census {
         let mut showings = stored.showings.iter();
         for call in &stored.calls {
             census.calls[tag(call) as usize - 1] += 1;
-            if let Call::Replay { text } = call {
+            if let Call::Replay { text } | Call::ReplayTo { text, .. } = call {
                 match showings.next() {
                     Some(showing) if showing.piece < text.len() => drop(census.sizes.insert(showing.piece)),
                     _ => census.whole += 1,
@@ -271,6 +273,7 @@ fn octets(call: &Call) -> Vec<u8> {
         Call::Start { prefix, .. } => prefix.clone(),
         Call::Octets { octets, .. } | Call::WriteLine { octets, .. } => octets.clone(),
         Call::Line { text, .. } | Call::Restore { text } | Call::Replay { text } => text.clone(),
+        Call::ReplayTo { last, text } => [&last.to_le_bytes()[..], text].concat(),
         Call::Save { .. } | Call::Failover => Vec::new(),
         Call::Adopt(state) => packed(&block::of(state).expect("states without a block were left out")),
     }

@@ -1,6 +1,7 @@
 //! Document 01 implemented a second time, by other means than proof: two engines, a generator of
 //! sessions, and what is compared with what. All expected answers of the project's tests come from here.
 
+mod aimed;
 pub mod block;
 pub mod calls;
 pub mod cases;

@@ -34,6 +34,11 @@ pub enum Call {
     Replay {
         text: Vec<u8>,
     },
+    /// Replay as far as a frame.
+    ReplayTo {
+        last: u32,
+        text: Vec<u8>,
+    },
     /// The next call is given this state, sound or not.
     Adopt(Box<State>),
 }
@@ -43,7 +48,8 @@ pub enum Call {
 pub struct Outcome {
     /// The refusal's number; 0 if there is none.
     pub refusal: u8,
-    /// The octets written; for replay the answers in order.
+    /// The octets written; for replay the answers in order; for replay as far as a frame also the number of octets
+    /// taken, in four octets, low octet first.
     pub written: Vec<Vec<u8>>,
     /// Octets of the lent output past those written, and all of them at a refusal, stayed as they were.
     pub rest_kept: bool,
@@ -76,6 +82,12 @@ pub fn call(engine: &mut dyn Engine, call: &Call) -> Outcome {
                 written: replayed.answers,
                 rest_kept: true,
             }
+        }
+        Call::ReplayTo { last, text } => {
+            let (replayed, taken) = engine.replay_to(*last, text);
+            let mut written = replayed.answers;
+            written.push((taken as u32).to_le_bytes().to_vec());
+            Outcome { refusal: replayed.refusal.map_or(0, |r| r.number()), written, rest_kept: true }
         }
         Call::Adopt(state) => {
             engine.adopt(state);

@@ -61,6 +61,12 @@ fn input_read_back() {
                     assert!((2880..=6000).contains(&first) && second > 0);
                     Call::Replay { text: octets }
                 }
+                10 => {
+                    let showing = showings.next().unwrap();
+                    assert_eq!((showing.lent, showing.piece), (first, second));
+                    let (last, text) = octets.split_first_chunk().unwrap();
+                    Call::ReplayTo { last: u32::from_le_bytes(*last), text: text.to_vec() }
+                }
                 _ => Call::Adopt(Box::new(reference::block::state(&unpacked(&octets)))),
             };
             assert_eq!(read, *call);

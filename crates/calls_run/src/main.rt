@@ -34,8 +34,10 @@ const REPLAY: u8 = 8;
 
 const ADOPT: u8 = 9;
 
+const REPLAY_TO: u8 = 10;
+
 // Octets of an image at most, and of the longest output that is lent.
-const IMAGE: usize = 9770;
+const IMAGE: usize = State::IMAGE;
 
 const ROOM: usize = 9800;
 
@@ -85,6 +87,9 @@ fn lending(
     }
     if head.tag == REPLAY {
         return journal::replay(block, octets, head.second as usize, out, t);
+    }
+    if head.tag == REPLAY_TO {
+        return journal::replay_to(block, octets, head.second as usize, out, t);
     }
     seen::end()
 }

@@ -20,7 +20,7 @@ const PRIME: u64 = 18014398509481951;
 const COUNTED: u64 = 1000000000;
 
 // One more octet than the longest image has.
-const IMAGE_ROOM: usize = 9771;
+const IMAGE_ROOM: usize = State::IMAGE + 1;
 
 // The output of one call of replay: two of the longest answers fit, so that a long session needs several calls.
 const ANSWER_ROOM: usize = 6000;

@@ -75,13 +75,9 @@ pub fn read_all(fd: i32, name: &[u8], text: &mut [u8]) -> Got
     }
 }
 
-pub fn is_dash(name: &[u8]) -> bool {
-    parts::same(name, b"-")
-}
-
 // Opens a file for reading only, standard input for `-`; below 0 where it cannot, and the reason is on standard error.
 pub fn open(name: &[u8]) -> i32 {
-    if is_dash(name) {
+    if reports::is_dash(name) {
         return STDIN_FILENO;
     }
     let fd = os::open_read(name);

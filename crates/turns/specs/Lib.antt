@@ -6,6 +6,8 @@ pub mod Split
 pub mod Told
 pub mod Swap
 pub mod Takeover
+pub mod Moves
+pub mod Ends
 pub mod Parted
 pub mod Stands
 pub mod Arrives

@@ -20,7 +20,7 @@ use Rattle.sessions.specs.Refusals.{answer-unsound, answer-short, answer-judge}
 use Rattle.model.specs.Types.{Model, Packet, Pair}
 use Rattle.lines.specs.Hex.{isText, octetsIn}
 use Rattle.lines.specs.Texts.{length-is-text}
-use Rattle.lines.specs.Frame.{lineRoom, isFrame, frame-most}
+use Rattle.lines.specs.Frame.{lineRoom, mostFrame, isFrame, frame-most}
 use Rattle.model.specs.Frames.{frameOf, readRaw, read}
 use Rattle.model.specs.Frames.{Body, Typed, command, packet, tick, bad, typed}
 use Rattle.model.specs.Commands.{returned}
@@ -113,8 +113,8 @@ pub act-whole : (m n : Model) (b : Body) (wrote : List ℕ) → soundModel m ≡
 act-whole m n b wrote s o e =
     subst Whole (executed m n b wrote e .says) (answer-whole m (sound-of m s) (typed b) (typed-formed b o))
 
--- more than 263 octets are no frame
-frame-long : (xs : List ℕ) → 263 < length xs → isFrame xs ≡ false
+-- more octets than the longest frame has are no frame
+frame-long : (xs : List ℕ) → mostFrame < length xs → isFrame xs ≡ false
 frame-long xs h = go (isFrame xs) refl
   where
     go : (b : Bool) → isFrame xs ≡ b → b ≡ false

@@ -1,0 +1,14 @@
+use Rattle.reports.specs.Texts.{told}
+use mathlib.Core.Path.{refl}
+use Rattle.reports.proofs.words.blank.Statement.{statement}
+use Rattle.reports.proofs.words.blank.Tie as tie
+use Rattle.reports.proofs.words.blank.Reads as reads
+use Rattle.reports.proofs.words.blank.Lts as lts
+
+-- src/words.rt:17:1
+returns : tie.Need-returns
+unfolding told
+returns c = refl
+
+pub blank-spec : {M : Type 1} → statement M
+blank-spec = tie.close (tie.spec returns)
