@@ -23,11 +23,13 @@
  * examples/gateway does it, docs/FORMATS.md has the formats octet by octet.
  *
  * What a call needs. Octets of stack, measured over journals (reference/stack): write_line none, save 144, submit
- * 520, submit_line 1,064, replay and replay_to 1,176, begin 4,808, restore 14,768. No memory beside that and the
- * caller's buffers: a state of 4,761 octets, outputs of 2,880, 9,770 and 527. The code is 21 KB and reentrant. By the
+ * 1,920, submit_line 2,464, replay and replay_to 2,576, begin 4,808, restore 14,768. No memory beside that and the
+ * caller's buffers: a state of 4,761 octets, outputs of 2,880, 9,770 and 527. The code is 25 KB and reentrant. By the
  * System V calling convention it uses the general registers and those of SSE2 (xmm0 to xmm15), no x87, MMX or AVX: a
  * kernel or an interrupt handler saves these first. Every call's work is bounded, that of the replays by the length
- * of the journal.
+ * of the journal. Its time may depend on all that it is given: where a monitor's condition is a key (type 3), tables
+ * are read at places that depend on the key, so who measures time on the same processor may learn of the key. No
+ * promise here speaks of time. Keys stand in states, images and journals in the clear.
  *
  * Every call returns 0 or the number of a refusal. A refused call writes no octet of its output and leaves the state
  * as it was; refused settings (9) and a refused image (10) leave the blank state. A replay that returns a refusal may

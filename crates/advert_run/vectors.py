@@ -1,10 +1,11 @@
 #!/usr/bin/env python3
 """Makes the vectors of the program (stdin) and the answers that it must give (stdout).
 
-Written from document 01, section Conditions, and document 02, T-06; it shares nothing with the crate's definitions and code. Each vector
-carries the answer worked out by hand; the functions below work it out again, and nothing is written where the two differ.
-Run it in this directory.
+Written from document 01, section Conditions, and document 02, T-03 and T-06; it shares nothing with the crate's definitions and code.
+Each vector carries the answer worked out by hand; the functions below work it out again, and nothing is written where the two differ.
+AES-128 is OpenSSL's, by the command of crates/aes_run/vectors.py. Run it in this directory.
 """
+import subprocess
 
 
 def structures(adv):
@@ -34,14 +35,20 @@ def patterns(condition):
 
 def form(kind, condition):
     if kind == 3:
-        return "2"
+        return "0" if len(condition) == 16 else "1"
     if kind == 1:
         return "1" if patterns(condition) is None else "0"
     if kind == 2:
         return "0" if condition and {1: 2, 2: 4, 3: 16}.get(condition[0]) == len(condition) - 1 else "1"
     if kind == 4:
         return "0" if len(condition) == 7 and condition[0] in (0, 1) else "1"
-    return "3"
+    return "2"
+
+
+def ah(key, prand):
+    """The Core Specification's function, of a key and 3 octets, the most significant octet first."""
+    command = ["openssl", "enc", "-aes-128-ecb", "-nopad", "-K", key.hex()]
+    return subprocess.run(command, input=bytes(13) + prand, capture_output=True, check=True).stdout[13:]
 
 
 def match(kind, condition, address_type, address, adv, scan):
@@ -61,6 +68,10 @@ def match(kind, condition, address_type, address, adv, scan):
                     if content[i:i + len(uuid)] == uuid:
                         return "1"
         return "0"
+    if kind == 3:
+        number = address[::-1]
+        hashed = ah(condition[::-1], number[:3])
+        return "1" if address_type == 1 and number[0] >> 6 == 0b01 and number[3:] == hashed else "0"
     return "1" if condition[0] == address_type and condition[1:] == address else "0"
 
 
@@ -69,9 +80,12 @@ TWO = "02 03010001 06FF000006FFFF"
 NAME = "0409546162"
 U16 = "0102030405060708090A0B0C"
 U128 = "000102030405060708090A0B0C0D0E0F"
+# The Core Specification's sample of ah, the least octet first: IRK ec0234a357c8ad05341010a60a397d9b, prand 708194, hash 0dfbaa.
+IRK = bytes.fromhex("ec0234a357c8ad05341010a60a397d9b")[::-1].hex()
+RPA = "aafb0d948170"
 LONG = "1EFF" + "".join("%02X" % (0x80 + i) for i in range(29))
 
-# title, or condition type, condition, advertisement, answer, and for type 4 address type and address; or condition type, condition,
+# title, or condition type, condition, advertisement, answer, and for types 3 and 4 address type and address; or condition type, condition,
 # a pair of advertisement and scan response, answer
 vectors = [
     "Source document 000, appendix: packets A, B, C, D",
@@ -208,13 +222,47 @@ vectors = [
     (4, "00" + A + "00", "", "1-", 0, A),
     (4, "00", "", "1-", 0, A),
     (4, "", "", "1-", 0, A),
+    "Keys: 15, 16 and 17 octets, none, one, a condition of another type; zeros",
+    (3, IRK[2:], "", "1-", 1, RPA),
+    (3, IRK[:30], "", "1-", 1, RPA),
+    (3, IRK, "", "01", 1, RPA),
+    (3, IRK + "00", "", "1-", 1, RPA),
+    (3, "00" + IRK, "", "1-", 1, RPA),
+    (3, "", "", "1-", 1, RPA),
+    (3, "9B", "", "1-", 1, RPA),
+    (3, "01 03010006", "020106", "1-", 1, RPA),
+    (3, "00" * 16, "", "00", 1, RPA),
+    (3, U128, "", "00", 1, RPA),
+    "Keys: the public type; top bits 00, 10, 11 with the hash of that prand; the sample's hash with other top bits",
+    (3, IRK, "", "00", 0, RPA),
+    (3, IRK, "", "00", 2, RPA),
+    (3, IRK, "", "00", 1, "60a761948130"),
+    (3, IRK, "", "00", 1, "1b0da89481b0"),
+    (3, IRK, "", "00", 1, "6e5efc9481f0"),
+    (3, IRK, "", "00", 1, "aafb0d948130"),
+    (3, IRK, "", "00", 1, "aafb0d9481b0"),
+    (3, IRK, "", "00", 1, "aafb0d9481f0"),
+    "Keys: a bit of the hash, of prand, of the key changed; the key and the address in the wrong octet order; the hash from the other end",
+    (3, IRK, "", "00", 1, "abfb0d948170"),
+    (3, IRK, "", "00", 1, "aafb8d948170"),
+    (3, IRK, "", "00", 1, "aafb0d958170"),
+    (3, IRK, "", "00", 1, "aafb0d948171"),
+    (3, "9a" + IRK[2:], "", "00", 1, RPA),
+    (3, IRK[:30] + "6c", "", "00", 1, RPA),
+    (3, bytes.fromhex(IRK)[::-1].hex(), "", "00", 1, RPA),
+    (3, IRK, "", "00", 1, bytes.fromhex(RPA)[::-1].hex()),
+    (3, IRK, "", "00", 1, "5f9d15948170"),
+    "Keys: another address of the same key, of zeros; the texts do not count",
+    (3, IRK, "", "01", 1, "d6cd79c7315a"),
+    (3, "00" * 16, "", "00", 1, "d6cd79c7315a"),
+    (3, "00" * 16, "", "01", 1, ah(bytes(16), b"\x40\0\0")[::-1].hex() + "000040"),
+    (3, IRK, "020106", "01", 1, RPA),
+    (3, IRK, ("020106", "02FFAA"), "01", 1, RPA),
+    (3, IRK, ("020106", "02FFAA"), "00", 0, RPA),
     "Other types",
-    (0, "01 03010006", "020106", "3-"),
-    (3, U128, "", "2-"),
-    (3, "", "", "2-"),
-    (3, "01 03010006", "020106", "2-"),
-    (5, "00" + A, "", "3-", 0, A),
-    (255, "01 0D18", "03030D18", "3-"),
+    (0, "01 03010006", "020106", "2-"),
+    (5, "00" + A, "", "2-", 0, A),
+    (255, "01 0D18", "03030D18", "2-"),
     "Scan responses: in the advertisement, in the scan response, in both, in neither",
     (1, "01 03FF00AA", ("02FFAA", ""), "01"),
     (1, "01 03FF00AA", ("", "02FFAA"), "01"),

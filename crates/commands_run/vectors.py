@@ -118,7 +118,10 @@ def edges():
     yield b"MS", ["0400", "0401", "040F", "0410", "04FF"]
     # enable, in both states
     yield b"MS", ["0500", "0502", "05FF", "0501", "0501", "0502", "0500", "0500"]
-    # the order of 03's statuses: a threshold, the order, the interval, the type come before type 3
+    # keys of none, 15, 16 and 17 octets; of zeros; twice the same; with 16 monitors live a key of 15 is 0x12 still, one of 16 is 0x07
+    yield b"MS", ["03" + GOOD + "03" + "9B" * size for size in (0, 1, 15, 16, 17, 64, 65)] + ["03" + GOOD + "03" + "00" * 16] * 2
+    yield b"MS", ["03" + GOOD + "03" + "9B" * 16] * 17 + ["03" + GOOD + "03" + "9B" * size for size in (0, 15, 17, 65)]
+    # the order of 03's statuses: a threshold, the order, the interval, the type come before a key's length
     yield b"MS", ["0315B0030003", "03C4B0000003", "03B0C4030003", "0315B0000005", "03C4B0003D0400", "0315"]
 
 

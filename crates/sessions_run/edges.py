@@ -1,6 +1,6 @@
 """Sessions made by hand for both sides of the edges of conditions, of a line's characters and of images (document 01,
 Conditions, Lines, The image)."""
-from made import NAMED, OPCODE, SMALL, Session, address, line, long_data, of_device
+from made import KEY, NAMED, OPCODE, SMALL, Session, address, line, long_data, of_device
 
 PATTERN = NAMED[2:]
 
@@ -8,9 +8,10 @@ PATTERN = NAMED[2:]
 MALFORMED = (
     bytes([1]), bytes([1, 0]), bytes([1, 0]) + PATTERN, bytes([1, 1]) + PATTERN + PATTERN, bytes([1, 2]) + PATTERN,
     bytes([1, 1, 2, 9, 0]), bytes([1, 1, 4, 9, 0, 0x41]), bytes([2]), bytes([2, 1, 0x0F]), bytes([2, 4, 0x0F, 0x18]),
+    bytes([3]), bytes([3]) + bytes(15), bytes([3]) + bytes(17),
     bytes([4]), bytes([4, 2]) + address(1), bytes([4, 0]) + address(1)[:5], bytes([4, 0]) + address(1) + b"\x00",
 )
-FORMED = (bytes([1, 2]) + PATTERN + PATTERN, bytes([2, 1, 0x0F, 0x18]), bytes([4, 1]) + address(1))
+FORMED = (bytes([1, 2]) + PATTERN + PATTERN, bytes([2, 1, 0x0F, 0x18]), bytes([3]) + KEY, bytes([4, 1]) + address(1))
 
 
 def conditions():
@@ -85,7 +86,9 @@ IMAGES = (
     ("interval 0", head() + monitor(interval=0) + end(1, 0), False),
     ("interval 61", head() + monitor(interval=61) + pair() + end(), False),
     ("a condition of type 0", head() + monitor(condition=bytes([0])) + end(1, 0), False),
-    ("a condition of type 3", head() + monitor(condition=bytes([3]) + bytes(16)) + end(1, 0), False),
+    ("a key of 15 octets", head() + monitor(condition=bytes([3]) + bytes(15)) + end(1, 0), False),
+    ("a key of 16 octets", head() + monitor(condition=bytes([3]) + bytes(16)) + end(1, 0), True),
+    ("a key of 17 octets", head() + monitor(condition=bytes([3]) + bytes(17)) + end(1, 0), False),
     ("a condition of type 5", head() + monitor(condition=bytes([5]) + bytes(7)) + end(1, 0), False),
     ("a malformed condition", head() + monitor(condition=bytes([1, 0])) + end(1, 0), False),
     ("condition length 65", head() + monitor(condition=bytes([1, 1, 62, 9]), length=65) + end(1, 0), False),

@@ -67,6 +67,11 @@ NAMED = bytes([1, 1, 3, 9, 0, 0x41])
 SMALL = bytes([2, 9, 0x41])
 
 
+# The Core Specification's sample of ah: the key and the address 70:81:94:0D:FB:AA, least octet first.
+KEY = bytes.fromhex("EC0234A357C8AD05341010A60A397D9B")[::-1]
+PRIVATE = bytes.fromhex("7081940DFBAA")[::-1]
+
+
 def long_data(fill):
     """31 octets of data that match NAMED."""
     return bytes([30, 9, 0x41]) + bytes([fill]) * 28

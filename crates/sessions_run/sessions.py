@@ -13,7 +13,7 @@ import tempfile
 
 sys.dont_write_bytecode = True
 from edges import characters, conditions, images
-from made import NAMED, OPCODE, SMALL, Session, address, line, long_data, of_device
+from made import KEY, NAMED, OPCODE, PRIVATE, SMALL, Session, address, line, long_data, of_device
 
 PRIME = 2**54 - 33
 ROOM = 65536
@@ -156,6 +156,42 @@ def scans():
                 made.scanned(device, -79 - device % 2, data, scan, event=2 - 2 * (device % 2))
             made.ticks(20)
             yield made
+
+
+def private():
+    """A key (T-03): its address, and addresses that nearly are; keys that nearly are."""
+    changed = [bytes(o ^ (1 << bit % 8 if i == bit // 8 else 0) for i, o in enumerate(PRIVATE)) for bit in range(48)]
+    for kind in (0, 1):
+        made = Session("a key, address type %d" % kind, enable=1)
+        made.add(bytes([3]) + KEY, interval=2, sampling=5)
+        made.add(bytes([3]) + KEY[::-1])
+        made.add(bytes([3]) + KEY[:15] + bytes([KEY[15] ^ 1]))
+        made.add(bytes([3]) + bytes([KEY[0] ^ 0x80]) + KEY[1:])
+        for device in changed + [PRIVATE[::-1], PRIVATE, PRIVATE]:
+            made.frame(2, bytes([3, kind]) + device + bytes([2, 1, 9, 0xC4]))
+        made.ticks(21)
+        yield made
+    # one key twice, another between, other settings; then the first handle of the key cancelled, then both, then the key again
+    made = Session("two monitors of one key", enable=1)
+    for key in (KEY, KEY[::-1], KEY):
+        made.add(bytes([3]) + key, high=-60 - 10 * made.number, sampling=made.number % 2)
+    for handle in (None, 0, 2, 1, None):
+        if handle is not None:
+            made.cancel(handle)
+        for rssi in (0xC4, 0xB0, 0xA6):
+            made.frame(2, bytes([0, 1]) + PRIVATE + bytes([0, rssi]))
+        made.ticks(2)
+    made.add(bytes([3]) + KEY)
+    made.frame(2, bytes([0, 1]) + PRIVATE + bytes([0, 0xC4]))
+    yield made
+    # sixteen monitors of one key: a start of each at one packet
+    made = Session("sixteen monitors of one key", enable=1)
+    for _ in range(16):
+        made.add(bytes([3]) + KEY, interval=1)
+    for device in (PRIVATE, changed[0], PRIVATE):
+        made.frame(2, bytes([0, 1]) + device + bytes([0, 0xC4]))
+    made.ticks(10)
+    yield made
 
 
 def ends():
@@ -335,7 +371,8 @@ def read(path):
 
 def main():
     reference, sessions, lines = sys.argv[1], [], []
-    kinds = (in_full, full, sixteen, windows, samplings, equal, switched, scans, ends, longest, counted, refused)
+    kinds = (in_full, full, sixteen, windows, samplings, equal, switched, scans, private, ends, longest, counted)
+    kinds += (refused,)
     with tempfile.TemporaryDirectory() as folder:
         for kind in kinds + (conditions, characters, images):
             for made in kind():

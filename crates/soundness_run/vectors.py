@@ -31,6 +31,8 @@ def well_formed(kind, c):
         return not rest
     if kind == 2:
         return len(c) > 0 and (c[0], len(c) - 1) in ((1, 2), (2, 4), (3, 16))
+    if kind == 3:  # document 02, T-03
+        return len(c) == 16
     return kind == 4 and len(c) == 7 and c[0] <= 1
 
 
@@ -121,7 +123,8 @@ vectors = [
     ("low -128", [mon(0, low=0x80)], 0), ("high at low", [mon(0, high=0xB0)], 1), ("low one above high", [mon(0, low=0xC5)], 0),
     ("interval 0", [mon(0, interval=0)], 0), ("interval 1", [mon(0, interval=1)], 1),
     ("interval 60", [mon(0, interval=60)], 1), ("interval 61", [mon(0, interval=61)], 0),
-    ("type 0", [mon(0, kind=0)], 0), ("type 3", [mon(0, kind=3, condition=bytes(16))], 0), ("type 5", [mon(0, kind=5)], 0),
+    ("type 0", [mon(0, kind=0)], 0), ("key of 15", [mon(0, kind=3, condition=bytes(15))], 0),
+    ("key of 16", [mon(0, kind=3, condition=bytes(16))], 1), ("key of 17", [mon(0, kind=3, condition=bytes(17))], 0), ("type 5", [mon(0, kind=5)], 0),
     ("malformed", [mon(0, condition=bytes(6))], 0), ("uuid", [mon(0, kind=2, condition=b"\1\x0A\x18")], 1),
     ("uuid type 4", [mon(0, kind=2, condition=b"\4\x0A\x18")], 0), ("address type 2", [mon(0, condition=b"\2" + bytes(6))], 0),
     ("pattern of 64", [mon(0, kind=1, condition=pattern[:1] + bytes([62]) + pattern[2:64])], 1),

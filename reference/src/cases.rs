@@ -1,5 +1,6 @@
 //! Cases for programs: an image, a journal, and what is to be written; and single vectors, a line each.
 
+use crate::aes;
 use crate::command::{self, View};
 use crate::condition::{self, Form, Text};
 use crate::engine::{journal, write_line, Engine};
@@ -10,11 +11,15 @@ use crate::history::History;
 use crate::image;
 use crate::limits::{ANSWER, CONDITION};
 use crate::lines::{self, hex};
+use crate::private;
 use crate::program;
 use crate::random::Random;
 use crate::script::{self, Call};
 use crate::state::State;
 use crate::timers::Timers;
+
+/// One case in so many has addresses that change every 9,000 ticks.
+const QUARTERS: u64 = 1000;
 
 pub struct Case {
     pub image: Vec<u8>,
@@ -26,10 +31,13 @@ pub struct Case {
 /// of them damaged at times. Both engines must say the same of it.
 pub fn case(seed: u64, index: u64) -> Case {
     let mut random = Random::of(seed ^ 0xCA5E, index);
-    let (base, calls) = match random.percent(30) {
+    let (base, calls) = match random.percent(30) && index % QUARTERS != 7 {
         true => generate::session_from(seed, index, 80),
         false => {
-            let calls = generate::session(seed, index, 120);
+            let calls = match index % QUARTERS {
+                7 => generate::quarters(seed, index),
+                _ => generate::session(seed, index, 120),
+            };
             let Call::Start { opcode, prefix } = &calls[0] else { panic!("a session starts") };
             (State::fresh(*opcode, prefix), calls[1..].to_vec())
         }
@@ -91,6 +99,7 @@ pub fn vectors(kind: &str, seed: u64, count: usize) -> Option<Vec<String>> {
         "frames" => frame_vectors,
         "conditions" => condition_vectors,
         "sections" => section_vectors,
+        "blocks" => block_vectors,
         "commands" => command_vectors,
         "images" => image_vectors,
         "means" => mean_vectors,
@@ -152,13 +161,13 @@ fn frame_vectors(seed: u64, index: u64) -> Vec<String> {
 }
 
 /// `TYPE CONDITION ADDRESS-TYPE ADDRESS DATA SCAN ANSWER`: SCAN is `no` for a packet of kind 02; ANSWER is `match`,
-/// `none`, `malformed`, `irk` or `type`.
+/// `none`, `malformed` or `type`.
 fn condition_vectors(seed: u64, index: u64) -> Vec<String> {
     let mut random = Random::of(seed, index);
     let devices = states::devices(&mut random);
     let (kind, octets) = match random.below(10) {
         0 => conditions::malformed(&mut random),
-        1 => (random.pick(&[0, 3, 5, 255]), random.octets(16)),
+        1 => (random.pick(&[0, 5, 255]), random.octets(16)),
         2 => (1, conditions::longest(&mut random)),
         _ => conditions::well_formed(&mut random, &devices),
     };
@@ -173,13 +182,15 @@ fn condition_vectors(seed: u64, index: u64) -> Vec<String> {
         }
     }
     let rows = (0..6).map(|_| {
-        let device = random.pick(&devices);
+        let device = match <&private::Key>::try_from(&octets[..]) {
+            Ok(key) if kind == 3 => states::private_device(&mut random, key),
+            _ => random.pick(&devices),
+        };
         let (data, scan) = conditions::texts(&mut random, state.monitors());
         let scan = random.percent(50).then_some(scan);
         let packet = Packet { event_type: 0, device, data, scan, rssi: 0 };
         let answer = match condition::form(kind, &octets) {
             Form::Malformed => "malformed",
-            Form::Irk => "irk",
             Form::NoType => "type",
             Form::WellFormed if condition::matches(kind, &octets, &packet, Fault::None) => "match",
             Form::WellFormed => "none",
@@ -259,6 +270,13 @@ fn image_vectors(seed: u64, index: u64) -> Vec<String> {
         format!("{} {answer}", hex(text))
     });
     rows.collect()
+}
+
+/// `KEY BLOCK CIPHER`: AES-128, octets in FIPS 197's order.
+fn block_vectors(seed: u64, index: u64) -> Vec<String> {
+    let mut random = Random::of(seed, index);
+    let [key, block]: [[u8; 16]; 2] = std::array::from_fn(|_| random.octets(16).try_into().unwrap());
+    vec![format!("{} {} {}", hex(&key), hex(&block), hex(&aes::encrypt(&key, &block, Fault::None)))]
 }
 
 /// `SUM COUNT MEAN`: the sum as 8 octets and the count as 4, as in an A2 line; the mean as its octet.

@@ -39,7 +39,6 @@ const FEATURES: u64 = 0x0C;
 const UNKNOWN_COMMAND: u8 = 0x01;
 const MEMORY_EXCEEDED: u8 = 0x07;
 const COMMAND_DISALLOWED: u8 = 0x0C;
-const UNSUPPORTED_VALUE: u8 = 0x11;
 const INVALID_PARAMETERS: u8 = 0x12;
 
 /// The answer to these parameters; the first is the sub-opcode.
@@ -122,11 +121,8 @@ fn add(view: &View, parameters: &[u8], right_length: bool, fault: Fault) -> Resu
         return fail(Rule::AddType, INVALID_PARAMETERS);
     }
     let full = view.live.count_ones() as usize >= if fault == Fault::FifteenMonitors { 15 } else { MONITORS };
-    if form == Form::Irk && full && fault == Fault::IrkAfterFull {
-        return Err(MEMORY_EXCEEDED);
-    }
-    if form == Form::Irk {
-        return fail(Rule::AddIrk, UNSUPPORTED_VALUE);
+    if kind == 3 && fault == Fault::KeyRefused {
+        return Err(INVALID_PARAMETERS);
     }
     if condition.len() > CONDITION && fault == Fault::LongBeforeMalformed {
         return Err(MEMORY_EXCEEDED);
@@ -143,6 +139,9 @@ fn add(view: &View, parameters: &[u8], right_length: bool, fault: Fault) -> Resu
     hit(Rule::AddSuccess);
     if high == low {
         hit(Rule::AddEqual);
+    }
+    if kind == 3 {
+        hit(Rule::AddKey);
     }
     if view.live.leading_zeros() < view.live.count_zeros() {
         hit(Rule::AddReused);

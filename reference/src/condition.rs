@@ -4,14 +4,13 @@
 use crate::coverage::{hit, Rule};
 use crate::fault::Fault;
 use crate::frame::Packet;
+use crate::private;
 
 /// What a condition of some type is.
 #[derive(Clone, Copy, PartialEq, Eq, Debug)]
 pub enum Form {
     WellFormed,
     Malformed,
-    /// Type 3, an IRK: not built.
-    Irk,
     /// A type outside 1 to 4.
     NoType,
 }
@@ -21,7 +20,7 @@ pub fn form(kind: u8, condition: &[u8]) -> Form {
     let well = match kind {
         1 => patterns(condition).is_some(),
         2 => uuid(condition).is_some(),
-        3 => return Form::Irk,
+        3 => condition.len() == 16,
         4 => condition.len() == 7 && condition[0] <= 1,
         _ => return Form::NoType,
     };
@@ -41,6 +40,7 @@ pub fn matches(kind: u8, condition: &[u8], packet: &Packet, fault: Fault) -> boo
     match kind {
         1 => pattern_condition(condition, packet, fault),
         2 => uuid_condition(condition, packet, fault),
+        3 => key_condition(condition, packet, fault),
         4 => address_condition(condition, packet, fault),
         _ => false,
     }
@@ -228,6 +228,19 @@ fn uuid_condition(condition: &[u8], packet: &Packet, fault: Fault) -> bool {
     }
     hit(Rule::UuidNone);
     false
+}
+
+/// Type 3: exactly 16 octets of key; a private address of it (document 02, T-03).
+fn key_condition(condition: &[u8], packet: &Packet, fault: Fault) -> bool {
+    let Ok(key) = condition.try_into() else { return false };
+    let resolves = private::resolves(key, &packet.device, fault);
+    hit(match (packet.device.kind, packet.device.address[5] >> 6) {
+        (0, _) => Rule::KeyPublic,
+        (_, 0b01) if resolves => Rule::KeyMatch,
+        (_, 0b01) => Rule::KeyOther,
+        _ => Rule::KeyTopBits,
+    });
+    resolves
 }
 
 /// Type 4: address type and address, equal to the packet's.

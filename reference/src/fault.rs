@@ -64,7 +64,7 @@ faults! {
     Interval0: "interval 0x00 is accepted",
     Interval60Refused: "interval 0x3C is refused",
     Interval61: "interval 0x3D is accepted",
-    IrkAfterFull: "condition type 3 with 16 monitors live gives 0x07",
+    KeyRefused: "condition type 3 is refused",
     LongBeforeMalformed: "a malformed condition over 64 octets gives 0x07",
     Condition63: "a condition of 64 octets is too long",
     FifteenMonitors: "a 16th monitor gives 0x07",
@@ -143,6 +143,15 @@ faults! {
     EmptyScanNoReport: "an empty scan response has no report",
     ScanReportType0: "the second report has event type 0",
     WindowKeepsScan: "a window keeps the scan response",
+    // T-03.
+    TableEntry: "an entry of the substitution table is another",
+    RowsToTheRight: "ShiftRows goes to the right",
+    LastRoundMixed: "the last round has MixColumns",
+    KeyNotReversed: "the key's octets are not reversed",
+    HashFromFront: "the hash is the highest 24 bits",
+    TopBitsIgnored: "the address's top two bits are not looked at",
+    PrandWithoutTop: "the top two bits do not go into ah",
+    PublicResolves: "a public address matches a key",
     ;
     // T-06: a condition matches if either text does, whichever is looked at first.
     ScanFirst: "the scan response is looked at first",

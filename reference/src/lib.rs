@@ -2,6 +2,7 @@
 //! sessions, and what is compared with what. All expected answers of the project's tests come from here.
 
 mod aimed;
+pub mod aes;
 pub mod block;
 pub mod calls;
 pub mod cases;
@@ -19,6 +20,7 @@ pub mod history;
 pub mod image;
 pub mod limits;
 pub mod lines;
+pub mod private;
 pub mod program;
 pub mod random;
 pub mod refusal;

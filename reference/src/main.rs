@@ -14,7 +14,8 @@ reference history IMAGE JOURNAL     the same by the history rule
 reference calls DIR SEED COUNT      writes DIR/stdin and DIR/stdout: COUNT scripts for crates/calls_run
 reference calls DIR SEED COUNT N    the same scripts, and what wrong build N gives
 reference cases DIR SEED COUNT      writes COUNT cases: DIR/N.image, N.journal, N.expected
-reference vectors KIND SEED COUNT   COUNT vectors, KIND: lines frames conditions sections commands images means
+reference vectors KIND SEED COUNT   COUNT vectors, KIND: lines frames conditions sections blocks commands
+                                    images means
 reference costs SEED COUNT          COUNT vectors of the cost of a match
 reference costs SEED COUNT N        what wrong build N of those that only vectors notice gives
 reference coverage SEED COUNT       how often COUNT scripts reach each rule, status and refusal

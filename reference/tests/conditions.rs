@@ -142,8 +142,10 @@ fn forms() {
     let rows = [
         (0, "", Form::NoType),
         (5, "", Form::NoType),
-        (3, "", Form::Irk),
-        (3, "00112233445566778899AABBCCDDEEFF", Form::Irk),
+        (3, "", Form::Malformed),
+        (3, "00112233445566778899AABBCCDDEE", Form::Malformed),
+        (3, "00112233445566778899AABBCCDDEEFF", Form::WellFormed),
+        (3, "00112233445566778899AABBCCDDEEFF00", Form::Malformed),
         (1, "", Form::Malformed),
         (1, "00", Form::Malformed),
         (1, "01", Form::Malformed),

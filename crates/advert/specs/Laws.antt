@@ -13,37 +13,42 @@ use lib.Seq.{length-take-le}
 use Rattle.laws.specs.Loops.{when}
 use Rattle.laws.specs.Tests.{pick, sames, sames-eq, sames-refl, and-left, and-right, cases-le, cases-eq}
 use Rattle.advert.specs.declared.Form.{Form}
-use Rattle.advert.specs.declared.Form.the-variants.{Good, Malformed, NotBuilt, Unknown}
+use Rattle.advert.specs.declared.Form.the-variants.{Good, Malformed, Unknown}
 use Rattle.advert.specs.Parts.{partsFrom, parts}
 use Rattle.advert.specs.Pattern.{patterns, patternsForm, patternsMeet, fills, extent}
 use Rattle.advert.specs.Uuid.{uuidForm, uuidMeets, uuid-cases, uuid-bounds, uuid-bad}
 use Rattle.advert.specs.Address.{addressForm, addressMeets, address-bounds}
+use Rattle.advert.specs.Irk.{irkForm, irkMeets, irk-bounds}
 use Rattle.advert.specs.Condition.{wellFormed, meets, formOf, formStatus}
 
--- the types that are built
+-- the types of conditions
 abbrev pub Built : ℕ → Type 0
-Built kind = (kind ≡ 1) ⊎ ((kind ≡ 2) ⊎ (kind ≡ 4))
+Built kind = (kind ≡ 1) ⊎ ((kind ≡ 2) ⊎ ((kind ≡ 3) ⊎ (kind ≡ 4)))
 
--- one of four by the type, as a test: true says that the type is built
-kind-of : (kind : ℕ) (a b d : Bool) → pick (eqb kind 1) a (pick (eqb kind 2) b (pick (eqb kind 4) d false)) ≡ true
+-- one of five by the type, as a test: true says that the type is one of them
+kind-of : (kind : ℕ) (a b c d : Bool)
+    → pick (eqb kind 1) a (pick (eqb kind 2) b (pick (eqb kind 3) c (pick (eqb kind 4) d false))) ≡ true
     → Built kind
 unfolding pick
-kind-of kind a b d e =
+kind-of kind a b c d e =
     cases-eq kind 1 (λ z. inl z)
     (λ n1. cases-eq kind 2 (λ z. inr (inl z))
-    (λ n2. cases-eq kind 4 (λ z. inr (inr z))
-    (λ n4. absurd (false≢true (rw (ne-eqb kind 1 n1, ne-eqb kind 2 n2, ne-eqb kind 4 n4) at e)))))
+    (λ n2. cases-eq kind 3 (λ z. inr (inr (inl z)))
+    (λ n3. cases-eq kind 4 (λ z. inr (inr (inr z)))
+    (λ n4. absurd (false≢true (rw (ne-eqb kind 1 n1, ne-eqb kind 2 n2, ne-eqb kind 3 n3, ne-eqb kind 4 n4) at e))))))
 
--- only a condition of a built type is well formed or matches
+-- only a condition of one of these types is well formed or matches
 pub well-kind : (kind : ℕ) (condition : List ℕ) → wellFormed kind condition ≡ true → Built kind
 unfolding wellFormed
-well-kind kind condition e = kind-of kind (patternsForm condition) (uuidForm condition) (addressForm condition) e
+well-kind kind condition e =
+    kind-of kind (patternsForm condition) (uuidForm condition) (irkForm condition) (addressForm condition) e
 
 pub meets-kind : (kind : ℕ) (condition : List ℕ) (t : ℕ) (address adv scan : List ℕ)
     → meets kind condition t address adv scan ≡ true → Built kind
 unfolding meets
 meets-kind kind condition t address adv scan e =
-    kind-of kind (patternsMeet condition adv scan) (uuidMeets condition adv scan) (addressMeets condition t address) e
+    kind-of kind (patternsMeet condition adv scan) (uuidMeets condition adv scan) (irkMeets condition t address)
+    (addressMeets condition t address) e
 
 -- the form and the match of each type
 pub well-pattern : (condition : List ℕ) → wellFormed 1 condition ≡ patternsForm condition
@@ -53,6 +58,10 @@ well-pattern condition = refl
 pub well-uuid : (condition : List ℕ) → wellFormed 2 condition ≡ uuidForm condition
 unfolding wellFormed pick
 well-uuid condition = refl
+
+pub well-irk : (condition : List ℕ) → wellFormed 3 condition ≡ irkForm condition
+unfolding wellFormed pick
+well-irk condition = refl
 
 pub well-address : (condition : List ℕ) → wellFormed 4 condition ≡ addressForm condition
 unfolding wellFormed pick
@@ -135,7 +144,8 @@ pub well-length : (kind : ℕ) (condition : List ℕ) → wellFormed kind condit
 well-length kind condition e =
     ⊎-elim (λ z. omega (arith, pattern-count condition (rw z at e)))
     (⊎-elim (λ z. omega (arith, uuid-bounds condition (sym (well-uuid condition) ∙ rw z at e)))
-    (λ z. omega (arith, address-length condition (rw z at e))))
+    (⊎-elim (λ z. omega (arith, irk-bounds condition (sym (well-irk condition) ∙ rw z at e)))
+    (λ z. omega (arith, address-length condition (rw z at e)))))
     (well-kind kind condition e)
 
 pub well-short : (kind : ℕ) (condition : List ℕ) → wellFormed kind condition ≡ true → (kind ≡ 1 → ⊥)
@@ -143,44 +153,39 @@ pub well-short : (kind : ℕ) (condition : List ℕ) → wellFormed kind conditi
 well-short kind condition e n =
     ⊎-elim (λ z. absurd (n z))
     (⊎-elim (λ z. omega (arith, uuid-bounds condition (sym (well-uuid condition) ∙ rw z at e)))
-    (λ z. omega (arith, address-length condition (rw z at e))))
+    (⊎-elim (λ z. omega (arith, irk-bounds condition (sym (well-irk condition) ∙ rw z at e)))
+    (λ z. omega (arith, address-length condition (rw z at e)))))
     (well-kind kind condition e)
 
 -- the answer on the form says whether the condition is well formed
 pub form-good : (kind : ℕ) (condition : List ℕ) → formOf kind condition ≡ Good → wellFormed kind condition ≡ true
 unfolding formOf pick
-form-good kind condition e = go (eqb kind 3) (leb 1 kind && leb kind 4) (wellFormed kind condition) e
+form-good kind condition e = go (leb 1 kind && leb kind 4) (wellFormed kind condition) e
   where
-    go : (a b w : Bool) → pick a NotBuilt (pick b (pick w Good Malformed) Unknown) ≡ Good → w ≡ true
-    go true b w e = let z : _≡_ {A = ℕ} 0 1 = cc in absurd (omega arith)
-    go false false w e = let z : _≡_ {A = ℕ} 0 1 = cc in absurd (omega arith)
-    go false true false e = let z : _≡_ {A = ℕ} 0 1 = cc in absurd (omega arith)
-    go false true true e = refl
+    go : (b w : Bool) → pick b (pick w Good Malformed) Unknown ≡ Good → w ≡ true
+    go false w e = let z : _≡_ {A = ℕ} 0 1 = cc in absurd (omega arith)
+    go true false e = let z : _≡_ {A = ℕ} 0 1 = cc in absurd (omega arith)
+    go true true e = refl
 
 pub good-form : (kind : ℕ) (condition : List ℕ) → wellFormed kind condition ≡ true → formOf kind condition ≡ Good
 unfolding formOf pick
 good-form kind condition e =
-    let b : (1 ≤ kind) × (kind ≤ 4) × (kind ≡ 3 → ⊥) =
-    ⊎-elim (λ z. (omega arith, omega arith, λ y. omega arith))
-    (⊎-elim (λ z. (omega arith, omega arith, λ y. omega arith)) (λ z. (omega arith, omega arith, λ y. omega arith)))
-    (well-kind kind condition e) in
-    rw (ne-eqb kind 3 (b .2), le-leb 1 kind (b .0), le-leb kind 4 (b .1), e)
-
-pub form-three : (condition : List ℕ) → formOf 3 condition ≡ NotBuilt
-unfolding formOf pick
-form-three condition = refl
+    let b : (1 ≤ kind) × (kind ≤ 4) =
+    ⊎-elim (λ z. (omega arith, omega arith)) (⊎-elim (λ z. (omega arith, omega arith))
+    (⊎-elim (λ z. (omega arith, omega arith)) (λ z. (omega arith, omega arith)))) (well-kind kind condition e) in
+    rw (le-leb 1 kind (b .0), le-leb kind 4 (b .1), e)
 
 -- the types go to 4
 pub well-kind-most : (kind : ℕ) (condition : List ℕ) → wellFormed kind condition ≡ true → kind ≤ 4
 well-kind-most kind condition e =
-    ⊎-elim (λ z. omega arith) (⊎-elim (λ z. omega arith) (λ z. omega arith)) (well-kind kind condition e)
+    ⊎-elim (λ z. omega arith) (⊎-elim (λ z. omega arith) (⊎-elim (λ z. omega arith) (λ z. omega arith)))
+    (well-kind kind condition e)
 
 -- a status is an octet
 pub status-below : (f : Form) → formStatus f < 256
 unfolding formStatus
 status-below Good = omega arith
 status-below Malformed = omega arith
-status-below NotBuilt = omega arith
 status-below Unknown = omega arith
 
 -- the status is 0 exactly for a well-formed condition
@@ -197,5 +202,4 @@ status-zero kind condition e = form-good kind condition (go (formOf kind conditi
     go : (f : Form) → formStatus f ≡ 0 → f ≡ Good
     go Good e = refl
     go Malformed e = absurd (omega arith)
-    go NotBuilt e = absurd (omega arith)
     go Unknown e = absurd (omega arith)

@@ -5,8 +5,10 @@ pub mod Either
 pub mod Pattern
 pub mod Uuid
 pub mod Address
+pub mod Irk
 pub mod Condition
 pub mod Laws
 pub mod Cost
 pub mod CostMost
 pub mod Examples
+pub mod Keyed

@@ -13,13 +13,16 @@ ghost use Rattle.advert.specs.Cost.{matchCost, wrapped};
 ghost use Rattle.advert.specs.Pattern.{patternsMeet};
 ghost use Rattle.advert.specs.Uuid.{listed, uuidForm, uuidMeets};
 ghost use Rattle.advert.specs.Address.{addressForm, addressMeets};
+ghost use Rattle.advert.specs.Irk.{irkForm, irkMeets};
 ghost use Rattle.advert.specs.Condition.{formOf, formStatus, meets, wellFormed};
 
-// What is said of a condition's form: as its type asks, not so, a type that is not built yet, a type that is none.
+// The condition type of an identity resolving key (document 02, T-03).
+pub const IRK: u8 = 3;
+
+// What is said of a condition's form: as its type asks, not so, a type that is none.
 pub enum Form {
     Good,
     Malformed,
-    NotBuilt,
     Unknown,
 }
 
@@ -118,6 +121,23 @@ fn address_meets(condition: &[u8], address_type: u8, address: &[u8]) -> bool
     (t == address_type) & c.same
 }
 
+// Whether the condition is a key.
+fn irk_form(condition: &[u8]) -> bool
+    ensures { λ r. ⌜ r ≡ irkForm (now (condition .entry)) ⌝ }
+{
+    condition.len() == resolve::KEY
+}
+
+// Whether a packet's address is a random one that the key resolves. For a public one no cipher runs.
+fn irk_meets(condition: &[u8], address_type: u8, address: &[u8]) -> bool
+    ensures { λ r. ⌜ r ≡ irkMeets (now (condition .entry)) «address_type» (now (address .entry)) ⌝ }
+{
+    if address_type != 1 {
+        return false;
+    }
+    resolve::resolves(condition, address)
+}
+
 // The status of each answer on a condition's form; 0 is success.
 pub fn status_of(form: Form) -> u8
     ensures { λ r. ⌜ r ≡ formStatus form ⌝ }
@@ -125,7 +145,6 @@ pub fn status_of(form: Form) -> u8
     match form {
         Form::Good => 0,
         Form::Malformed => 0x12,
-        Form::NotBuilt => 0x11,
         Form::Unknown => 0x12,
     }
 }
@@ -134,9 +153,6 @@ pub fn status_of(form: Form) -> u8
 pub fn condition_form(kind: u8, condition: &[u8]) -> Form
     ensures { λ r. ⌜ r ≡ formOf kind (now (condition .entry)) ⌝ }
 {
-    if kind == 3 {
-        return Form::NotBuilt;
-    }
     if kind == 0 {
         return Form::Unknown;
     }
@@ -158,6 +174,9 @@ fn well_formed(kind: u8, condition: &[u8]) -> bool
     }
     if kind == 2 {
         return uuid_form(condition);
+    }
+    if kind == IRK {
+        return irk_form(condition);
     }
     if kind == 4 {
         return address_form(condition);
@@ -182,6 +201,9 @@ pub fn match_packet<'a, 'b, 'c>(
     }
     if kind == 2 {
         return uuid_meets(condition, adv, scan);
+    }
+    if kind == IRK {
+        return irk_meets(condition, address_type, address);
     }
     if kind == 4 {
         return address_meets(condition, address_type, address);

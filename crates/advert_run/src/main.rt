@@ -1,6 +1,6 @@
 // Runs vectors for the form and the match of conditions. Standard input holds a vector a line, its fields in
 // hexadecimal with a blank between them: condition type, condition, address type, address, advertisement, scan
-// response. Other lines are passed over. For each vector a line is written: 0 well formed, 1 malformed, 2 not built, 3 unknown;
+// response. Other lines are passed over. For each vector a line is written: 0 well formed, 1 malformed, 2 unknown;
 // then, for a well-formed condition, 1 if the packet matches and 0 if not, and a dash for any other. The vectors
 // and their answers are made by vectors.py, an independent program written from documents 01 and 02; there each answer is
 // worked out by hand too, and the two are compared.
@@ -58,13 +58,12 @@ fn field(text: &[u8], from: usize, out: &mut [u8]) -> usize
 }
 
 fn number(f: Form) -> u8
-    ensures { λ r. ⌜ r ≤ 3 ⌝ }
+    ensures { λ r. ⌜ r ≤ 2 ⌝ }
 {
     match f {
         Form::Good => 0,
         Form::Malformed => 1,
-        Form::NotBuilt => 2,
-        Form::Unknown => 3,
+        Form::Unknown => 2,
     }
 }
 

@@ -45,6 +45,8 @@ images =
     (a0 ∷ a1 ∷ a2 ∷ "A200010605040302010000000000000000000000000000000000\n" ∷ "AF0102\n" ∷ []) ∷
     -- high equal to low (T-01)
     (a0 ∷ "A100B0B00300040700060504030201\n" ∷ "AF0100\n" ∷ []) ∷
+    -- a key, with a pair of a random address (T-03)
+    (a0 ∷ "A100C4B0030003109B7D390AA610103405ADC857A33402EC\n" ∷ "A20001AAFB0D9481700000000000000000000000000000000000\n" ∷ "AF0101\n" ∷ []) ∷
     -- 29 ticks since a good packet, of an interval of 3 seconds
     (a0 ∷ a1 ∷ "A200000605040302011D00000000000000000000000000000000\n" ∷ "AF0101\n" ∷ []) ∷
     -- a window of 2 ticks: a packet at −60 with data; at −127 and at 20; as many packets as frames, with 31 octets
@@ -99,10 +101,12 @@ others =
     ("A002000000001EFC034D53\n" ∷ "AF0000\n" ∷ []) ∷
     ("A002000000001EFC014D53\n" ∷ "AF0000\n" ∷ []) ∷
     ("A002000000001EFC214D4D4D4D4D4D4D4D4D4D4D4D4D4D4D4D4D4D4D4D4D4D4D4D4D4D4D4D4D4D4D4D4D\n" ∷ "AF0000\n" ∷ []) ∷
-    -- monitors that 03 would not accept: low one above high, interval 61, type 3, a malformed condition
+    -- monitors that 03 would not accept: low one above high, interval 61, a key of 7, 15 and 17 octets, a malformed condition
     (a0 ∷ "A100B0B10300040700060504030201\n" ∷ "AF0100\n" ∷ []) ∷
     (a0 ∷ "A100C4B03D00040700060504030201\n" ∷ "AF0100\n" ∷ []) ∷
     (a0 ∷ "A100C4B00300030700060504030201\n" ∷ "AF0100\n" ∷ []) ∷
+    (a0 ∷ "A100C4B00300030F9B7D390AA610103405ADC857A33402\n" ∷ "AF0100\n" ∷ []) ∷
+    (a0 ∷ "A100C4B0030003119B7D390AA610103405ADC857A33402EC00\n" ∷ "AF0100\n" ∷ []) ∷
     (a0 ∷ "A100C4B003000406000605040302\n" ∷ "AF0100\n" ∷ []) ∷
     -- 30 ticks since a good packet; address type 2; event type 4; 32 octets of data
     (a0 ∷ a1 ∷ "A200000605040302011E00000000000000000000000000000000\n" ∷ "AF0101\n" ∷ []) ∷
@@ -143,7 +147,7 @@ unfolding accepted refused images others codes
     Rattle.advert.specs.Parts.partsFrom Rattle.advert.specs.Parts.parts
     Rattle.advert.specs.Pattern.extent Rattle.advert.specs.Pattern.fills Rattle.advert.specs.Pattern.patternsForm
     Rattle.advert.specs.Uuid.uuidSize Rattle.advert.specs.Uuid.uuidForm
-    Rattle.advert.specs.Address.addressForm
+    Rattle.advert.specs.Address.addressForm Rattle.advert.specs.Irk.irkForm
     Rattle.advert.specs.Condition.wellFormed Rattle.advert.specs.Condition.formOf Rattle.advert.specs.Condition.formStatus
     Rattle.sessions.specs.Machine.lastNumber
     Rattle.model.specs.Image.headRow Rattle.model.specs.Image.monitorRow Rattle.model.specs.Image.pairRow

@@ -2,3 +2,4 @@
 pub mod Marks
 pub mod Fields
 pub mod Monitors
+pub mod Keyed

@@ -1,7 +1,7 @@
 -- A handle's octet, read from its monitor's row in the block. Document 01, Conditions, Watching, by history. Assumes
 -- nothing.
 use Prim.Native.Nat.{ℕ, _+_, _-_, _*_, _≤_, _<_}
-use mathlib.Core.Path.{_≡_, refl, sym, ap, _∙_}
+use mathlib.Core.Path.{_≡_, refl, sym, ap, ap₂, _∙_}
 use mathlib.Core.Bool.{Bool, true, false, _&&_, not}
 use mathlib.Core.List.{List, [], _++_, append-nil}
 use native.Mathlib.Omega.{arith}
@@ -9,11 +9,11 @@ use lib.Dec.{leb, ltb, eqb}
 use lib.ListN.{length, take, drop, getD}
 use lib.Seq.{getD-drop, drop-drop, take-take, take-all, length-take-le}
 use borrow.Author.Tests.{eq-eqb, ne-eqb}
-use Rattle.laws.specs.Tests.{pick-true, pick-false, cases-le}
+use Rattle.laws.specs.Tests.{pick, sames, sames-eq, and-not-left, cases-le}
 use Rattle.laws.specs.Rows.{row, getD-row}
 use Rattle.advert.specs.Condition.{meets}
 use Rattle.model.specs.Level.{level}
-use Rattle.model.specs.Types.{scanText}
+use Rattle.model.specs.Types.{Packet, scanText}
 use Rattle.model.specs.Frames.{packetOf, scanOf}
 use Rattle.model.specs.Monitors.{matches, good, strong, windowed}
 use Rattle.model.specs.Image.{monitorIn}
@@ -53,7 +53,7 @@ drop-take k n l = ap (λ (x : List ℕ). drop k x) (lib.Seq.take-add k n l) ∙ 
         rw (e, lib.Seq.take-nil n, append-nil (take k l), take-all k l (omega arith)) e
 
 -- the condition of the row of a handle
-row-condition : (s : List ℕ) (h n : ℕ) → Clamped (getD s (monitorsAt + monitorSize * h + 6) 0) conditionRoom n
+pub row-condition : (s : List ℕ) (h n : ℕ) → Clamped (getD s (monitorsAt + monitorSize * h + 6) 0) conditionRoom n
     → take n (drop (monitorsAt + monitorSize * h + 7) s) ≡ take (getD (row monitorSize h (drop monitorsAt s)) conditionLengthAt 0) (drop 7 (row monitorSize h (drop monitorsAt s)))
 unfolding row
 row-condition s h n c =
@@ -72,14 +72,25 @@ row-condition s h n c =
     short : conditionRoom < getD s (monitorsAt + monitorSize * h + 6) 0 → length (take conditionRoom (drop (monitorsAt + monitorSize * h + 7) s)) ≤ getD s (monitorsAt + monitorSize * h + 6) 0
     short u = simp lib.ListN.length-take (omega arith)
 
-module _ (s : List ℕ) (h : ℕ) (l : List ℕ) where
-  pub mark-unused : getD s (monitorsAt + monitorSize * h + 3) 0 ≡ 0 → 0 ≡ markRow (row monitorSize h (drop monitorsAt s)) (packetOf l)
-  unfolding markRow inUse
-  mark-unused e =
-      sym (pick-false _ 0 (ap not (eq-eqb _ 0 (row-field s h 3 (omega arith) ∙ e))))
+-- 1 where a row is in use and its monitor matches the packet, else 0
+unfoldable pub metRow : List ℕ → Packet → ℕ
+metRow r p = flag (inUse r && matches (monitorIn r .1) p)
 
+unmet : (a b : Bool) (x : ℕ) → flag (a && b) ≡ 0 → pick a (pick b x 0) 0 ≡ 0
+unfolding flag pick
+unmet false b x e = refl
+unmet true false x e = refl
+unmet true true x e = absurd (omega arith)
+
+met : (a b : Bool) (x : ℕ) → (flag (a && b) ≡ 0 → ⊥) → pick a (pick b x 0) 0 ≡ x
+unfolding flag pick
+met true true x n = refl
+met true false x n = absurd (n refl)
+met false b x n = absurd (n refl)
+
+module _ (s : List ℕ) (h : ℕ) (l : List ℕ) where
   -- what the match was asked
-  match-asked : (n : ℕ) {cond adr adv scan : List ℕ} {found : Bool} → Clamped (getD s (monitorsAt + monitorSize * h + 6) 0) conditionRoom n
+  pub match-asked : (n : ℕ) {cond adr adv scan : List ℕ} {found : Bool} → Clamped (getD s (monitorsAt + monitorSize * h + 6) 0) conditionRoom n
       → cond ≡ take n (drop (monitorsAt + monitorSize * h + 7) s) → adr ≡ take 6 (drop 2 l) → adv ≡ take (getD l 8 0) (drop 9 l) → scan ≡ scanText (scanOf l)
       → found ≡ meets (getD s (monitorsAt + monitorSize * h + 5) 0) cond (getD l 1 0) adr adv scan
       → found ≡ matches (monitorIn (row monitorSize h (drop monitorsAt s)) .1) (packetOf l)
@@ -96,23 +107,57 @@ module _ (s : List ℕ) (h : ℕ) (l : List ℕ) where
   unfolding inUse
   used u = ap not (ne-eqb _ 0 (λ e. u (sym (row-field s h 3 (omega arith)) ∙ e)))
 
-  pub mark-unmatched : (n : ℕ) {cond adr adv scan : List ℕ} {found : Bool} → (getD s (monitorsAt + monitorSize * h + 3) 0 ≡ 0 → ⊥)
-      → Clamped (getD s (monitorsAt + monitorSize * h + 6) 0) conditionRoom n
-      → cond ≡ take n (drop (monitorsAt + monitorSize * h + 7) s) → adr ≡ take 6 (drop 2 l) → adv ≡ take (getD l 8 0) (drop 9 l) → scan ≡ scanText (scanOf l)
-      → found ≡ meets (getD s (monitorsAt + monitorSize * h + 5) 0) cond (getD l 1 0) adr adv scan → found ≡ false
-      → 0 ≡ markRow (row monitorSize h (drop monitorsAt s)) (packetOf l)
-  unfolding markRow markOf
-  mark-unmatched n u c ec ea ed es f e =
-      sym (pick-true _ 0 (used u) ∙ pick-false _ 0 (sym (match-asked n c ec ea ed es f) ∙ e))
+  -- whether the row's monitor is in use and the packet matches
+  pub met-unused : getD s (monitorsAt + monitorSize * h + 3) 0 ≡ 0 → 0 ≡ metRow (row monitorSize h (drop monitorsAt s)) (packetOf l)
+  unfolding metRow inUse flag
+  met-unused e = sym (ap flag (and-not-left _ _ (ap not (eq-eqb _ 0 (row-field s h 3 (omega arith) ∙ e)))))
 
-  pub mark-matched : (n : ℕ) {cond adr adv scan : List ℕ} {found : Bool} {r : ℕ} → (getD s (monitorsAt + monitorSize * h + 3) 0 ≡ 0 → ⊥)
-      → Clamped (getD s (monitorsAt + monitorSize * h + 6) 0) conditionRoom n
-      → cond ≡ take n (drop (monitorsAt + monitorSize * h + 7) s) → adr ≡ take 6 (drop 2 l) → adv ≡ take (getD l 8 0) (drop 9 l) → scan ≡ scanText (scanOf l)
-      → found ≡ meets (getD s (monitorsAt + monitorSize * h + 5) 0) cond (getD l 1 0) adr adv scan → found ≡ true
+  pub met-used : {t : Bool} {x : ℕ} → (getD s (monitorsAt + monitorSize * h + 3) 0 ≡ 0 → ⊥) → x ≡ flag t
+      → t ≡ matches (monitorIn (row monitorSize h (drop monitorsAt s)) .1) (packetOf l)
+      → x ≡ metRow (row monitorSize h (drop monitorsAt s)) (packetOf l)
+  unfolding metRow
+  met-used u e f =
+      e ∙ ap flag (f ∙ sym (ap (λ (b : Bool). b && matches (monitorIn (row monitorSize h (drop monitorsAt s)) .1) (packetOf l)) (used u)))
+
+  -- the octet of the handle
+  pub mark-unmet : {x : ℕ} → x ≡ metRow (row monitorSize h (drop monitorsAt s)) (packetOf l) → x ≡ 0
+      → 0 ≡ markRow (row monitorSize h (drop monitorsAt s)) (packetOf l)
+  unfolding metRow markRow markOf
+  mark-unmet e z =
+      sym (unmet (inUse (row monitorSize h (drop monitorsAt s))) (matches (monitorIn (row monitorSize h (drop monitorsAt s)) .1) (packetOf l)) _
+      (sym e ∙ z))
+
+  pub mark-met : {x r : ℕ} → x ≡ metRow (row monitorSize h (drop monitorsAt s)) (packetOf l) → (x ≡ 0 → ⊥)
       → r ≡ rowBits (getD s (monitorsAt + monitorSize * h + 1) 0) (getD s (monitorsAt + monitorSize * h + 2) 0) (getD s (monitorsAt + monitorSize * h + 4) 0) (getD l
       (length l - 1) 0)
       → r ≡ markRow (row monitorSize h (drop monitorsAt s)) (packetOf l)
-  unfolding markRow markOf rowBits good windowed strong monitorIn packetOf
-  mark-matched n u c ec ea ed es f e b =
+  unfolding metRow markRow markOf rowBits good windowed strong monitorIn packetOf
+  mark-met e n b =
       b ∙ rw (← row-field s h 1 (omega arith), ← row-field s h 2 (omega arith), ← row-field s h 4 (omega arith)) refl
-      ∙ sym (pick-true _ 0 (used u) ∙ pick-true _ 0 (sym (match-asked n c ec ea ed es f) ∙ e))
+      ∙ sym (met (inUse (row monitorSize h (drop monitorsAt s))) (matches (monitorIn (row monitorSize h (drop monitorsAt s)) .1) (packetOf l)) _
+      (λ z. n (e ∙ z)))
+
+-- two rows, the first in use, with one type and one condition
+pub record Alike (s : List ℕ) (j h : ℕ) : Type 0 where
+  pub used : inUse (row monitorSize j (drop monitorsAt s)) ≡ true
+  pub kinds : monitorIn (row monitorSize j (drop monitorsAt s)) .1 .kind ≡ monitorIn (row monitorSize h (drop monitorsAt s)) .1 .kind
+  pub conditions : monitorIn (row monitorSize j (drop monitorsAt s)) .1 .condition ≡ monitorIn (row monitorSize h (drop monitorsAt s)) .1 .condition
+
+-- match the same packets
+pub alike-matches : (s : List ℕ) (j h : ℕ) (p : Packet) → Alike s j h
+    → matches (monitorIn (row monitorSize j (drop monitorsAt s)) .1) p ≡ matches (monitorIn (row monitorSize h (drop monitorsAt s)) .1) p
+unfolding matches
+alike-matches s j h p a =
+    ap₂ (λ (k : ℕ) (c : List ℕ). meets k c (p .kind) (p .address) (p .adv) (scanText (p .scan))) (a .kinds) (a .conditions)
+
+pub alike : (s : List ℕ) (j h n m : ℕ) {x y : List ℕ} → (getD s (monitorsAt + monitorSize * j + 3) 0 ≡ 0 → ⊥)
+    → getD s (monitorsAt + monitorSize * j + 5) 0 ≡ getD s (monitorsAt + monitorSize * h + 5) 0
+    → Clamped (getD s (monitorsAt + monitorSize * j + 6) 0) conditionRoom n → Clamped (getD s (monitorsAt + monitorSize * h + 6) 0) conditionRoom m
+    → x ≡ take n (drop (monitorsAt + monitorSize * j + 7) s) → y ≡ take m (drop (monitorsAt + monitorSize * h + 7) s)
+    → sames x y ≡ true → Alike s j h
+unfolding monitorIn
+alike s j h n m {x} {y} u k cn cm ex ey e = record {
+  used = used s j [] u;
+  kinds = row-field s j 5 (omega arith) ∙ k ∙ sym (row-field s h 5 (omega arith));
+  conditions = sym (row-condition s j n cn) ∙ sym ex ∙ sames-eq x y e ∙ ey ∙ row-condition s h m cm;
+}

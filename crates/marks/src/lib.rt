@@ -8,7 +8,11 @@ ghost use Rattle.laws.specs.Rows.{row};
 ghost use Rattle.model.specs.Frames.{packetOf};
 ghost use Rattle.marks.specs.Marks.{flag, markRow, marksAt};
 ghost use Rattle.marks.specs.Fields.{Framed, framed, scanAt, marksFit, marked};
-ghost use Rattle.marks.specs.Monitors.{rowBits};
+ghost use mathlib.Core.Bool.{true};
+ghost use Rattle.model.specs.Monitors.{matches};
+ghost use Rattle.model.specs.Image.{monitorIn};
+ghost use Rattle.marks.specs.Monitors.{rowBits, metRow, Alike};
+ghost use Rattle.marks.specs.Keyed.{privateOf, KeyAt, Keyed, Told};
 ghost use Rattle.model.specs.Layout.{blockSize, monitorSize, monitorsAt, mostMonitors};
 
 fn bit(t: bool) -> u8
@@ -34,48 +38,186 @@ fn row_bits(high: u8, low: u8, sampling: u8, rssi: u8) -> u8
     good + 2 * windowed + 4 * strong + 8 * instant
 }
 
-// The octet of a handle: its monitor's row is in use where the interval is not 0. The scan response begins at index scan.
-fn mark_at(s: &[u8], h: usize, payload: &[u8], scan: usize) -> u8
+// Whether the row of handle j is in use and has the type and the condition of that of h.
+fn same_condition(s: &[u8], j: usize, h: usize) -> bool
+    requires { ⌜ (length (now s) ≡ blockSize) × (j < mostMonitors) × (h < mostMonitors) ⌝ }
+    ensures { λ r. ⌜ (r ≡ true → Alike (now (s .entry)) j h) ⌝ }
+{
+    let a = State::MONITORS_AT + State::MONITOR_ROW * j;
+    let b = State::MONITORS_AT + State::MONITOR_ROW * h;
+    if s[a + State::INTERVAL_AT] == 0 {
+        return false;
+    }
+    if s[a + State::TYPE_AT] != s[b + State::TYPE_AT] {
+        return false;
+    }
+    if s[a + State::CONDITION_AT] != s[b + State::CONDITION_AT] {
+        return false;
+    }
+    let n = octets::at_most(s[a + State::CONDITION_LENGTH_AT], State::CONDITION_ROOM);
+    let m = octets::at_most(s[b + State::CONDITION_LENGTH_AT], State::CONDITION_ROOM);
+    let from = a + State::CONDITION_AT;
+    let begin = b + State::CONDITION_AT;
+    parts::same(&s[from..from + n], &s[begin..begin + m])
+}
+
+// The first handle up to h that has the type and the condition of h: h itself where no other does.
+fn first_alike(s: &[u8], h: usize) -> usize
+    requires { ⌜ (length (now s) ≡ blockSize) × (h < mostMonitors) ⌝ }
+    ensures { λ r. ⌜ (r ≤ h) × (r < h → Alike (now (s .entry)) r h) ⌝ }
+{
+    let mut j = 0;
+    while j < h {
+        if same_condition(s, j, h) {
+            return j;
+        }
+        j += 1;
+    }
+    h
+}
+
+// Whether a packet matches the condition at a handle. The scan response begins at index scan.
+fn matches_at(s: &[u8], h: usize, payload: &[u8], scan: usize) -> bool
     requires { ⌜ (length (now s) ≡ blockSize) × (h < mostMonitors) × Framed (now payload) × (scan ≡ scanAt (now payload)) ⌝ }
-    ensures { λ r. ⌜ r ≡ markRow (row monitorSize h (drop monitorsAt (now (s .entry)))) (packetOf (now (payload .entry))) ⌝ }
+    ensures { λ r. ⌜ r ≡ matches (monitorIn (row monitorSize h (drop monitorsAt (now (s .entry)))) .1) (packetOf (now (payload .entry))) ⌝ }
 {
     let at = State::MONITORS_AT + State::MONITOR_ROW * h;
-    if s[at + State::INTERVAL_AT] == 0 {
-        return 0;
-    }
     let from = at + State::CONDITION_AT;
     let to = from + octets::at_most(s[at + State::CONDITION_LENGTH_AT], State::CONDITION_ROOM);
     let end = 9 + octets::wide(payload[8]);
     let last = payload.len() - 1;
-    let met = advert::match_packet(
+    advert::match_packet(
         s[at + State::TYPE_AT],
         &s[from..to],
         payload[1],
         &payload[2..8],
         &payload[9..end],
         &payload[scan..last],
-    );
-    if met {
-        return row_bits(
-            s[at + State::HIGH_AT],
-            s[at + State::LOW_AT],
-            s[at + State::SAMPLING_AT],
-            payload[last],
-        );
+    )
+}
+
+// Whether a random address is resolved by the key at a handle.
+fn resolved_at(s: &[u8], h: usize, payload: &[u8]) -> bool
+    requires { ⌜ (length (now s) ≡ blockSize) × (h < mostMonitors) × Framed (now payload) × (privateOf (now payload) ≡ true) × KeyAt (now s) h ⌝ }
+    ensures { λ r. ⌜ r ≡ matches (monitorIn (row monitorSize h (drop monitorsAt (now (s .entry)))) .1) (packetOf (now (payload .entry))) ⌝ }
+{
+    let at = State::MONITORS_AT + State::MONITOR_ROW * h;
+    let from = at + State::CONDITION_AT;
+    let to = from + octets::at_most(s[at + State::CONDITION_LENGTH_AT], State::CONDITION_ROOM);
+    resolve::resolves(&s[from..to], &payload[2..8])
+}
+
+// Whether the key at a handle resolves the packet's address, as 1 or 0; met has it of the keys before. What was found for a key is
+// not worked out again for another handle with the same key.
+fn met_key(met: &[u8], s: &[u8], h: usize, payload: &[u8]) -> u8
+    requires { ⌜ (length (now met) ≡ mostMonitors) × (length (now s) ≡ blockSize) × (h < mostMonitors) × Framed (now payload)
+        × (privateOf (now payload) ≡ true) × Keyed (now met) (now s) (now payload) h ⌝ }
+    ensures { λ r. ⌜ (KeyAt (now (s .entry)) h → r ≡ flag (matches (monitorIn (row monitorSize h (drop monitorsAt (now (s .entry)))) .1) (packetOf (now (payload .entry))))) ⌝ }
+{
+    let at = State::MONITORS_AT + State::MONITOR_ROW * h;
+    if s[at + State::TYPE_AT] != advert::IRK {
+        return 0;
     }
-    0
+    let j = first_alike(s, h);
+    if j < h {
+        return met[j];
+    }
+    bit(resolved_at(s, h, payload))
+}
+
+// The same of every handle with a key.
+fn met_keys(met: &mut [u8], s: &[u8], payload: &[u8])
+    requires { ⌜ (length (now met) ≡ mostMonitors) × (length (now s) ≡ blockSize) × Framed (now payload) × (privateOf (now payload) ≡ true) ⌝ }
+    ensures { λ _. ⌜ Keyed (now (met .exit)) (now (s .entry)) (now (payload .entry)) mostMonitors ⌝ }
+{
+    let mut h = 0;
+    while h < State::MONITORS {
+        let m = met_key(met, s, h, payload);
+        met[h] = m;
+        h += 1;
+    }
+}
+
+// Whether the monitor of a handle is in use (its interval is not 0) and the packet matches, as 1 or 0; for an address that keys resolve
+// met has it of the handles with a key, and no key resolves another.
+fn met_at(met: &[u8], s: &[u8], h: usize, payload: &[u8], scan: usize, private: bool) -> u8
+    requires { ⌜ (length (now met) ≡ mostMonitors) × (length (now s) ≡ blockSize) × (h < mostMonitors) × Framed (now payload)
+        × (scan ≡ scanAt (now payload)) × Told private (now met) (now s) (now payload) ⌝ }
+    ensures { λ r. ⌜ r ≡ metRow (row monitorSize h (drop monitorsAt (now (s .entry)))) (packetOf (now (payload .entry))) ⌝ }
+{
+    let at = State::MONITORS_AT + State::MONITOR_ROW * h;
+    if s[at + State::INTERVAL_AT] == 0 {
+        return 0;
+    }
+    if s[at + State::TYPE_AT] == advert::IRK {
+        if private {
+            return met[h];
+        }
+        return 0;
+    }
+    bit(matches_at(s, h, payload, scan))
+}
+
+// The octet of a handle, from whether its monitor is in use and matches.
+fn mark_at(s: &[u8], h: usize, payload: &[u8], met: u8) -> u8
+    requires { ⌜ (length (now s) ≡ blockSize) × (h < mostMonitors) × Framed (now payload)
+        × (met ≡ metRow (row monitorSize h (drop monitorsAt (now s))) (packetOf (now payload))) ⌝ }
+    ensures { λ r. ⌜ r ≡ markRow (row monitorSize h (drop monitorsAt (now (s .entry)))) (packetOf (now (payload .entry))) ⌝ }
+{
+    if met == 0 {
+        return 0;
+    }
+    let at = State::MONITORS_AT + State::MONITOR_ROW * h;
+    row_bits(
+        s[at + State::HIGH_AT],
+        s[at + State::LOW_AT],
+        s[at + State::SAMPLING_AT],
+        payload[payload.len() - 1],
+    )
+}
+
+fn mark_each(acts: &mut [u8], met: &[u8], s: &[u8], payload: &[u8], private: bool)
+    requires { ⌜ (length (now acts) ≡ mostMonitors) × (length (now met) ≡ mostMonitors) × (length (now s) ≡ blockSize) × Framed (now payload)
+        × Told private (now met) (now s) (now payload) ⌝ }
+    ensures { λ _. ⌜ now (acts .exit) ≡ marksAt (now (s .entry)) (packetOf (now (payload .entry))) ⌝ }
+{
+    let scan = scan_at(payload);
+    let mut h = 0;
+    while h < State::MONITORS {
+        let m = met_at(met, s, h, payload, scan, private);
+        acts[h] = mark_at(s, h, payload, m);
+        h += 1;
+    }
+}
+
+// Whether a packet has a resolvable private address: a random one with top bits 01.
+fn is_private(payload: &[u8]) -> bool
+    requires { ⌜ Framed (now payload) ⌝ }
+    ensures { λ r. ⌜ r ≡ privateOf (now (payload .entry)) ⌝ }
+{
+    (payload[1] == 1) & resolve::is_resolvable(&payload[2..8])
+}
+
+// For a resolvable private address the keys are asked first, so that the cipher runs once a key.
+fn mark_private(acts: &mut [u8], s: &[u8], payload: &[u8])
+    requires { ⌜ (length (now acts) ≡ mostMonitors) × (length (now s) ≡ blockSize) × Framed (now payload) × (privateOf (now payload) ≡ true) ⌝ }
+    ensures { λ _. ⌜ now (acts .exit) ≡ marksAt (now (s .entry)) (packetOf (now (payload .entry))) ⌝ }
+{
+    let mut met = [0u8; State::MONITORS];
+    met_keys(&mut met, s, payload);
+    mark_each(acts, &met, s, payload, true);
 }
 
 fn mark_in(acts: &mut [u8], s: &[u8], payload: &[u8])
     requires { ⌜ (length (now acts) ≡ mostMonitors) × (length (now s) ≡ blockSize) × Framed (now payload) ⌝ }
     ensures { λ _. ⌜ now (acts .exit) ≡ marksAt (now (s .entry)) (packetOf (now (payload .entry))) ⌝ }
 {
-    let scan = scan_at(payload);
-    let mut h = 0;
-    while h < State::MONITORS {
-        acts[h] = mark_at(s, h, payload, scan);
-        h += 1;
+    if is_private(payload) {
+        mark_private(acts, s, payload);
+        return;
     }
+    let met = [0u8; State::MONITORS];
+    mark_each(acts, &met, s, payload, false);
 }
 
 // Where the scan response of a packet frame's payload begins. A payload of kind 02 has none: there the RSSI stands.

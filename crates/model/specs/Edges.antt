@@ -99,11 +99,11 @@ readPrefix =
     ∷ wrote (0x0E ∷ 0x05 ∷ 0x01 ∷ 0x1E ∷ 0xFC ∷ 0x12 ∷ 0x00 ∷ []) ∷ [])
     []
 
--- Commands, 03: condition types 0 and 5, a malformed condition, type 3 (IRK)
+-- Commands, 03: condition types 0 and 5, a malformed condition, type 3 with one octet
 unfoldable pub forms : Row
 forms = session
     (cmd 1 (0x03 ∷ 0xC4 ∷ 0xB0 ∷ 3 ∷ 0 ∷ 0 ∷ 0 ∷ []) ∷ cmd 2 (0x03 ∷ 0xC4 ∷ 0xB0 ∷ 3 ∷ 0 ∷ 5 ∷ 0 ∷ []) ∷ cmd 3 (0x03 ∷ 0xC4 ∷ 0xB0 ∷ 3 ∷ 0 ∷ 4 ∷ 0 ∷ []) ∷ cmd 4 (0x03 ∷ 0xC4 ∷ 0xB0 ∷ 3 ∷ 0 ∷ 3 ∷ 0 ∷ []) ∷ [])
-    (wrote invalid03 ∷ wrote invalid03 ∷ wrote invalid03 ∷ wrote (0x0E ∷ 0x06 ∷ 0x01 ∷ 0x1E ∷ 0xFC ∷ 0x11 ∷ 0x03 ∷ 0x00 ∷ []) ∷ [])
+    (wrote invalid03 ∷ wrote invalid03 ∷ wrote invalid03 ∷ wrote invalid03 ∷ [])
     ([])
 
 -- P9: a 16-bit UUID straddling two others is no match, one of the two is
@@ -129,7 +129,7 @@ edges =
 pub edges-hold : allRight models fresh inFull edges ≡ true
 unfolding p2good p2low p3 p4sixty p4image p4minus p4plus p5 p6 p7 p8 readPrefix forms p9 p10 edges
     Rattle.model.specs.Rows.replyOf Rattle.model.specs.Rows.same Rattle.model.specs.Rows.imaged Rattle.model.specs.Rows.answered Rattle.model.specs.Rows.reached Rattle.model.specs.Rows.right Rattle.model.specs.Rows.allRight Rattle.model.specs.Rows.cmd Rattle.model.specs.Rows.pkt Rattle.model.specs.Rows.adv Rattle.model.specs.Rows.tck Rattle.model.specs.Rows.tcks Rattle.model.specs.Rows.quiet Rattle.model.specs.Rows.addWatch Rattle.model.specs.Rows.added0 Rattle.model.specs.Rows.start0 Rattle.model.specs.Rows.stop0 Rattle.model.specs.Rows.report60 Rattle.model.specs.Rows.session Rattle.model.specs.Rows.on Rattle.model.specs.Rows.onAnswer Rattle.model.specs.Rows.addSampled Rattle.model.specs.Rows.invalid03 Rattle.model.specs.Rows.added1 Rattle.model.specs.Rows.added2
-    Rattle.model.specs.Requests.addEqual Rattle.model.specs.Requests.reportAt Rattle.model.specs.Requests.equalAdded Rattle.model.specs.Requests.equalStart Rattle.model.specs.Requests.equalLow Rattle.model.specs.Requests.equalGood Rattle.model.specs.Requests.requests Rattle.model.specs.Requests.scn Rattle.model.specs.Requests.rep Rattle.model.specs.Requests.addFf Rattle.model.specs.Requests.aa Rattle.model.specs.Requests.bb Rattle.model.specs.Requests.t06sizes Rattle.model.specs.Requests.t06events Rattle.model.specs.Requests.t06texts Rattle.model.specs.Requests.t06straddle Rattle.model.specs.Requests.t06off Rattle.model.specs.Requests.t06window Rattle.model.specs.Requests.t06start
+    Rattle.model.specs.Requests.addEqual Rattle.model.specs.Requests.reportAt Rattle.model.specs.Requests.equalAdded Rattle.model.specs.Requests.equalStart Rattle.model.specs.Requests.equalLow Rattle.model.specs.Requests.equalGood Rattle.model.specs.Requests.requests Rattle.model.specs.Requests.scn Rattle.model.specs.Requests.rep Rattle.model.specs.Requests.addFf Rattle.model.specs.Requests.aa Rattle.model.specs.Requests.bb Rattle.model.specs.Requests.t06sizes Rattle.model.specs.Requests.t06events Rattle.model.specs.Requests.t06texts Rattle.model.specs.Requests.t06straddle Rattle.model.specs.Requests.t06off Rattle.model.specs.Requests.t06window Rattle.model.specs.Requests.t06start Rattle.model.specs.Requests.addKey Rattle.model.specs.Requests.t03sizes
     Rattle.model.specs.Types.ticksOf Rattle.model.specs.Types.device Rattle.model.specs.Types.deviceOf Rattle.model.specs.Types.watched Rattle.model.specs.Types.withLists Rattle.model.specs.Types.withFilter Rattle.model.specs.Types.moved Rattle.model.specs.Types.fresh Rattle.model.specs.Types.blank Rattle.model.specs.Types.scanText
     Rattle.model.specs.Level.level Rattle.model.specs.Level.inRange Rattle.model.specs.Level.extended Rattle.model.specs.Level.addRssi Rattle.model.specs.Level.levels Rattle.model.specs.Level.mean
     Rattle.model.specs.Frames.frameOf Rattle.model.specs.Frames.rawOf Rattle.model.specs.Frames.readRaw Rattle.model.specs.Frames.read Rattle.model.specs.Frames.write Rattle.model.specs.Frames.isCommand Rattle.model.specs.Frames.isPacket Rattle.model.specs.Frames.isScanned Rattle.model.specs.Frames.scanOf Rattle.model.specs.Frames.packetOf Rattle.model.specs.Frames.isTick Rattle.model.specs.Frames.typed
@@ -149,7 +149,8 @@ unfolding p2good p2low p3 p4sixty p4image p4minus p4plus p5 p6 p7 p8 readPrefix 
     Rattle.advert.specs.Sections.sections Rattle.advert.specs.Sections.isType Rattle.advert.specs.Sections.contentsOf Rattle.advert.specs.Sections.contents Rattle.advert.specs.Either.both
     Rattle.advert.specs.Pattern.holdsAt Rattle.advert.specs.Pattern.patterns Rattle.advert.specs.Pattern.extent Rattle.advert.specs.Pattern.fills Rattle.advert.specs.Pattern.patternsForm Rattle.advert.specs.Pattern.patternMeets Rattle.advert.specs.Pattern.patternsMeet
     Rattle.advert.specs.Uuid.uuids Rattle.advert.specs.Uuid.listed Rattle.advert.specs.Uuid.uuidSize Rattle.advert.specs.Uuid.uuidForm Rattle.advert.specs.Uuid.uuidMeets
-    Rattle.advert.specs.Address.addressForm Rattle.advert.specs.Address.addressMeets
+    Rattle.advert.specs.Address.addressForm Rattle.advert.specs.Address.addressMeets Rattle.advert.specs.Irk.irkForm Rattle.advert.specs.Irk.irkMeets
+    Rattle.resolve.specs.Examples.key
     Rattle.advert.specs.Condition.wellFormed Rattle.advert.specs.Condition.formOf Rattle.advert.specs.Condition.formStatus Rattle.advert.specs.Condition.meets
     Rattle.sessions.specs.Session.refuseIf Rattle.sessions.specs.Session.stateAfter Rattle.sessions.specs.Session.judge Rattle.sessions.specs.Session.answer
     Rattle.sessions.specs.Machine.lastNumber

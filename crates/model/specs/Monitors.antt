@@ -33,7 +33,7 @@ unfoldable pub settingsGood : ℕ → ℕ → ℕ → Bool
 settingsGood high low interval = inRange high && inRange low && ordered high low && leb 1 interval && leb interval 0x3C
 
 -- what is said of a condition's form has its status (advert, Condition); a well-formed one may be too long: "condition type outside
--- 1 to 4: 0x12. Type 3 (IRK): 0x11. Malformed condition: 0x12. Condition over 64 octets .. 0x07"
+-- 1 to 4: 0x12 .. Malformed condition: 0x12. Condition over 64 octets .. 0x07"; T-03: "The 0x11 answer disappears"
 unfoldable pub conditionFault : ℕ → List ℕ → ℕ
 conditionFault kind condition =
     pick (eqb (formStatus (formOf kind condition)) 0) (pick (ltb mostCondition (length condition)) full 0)

@@ -1,7 +1,8 @@
 -- Both sides of the edges of the requests of document 02, as rows of the claim in Edges.
 use Prim.Native.Nat.{ℕ, _+_}
 use mathlib.Core.List.{List, [], _∷_, _++_}
-use lib.ListN.{length, replicate}
+use lib.ListN.{length, drop, replicate}
+use Rattle.resolve.specs.Examples.{key}
 use Rattle.octets.specs.Little.{octetsOf}
 use Rattle.model.specs.Rows.{Row, wrote, refusal, session, cmd, pkt, adv, tck, tcks, quiet, added0, added1, start0, stop0, invalid03, on, onAnswer}
 
@@ -121,6 +122,18 @@ t06start = session
     (wrote added0 ∷ wrote onAnswer ∷ wrote (start0 ++ (rep 0 [] 0xC4 ++ rep 4 aa 0xC4)) ∷ wrote [] ∷ wrote [] ∷ [])
     []
 
+-- T-03: a monitor, high −60, low −80, 3 s, sampling 0, of that key
+unfoldable pub addKey : List ℕ → List ℕ
+addKey k = 0x03 ∷ 0xC4 ∷ 0xB0 ∷ 3 ∷ 0 ∷ 3 ∷ k
+
+-- "exactly 16 octets of key .. otherwise 0x12": 15, 16, 17 and 65; a key of zeros is one
+unfoldable pub t03sizes : Row
+t03sizes = session
+    (cmd 1 (addKey (drop 1 key)) ∷ cmd 2 (addKey key) ∷ cmd 3 (addKey (0 ∷ key)) ∷ cmd 4 (addKey (replicate 65 0)) ∷ cmd 5 (addKey (replicate 16 0)) ∷ [])
+    (wrote invalid03 ∷ wrote added0 ∷ wrote invalid03 ∷ wrote invalid03 ∷ wrote added1 ∷ [])
+    ((0xA0 ∷ 5 ∷ 0 ∷ 0 ∷ 0 ∷ 0 ∷ 0x1E ∷ 0xFC ∷ 2 ∷ 0x4D ∷ 0x53 ∷ [])
+    ∷ (0xA1 ∷ 0 ∷ 0xC4 ∷ 0xB0 ∷ 3 ∷ 0 ∷ 3 ∷ 16 ∷ key) ∷ (0xA1 ∷ 1 ∷ 0xC4 ∷ 0xB0 ∷ 3 ∷ 0 ∷ 3 ∷ 16 ∷ replicate 16 0) ∷ (0xAF ∷ 2 ∷ 0 ∷ []) ∷ [])
+
 -- all rows
 unfoldable pub requests : List Row
-requests = equalAdded ∷ equalStart ∷ equalLow ∷ equalGood ∷ t06sizes ∷ t06events ∷ t06texts ∷ t06straddle ∷ t06off ∷ t06window ∷ t06start ∷ []
+requests = equalAdded ∷ equalStart ∷ equalLow ∷ equalGood ∷ t06sizes ∷ t06events ∷ t06texts ∷ t06straddle ∷ t06off ∷ t06window ∷ t06start ∷ t03sizes ∷ []

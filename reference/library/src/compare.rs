@@ -21,6 +21,7 @@ pub struct Counts {
 /// The scripts of a seed: sessions of document 01, and scripts with any calls whose states a block holds.
 pub fn script_of(seed: u64, index: u64) -> Vec<Call> {
     let calls = match index % 2 {
+        0 if index % 2000 == 1000 => generate::quarters(seed, index),
         0 => generate::session(seed, index, 120),
         _ => generate::script(seed, index),
     };

@@ -3,6 +3,7 @@
 
 use crate::condition::{form, Form};
 use crate::limits::{CONDITION, DATA};
+use crate::private::Key;
 use crate::random::Random;
 use crate::state::{Device, Monitor};
 
@@ -25,6 +26,20 @@ fn pattern(random: &mut Random) -> Vec<u8> {
     octets
 }
 
+/// A key, least octet first: one of a few, so that chance alone makes matches, or any.
+pub fn key(random: &mut Random) -> Key {
+    match random.below(5) {
+        // The Core Specification's sample.
+        0..=1 => {
+            let octets = 0xEC0234A357C8AD05341010A60A397D9Bu128;
+            octets.to_le_bytes()
+        }
+        2 => [0; 16],
+        3 => std::array::from_fn(|i| i as u8),
+        _ => random.octets(16).try_into().unwrap(),
+    }
+}
+
 /// A well-formed condition of type 1, some patterns.
 pub fn patterns(random: &mut Random) -> Vec<u8> {
     let count = random.pick(&[1, 1, 2, 3]);
@@ -35,7 +50,8 @@ pub fn patterns(random: &mut Random) -> Vec<u8> {
 
 /// A well-formed condition of at most 64 octets: its type and octets.
 pub fn well_formed(random: &mut Random, devices: &[Device]) -> (u8, Vec<u8>) {
-    match random.below(10) {
+    match random.below(12) {
+        10..=11 => (3, key(random).to_vec()),
         0..=2 => flags(),
         3..=5 => (1, patterns(random)),
         6..=7 => {
@@ -69,7 +85,12 @@ pub fn of_length(random: &mut Random, length: usize) -> Vec<u8> {
 
 /// A malformed condition: its type and octets.
 pub fn malformed(random: &mut Random) -> (u8, Vec<u8>) {
-    match random.below(15) {
+    match random.below(17) {
+        15 => (3, random.octets(15)),
+        16 => {
+            let length = random.pick(&[0, 14, 17, 65, 249]);
+            (3, random.octets(length))
+        }
         0 => (random.pick(&[1, 2, 4]), vec![]),
         1 => (1, vec![0]),
         2 => (1, vec![0, 3, 1, 0, 6]),

@@ -183,7 +183,7 @@ impl Generator {
             10 => monitor(high, low, self.random.pick(&[0, 61, 255]), 0, kind, &condition),
             11 => monitor(high, low, self.random.pick(&[1, 60]), 0, kind, &condition),
             12 => monitor(high, low, 1, 0, self.random.pick(&[0, 5, 255]), &condition),
-            13 => monitor(high, low, 1, 0, 3, &self.random.octets(16)),
+            13 => monitor(high, low, 1, 0, 3, &conditions::key(&mut self.random)),
             14 => {
                 let length = self.random.pick(&[0, 15, 17, 65, 249]);
                 monitor(high, low, 1, 0, 3, &self.random.octets(length))

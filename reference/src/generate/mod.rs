@@ -11,6 +11,7 @@ mod watching;
 use crate::coverage;
 use crate::engine::Engine;
 use crate::lines as hexadecimal;
+use crate::private::Key;
 use crate::random::Random;
 use crate::script::{self, Call};
 use crate::state::{Device, State};
@@ -65,6 +66,8 @@ pub struct Generator {
     follower: Timers,
     state: State,
     devices: Vec<Device>,
+    /// A key and the address that its machine has now.
+    private: Option<(Key, Device)>,
     calls: Vec<Call>,
     /// Executed frames, for seen frames and replays.
     executed: Vec<Vec<u8>>,
@@ -77,6 +80,31 @@ pub fn session(seed: u64, index: u64, most_calls: usize) -> Vec<Call> {
     let theme = random.pick(&[Mixed, Mixed, Commands, Conditions, Limits, Windows, Windows, Lines]);
     let calls = random.between(0, most_calls as i64) as usize;
     Generator::begin(random, theme).make(calls, false)
+}
+
+/// A session with machines that change their addresses every quarter hour, 9,000 ticks: three addresses of one key, a
+/// packet every half minute or so.
+pub fn quarters(seed: u64, index: u64) -> Vec<Call> {
+    let mut generator = Generator::begin(Random::of(seed, index), Theme::Mixed);
+    let key = conditions::key(&mut generator.random);
+    let interval = generator.random.pick(&[27, 30, 60]);
+    for sampling in [0, generator.random.pick(&[10, 100, 0xFE]), 0xFF] {
+        generator.command(&frames::monitor(-60, -80, interval, sampling, 3, &key));
+    }
+    generator.command(&[0x05, 1]);
+    for _ in 0..3 {
+        let device = states::private_device(&mut generator.random, &key);
+        let mut left = 9000;
+        while left > 0 {
+            let rssi = generator.random.pick(&[-60, -61, -79, -80]);
+            generator.give_packet(&device, &[2, 1, 6], rssi);
+            let run = generator.random.between(100, 400).min(left);
+            (0..run).for_each(|_| generator.tick());
+            left -= run;
+        }
+    }
+    coverage::take();
+    generator.calls
 }
 
 /// A session that goes on from a random sound state instead of a fresh one.
@@ -125,6 +153,7 @@ impl Generator {
             theme,
             follower: Timers::default(),
             state: State::blank(),
+            private: None,
             calls: Vec::new(),
             executed: Vec::new(),
         };

@@ -3,6 +3,7 @@
 use super::conditions;
 use crate::condition::{form, Form};
 use crate::limits::{Seconds, CONDITION, DATA, MONITORS, PAIRS, PREFIX};
+use crate::private::{self, Key};
 use crate::random::Random;
 use crate::state::{Device, Monitor, Pair, State};
 
@@ -10,9 +11,36 @@ pub fn device(random: &mut Random) -> Device {
     Device { kind: random.below(2) as u8, address: random.octets(6).try_into().unwrap() }
 }
 
-/// A few devices, two of them alike but for the address type.
+/// A device with a private address of this key, or one that nearly is: a bit of the hash, of the upper half or of the
+/// key changed, other top bits with their own hash, public.
+pub fn private_device(random: &mut Random, key: &Key) -> Device {
+    let mut prand: [u8; 3] = random.octets(3).try_into().unwrap();
+    prand[2] = prand[2] & 0x3F | 0x40;
+    let bit = 1 << random.below(8);
+    let mut other = *key;
+    match random.below(14) {
+        0 => other[random.below(16)] ^= bit,
+        1 => other.reverse(),
+        2 => prand[2] ^= random.pick(&[0x40, 0x80, 0xC0]),
+        _ => (),
+    }
+    let mut device = Device { kind: 1, address: private::address(&other, prand) };
+    match random.below(14) {
+        0 => device.kind = 0,
+        1 => device.address[random.below(6)] ^= bit,
+        2 => device.address[5] ^= random.pick(&[0x40, 0x80, 0xC0]),
+        _ => (),
+    }
+    device
+}
+
+/// A few devices, two of them alike but for the address type, some with private addresses.
 pub fn devices(random: &mut Random) -> Vec<Device> {
     let mut list: Vec<Device> = (0..random.pick(&[1, 2, 3, 5])).map(|_| device(random)).collect();
+    for _ in 0..random.pick(&[0, 1, 2]) {
+        let key = conditions::key(random);
+        list.push(private_device(random, &key));
+    }
     list.push(Device { kind: 1 - list[0].kind, ..list[0] });
     list
 }
@@ -44,9 +72,10 @@ fn monitor(random: &mut Random, handle: u8, known: &[Device]) -> Monitor {
 
 fn pair(random: &mut Random, state: &State, known: &[Device]) -> Pair {
     let monitor = random.pick(state.monitors());
-    let device = match random.percent(60) {
-        true => random.pick(known),
-        false => device(random),
+    let device = match (random.percent(60), <&Key>::try_from(monitor.condition())) {
+        (true, _) => random.pick(known),
+        (false, Ok(key)) if monitor.kind == 3 => private_device(random, key),
+        (false, _) => device(random),
     };
     let mut pair = Pair { handle: monitor.handle, device, ..Pair::NONE };
     let limit = Seconds(monitor.interval).ticks().0;
@@ -216,6 +245,6 @@ pub fn broken(random: &mut Random, sound: &State, way: usize) -> Option<State> {
     }
     // Another octet may make another well-formed condition.
     let changed = &s.monitors[m];
-    let harmless = way == 17 && form(changed.kind, changed.condition()) == Form::WellFormed;
+    let harmless = [16, 17].contains(&way) && form(changed.kind, changed.condition()) == Form::WellFormed;
     (s != *sound && !harmless).then_some(s)
 }

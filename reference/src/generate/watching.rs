@@ -3,11 +3,26 @@
 use super::frames::{frame, monitor, packet, scanned, PACKET, SCANNED};
 use super::{conditions, states, Generator, Theme};
 use crate::limits::Seconds;
+use crate::private::Key;
 use crate::state::Device;
 
 impl Generator {
-    /// A device: one under watch, one of a condition, or any.
+    /// A device: one under watch, one of a condition, a private address of a live monitor's key, or any.
     fn device(&mut self) -> Device {
+        let keys = self.state.monitors().iter().filter(|m| m.kind == 3);
+        let keys: Vec<Key> = keys.filter_map(|m| m.condition().try_into().ok()).collect();
+        if !keys.is_empty() && self.random.percent(35) {
+            let key = self.random.pick(&keys);
+            // The machine changes its address now and then.
+            match self.private {
+                Some((held, device)) if held == key && !self.random.percent(30) => return device,
+                _ => {
+                    let device = states::private_device(&mut self.random, &key);
+                    self.private = Some((key, device));
+                    return device;
+                }
+            }
+        }
         if !self.state.pairs().is_empty() && self.random.percent(30) {
             return self.state.pairs()[self.random.below(self.state.pairs().len())].device;
         }

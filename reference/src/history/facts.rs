@@ -33,6 +33,8 @@ pub struct Facts {
     pub starts: Vec<Start>,
     /// `ticks[i]`: how many of the frames 1 to i are ticks.
     pub ticks: Vec<usize>,
+    /// Which frames are packets.
+    pub packets: Vec<usize>,
     /// `matching[i]`: bit h is set if frame i is a packet that matches the live monitor of handle h.
     pub matching: Vec<u16>,
     /// The return parameters of the last frame, if it is a command.
@@ -63,7 +65,10 @@ impl Facts {
         self.returns.clear();
         self.ticks.push(self.ticks[now - 1] + (*last == Payload::Tick) as usize);
         self.matching.push(match last {
-            Payload::Packet(packet) => self.matching_now(packet),
+            Payload::Packet(packet) => {
+                self.packets.push(now);
+                self.matching_now(packet)
+            }
             _ => 0,
         });
         match last {

@@ -33,7 +33,10 @@ impl Past<'_> {
     /// The packets after a start that count for it: of its device, matching its monitor's condition.
     fn counting<'s>(&'s self, start: &'s Start, upto: usize) -> impl Iterator<Item = (usize, &'s Packet)> {
         let handle = self.monitor(start).handle;
-        (start.at + 1..=upto).filter_map(move |i| match &self.frames[i - 1] {
+        let packets = &self.facts.packets;
+        let first = packets.partition_point(|i| *i <= start.at);
+        let since = packets[first..].iter().copied().take_while(move |i| *i <= upto);
+        since.filter_map(move |i| match &self.frames[i - 1] {
             Payload::Packet(packet) => (self.facts.matching[i] >> handle & 1 == 1
                 && packet.device == start.device)
                 .then_some((i, packet)),

@@ -9,41 +9,24 @@ use Rattle.advert.proofs.condition_form.Tie as tie
 
 returns : tie.Need-returns
 unfolding formOf pick
-returns c = let k = c .before .before .args .kind in rw (eq-eqb k 3 (omega arith))
+returns c = let k = c .before .before .args .kind in rw (lt-leb 1 k (omega arith))
 
 returns-2 : tie.Need-returns-2
 unfolding formOf pick
-returns-2 c = let k = c .before .before .before .args .kind in
-    rw (ne-eqb k 3 (λ z. omega arith), lt-leb 1 k (omega arith))
-
-returns-3 : tie.Need-returns-3
-unfolding formOf pick
-returns-3 c = let k = c .before .before .before .before .args .kind in
-    rw (ne-eqb k 3 (λ z. omega arith), le-leb 1 k (omega arith), lt-leb k 4 (omega arith))
+returns-2 c = let k = c .before .before .before .args .kind in rw (le-leb 1 k (omega arith), lt-leb k 4 (omega arith))
 
 well-formed-requires : tie.Need-well-formed-requires
 well-formed-requires c κs = search needs
 
+returns-3 : tie.Need-returns-3
+unfolding formOf pick
+returns-3 c = let k = c .before .before .before .before .before .args .kind in
+    rw (le-leb 1 k (omega arith), le-leb k 4 (omega arith), sym (c .before .well-formed .ensures) ∙ c .if3 .taken)
+
 returns-4 : tie.Need-returns-4
 unfolding formOf pick
-returns-4 c = let k = c .before .before .before .before .before .before .args .kind in
-    rw (
-      ne-eqb k 3 (λ z. omega arith),
-      le-leb 1 k (omega arith),
-      le-leb k 4 (omega arith),
-      sym (c .before .well-formed .ensures) ∙ c .if4 .taken,
-    )
-
-returns-5 : tie.Need-returns-5
-unfolding formOf pick
-returns-5 c = let k = c .before .before .before .before .before .before .args .kind in
-    rw (
-      ne-eqb k 3 (λ z. omega arith),
-      le-leb 1 k (omega arith),
-      le-leb k 4 (omega arith),
-      sym (c .before .well-formed .ensures) ∙ c .if4 .left,
-    )
+returns-4 c = let k = c .before .before .before .before .before .args .kind in
+    rw (le-leb 1 k (omega arith), le-leb k 4 (omega arith), sym (c .before .well-formed .ensures) ∙ c .if3 .left)
 
 pub condition-form-spec : {M : Type 1} → statement M
-condition-form-spec =
-    tie.close (tie.spec returns returns-2 returns-3 well-formed-requires returns-4 returns-5)
+condition-form-spec = tie.close (tie.spec returns returns-2 well-formed-requires returns-3 returns-4)

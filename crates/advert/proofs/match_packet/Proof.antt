@@ -22,19 +22,27 @@ unfolding meets pick
 returns-2 c = let k = c .before .before .before .before .before .before .before .args .kind in
     rw (ne-eqb k 1 (λ z. omega arith), eq-eqb k 2 (omega arith)) (c .uuid-meets .ensures)
 
-address-meets-requires : tie.Need-address-meets-requires
-address-meets-requires c κs = search needs
+irk-meets-requires : tie.Need-irk-meets-requires
+irk-meets-requires c κs = search needs
 
 returns-3 : tie.Need-returns-3
 unfolding meets pick
 returns-3 c = let k = c .before .before .before .before .before .before .before .before .args .kind in
-    rw (ne-eqb k 1 (λ z. omega arith), ne-eqb k 2 (λ z. omega arith), eq-eqb k 4 (omega arith))
-    (c .address-meets .ensures)
+    rw (ne-eqb k 1 (λ z. omega arith), ne-eqb k 2 (λ z. omega arith), eq-eqb k 3 (omega arith)) (c .irk-meets .ensures)
+
+address-meets-requires : tie.Need-address-meets-requires
+address-meets-requires c κs = search needs
 
 returns-4 : tie.Need-returns-4
 unfolding meets pick
-returns-4 c = let k = c .before .before .before .before .before .before .before .args .kind in
-    rw (ne-eqb k 1 (λ z. omega arith), ne-eqb k 2 (λ z. omega arith), ne-eqb k 4 (λ z. omega arith))
+returns-4 c = let k = c .before .before .before .before .before .before .before .before .before .args .kind in
+    rw (ne-eqb k 1 (λ z. omega arith), ne-eqb k 2 (λ z. omega arith), ne-eqb k 3 (λ z. omega arith), eq-eqb k 4 (omega arith))
+    (c .address-meets .ensures)
+
+returns-5 : tie.Need-returns-5
+unfolding meets pick
+returns-5 c = let k = c .before .before .before .before .before .before .before .before .args .kind in
+    rw (ne-eqb k 1 (λ z. omega arith), ne-eqb k 2 (λ z. omega arith), ne-eqb k 3 (λ z. omega arith), ne-eqb k 4 (λ z. omega arith))
 
 pub match-packet-spec : {M : Type 1} → statement M
 match-packet-spec =
@@ -44,6 +52,8 @@ match-packet-spec =
     returns
     uuid-meets-requires
     returns-2
-    address-meets-requires
+    irk-meets-requires
     returns-3
-    returns-4)
+    address-meets-requires
+    returns-4
+    returns-5)

@@ -15,9 +15,6 @@ enum-told-2 c = search needs
 enum-told-3 : tie.Need-enum-told-3
 enum-told-3 c = search needs
 
-enum-told-4 : tie.Need-enum-told-4
-enum-told-4 c = search needs
-
 returns : tie.Need-returns
 unfolding formStatus
 returns c = search needs
@@ -30,11 +27,7 @@ returns-3 : tie.Need-returns-3
 unfolding formStatus
 returns-3 c = search needs
 
-returns-4 : tie.Need-returns-4
-unfolding formStatus
-returns-4 c = search needs
-
 pub status-of-spec : {M : Type 1} → statement M
 status-of-spec =
     tie.close
-    (tie.spec enum-told enum-told-2 enum-told-3 enum-told-4 returns returns-2 returns-3 returns-4)
+    (tie.spec enum-told enum-told-2 enum-told-3 returns returns-2 returns-3)

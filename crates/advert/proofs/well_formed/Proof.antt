@@ -21,19 +21,27 @@ unfolding wellFormed pick
 returns-2 c = let k = c .before .before .before .before .args .kind in
     rw (ne-eqb k 1 (λ z. omega arith), eq-eqb k 2 (omega arith)) (c .uuid-form .ensures)
 
-address-form-requires : tie.Need-address-form-requires
-address-form-requires c κs = search needs
+irk-form-requires : tie.Need-irk-form-requires
+irk-form-requires c κs = search needs
 
 returns-3 : tie.Need-returns-3
 unfolding wellFormed pick
 returns-3 c = let k = c .before .before .before .before .before .args .kind in
-    rw (ne-eqb k 1 (λ z. omega arith), ne-eqb k 2 (λ z. omega arith), eq-eqb k 4 (omega arith))
-    (c .address-form .ensures)
+    rw (ne-eqb k 1 (λ z. omega arith), ne-eqb k 2 (λ z. omega arith), eq-eqb k 3 (omega arith)) (c .irk-form .ensures)
+
+address-form-requires : tie.Need-address-form-requires
+address-form-requires c κs = search needs
 
 returns-4 : tie.Need-returns-4
 unfolding wellFormed pick
-returns-4 c = let k = c .before .before .before .before .args .kind in
-    rw (ne-eqb k 1 (λ z. omega arith), ne-eqb k 2 (λ z. omega arith), ne-eqb k 4 (λ z. omega arith))
+returns-4 c = let k = c .before .before .before .before .before .before .args .kind in
+    rw (ne-eqb k 1 (λ z. omega arith), ne-eqb k 2 (λ z. omega arith), ne-eqb k 3 (λ z. omega arith), eq-eqb k 4 (omega arith))
+    (c .address-form .ensures)
+
+returns-5 : tie.Need-returns-5
+unfolding wellFormed pick
+returns-5 c = let k = c .before .before .before .before .before .args .kind in
+    rw (ne-eqb k 1 (λ z. omega arith), ne-eqb k 2 (λ z. omega arith), ne-eqb k 3 (λ z. omega arith), ne-eqb k 4 (λ z. omega arith))
 
 pub well-formed-spec : {M : Type 1} → statement M
 well-formed-spec =
@@ -43,6 +51,8 @@ well-formed-spec =
     returns
     uuid-form-requires
     returns-2
-    address-form-requires
+    irk-form-requires
     returns-3
-    returns-4)
+    address-form-requires
+    returns-4
+    returns-5)

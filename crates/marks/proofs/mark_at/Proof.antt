@@ -1,110 +1,19 @@
-use Rattle.marks.specs.Fields.{clamped, scan-is}
-use Prim.Native.Nat.{ℕ, _+_, _-_, _*_}
-use mathlib.Core.List.{List}
-use mathlib.Core.Path.{_≡_, refl, ap, _∙_}
-use native.Mathlib.Omega.{arith}
-use lib.ListN.{length, take, drop, getD}
-use Rattle.marks.specs.Monitors.{mark-unused, mark-unmatched, mark-matched}
-use Rattle.model.specs.Layout.{monitorSize, monitorsAt}
+use Rattle.marks.specs.Monitors.{mark-unmet, mark-met}
 use borrow.Author.Needs.{needs}
 use Rattle.marks.proofs.mark_at.Statement.{statement}
 use Rattle.marks.proofs.mark_at.Tie as tie
 use Rattle.marks.proofs.mark_at.Reads as reads
 use Rattle.marks.proofs.mark_at.Lts as lts
-use Rattle.advert.proofs.match_packet.Reads as match-packet-reads
 use Rattle.marks.proofs.row_bits.Reads as row-bits-reads
-use Rattle.octets.proofs.at_most.Reads as at-most-reads
-use Rattle.octets.proofs.wide.Reads as wide-reads
+
+returns : tie.Need-returns
+returns c = let a = c .before .before .before .args in mark-unmet (a .s .now) (a .h) (a .payload .now) (c .before .before .before .pre .3) (c .if1 .taken)
 
 mul-at : tie.Need-mul-at
 mul-at c = search needs
 
 add-at : tie.Need-add-at
 add-at c = search needs
-
-add-if1 : tie.Need-add-if1
-add-if1 c = search needs
-
-shared-slice-read-if1 : tie.Need-shared-slice-read-if1
-shared-slice-read-if1 c = search needs
-
-returns : tie.Need-returns
-returns c = let a = c .before .before .before .before .args in mark-unused (a .s .now) (a .h) (a .payload .now) (c .if1 .taken)
-
-add-from : tie.Need-add-from
-add-from c = search needs
-
-add-at-most : tie.Need-add-at-most
-add-at-most c = search needs
-
-shared-slice-read-at-most : tie.Need-shared-slice-read-at-most
-shared-slice-read-at-most c = search needs
-
-at-most-requires : tie.Need-at-most-requires
-at-most-requires c κs = search needs
-
-add-to : tie.Need-add-to
-add-to c = search needs
-
-shared-slice-read-wide : tie.Need-shared-slice-read-wide
-shared-slice-read-wide c = search needs
-
-wide-requires : tie.Need-wide-requires
-wide-requires c κs = search needs
-
-add-end : tie.Need-add-end
-add-end c = search needs
-
-sub-last : tie.Need-sub-last
-sub-last c = search needs
-
-add-match-packet : tie.Need-add-match-packet
-add-match-packet c = search needs
-
-shared-slice-read-match-packet : tie.Need-shared-slice-read-match-packet
-shared-slice-read-match-packet c = search needs
-
-sub-match-packet : tie.Need-sub-match-packet
-sub-match-packet c = search needs
-
-part-match-packet-start : tie.Need-part-match-packet-start
-part-match-packet-start c = search needs
-
-part-match-packet-end : tie.Need-part-match-packet-end
-part-match-packet-end c = search needs
-
-shared-slice-read-match-packet-2 : tie.Need-shared-slice-read-match-packet-2
-shared-slice-read-match-packet-2 c = search needs
-
-sub-match-packet-2 : tie.Need-sub-match-packet-2
-sub-match-packet-2 c = search needs
-
-part-match-packet-start-2 : tie.Need-part-match-packet-start-2
-part-match-packet-start-2 c = search needs
-
-part-match-packet-end-2 : tie.Need-part-match-packet-end-2
-part-match-packet-end-2 c = search needs
-
-sub-match-packet-3 : tie.Need-sub-match-packet-3
-sub-match-packet-3 c = search needs
-
-part-match-packet-start-3 : tie.Need-part-match-packet-start-3
-part-match-packet-start-3 c = search needs
-
-part-match-packet-end-3 : tie.Need-part-match-packet-end-3
-part-match-packet-end-3 c = search needs
-
-sub-match-packet-4 : tie.Need-sub-match-packet-4
-sub-match-packet-4 c = search needs
-
-part-match-packet-start-4 : tie.Need-part-match-packet-start-4
-part-match-packet-start-4 c = search needs
-
-part-match-packet-end-4 : tie.Need-part-match-packet-end-4
-part-match-packet-end-4 c = search needs
-
-match-packet-requires : tie.Need-match-packet-requires
-match-packet-requires c κs = search needs
 
 add-row-bits : tie.Need-add-row-bits
 add-row-bits c = search needs
@@ -124,6 +33,9 @@ add-row-bits-3 c = search needs
 shared-slice-read-row-bits-3 : tie.Need-shared-slice-read-row-bits-3
 shared-slice-read-row-bits-3 c = search needs
 
+sub-row-bits : tie.Need-sub-row-bits
+sub-row-bits c = search needs
+
 shared-slice-read-row-bits-4 : tie.Need-shared-slice-read-row-bits-4
 shared-slice-read-row-bits-4 c = search needs
 
@@ -131,68 +43,22 @@ row-bits-requires : tie.Need-row-bits-requires
 row-bits-requires c κs = search needs
 
 returns-2 : tie.Need-returns-2
-returns-2 c = let a = c .before .before .before .before .before .before .before .before .before .before .before .before .before .before .before .before .before .before .before .before .before .args in
-    let s : List ℕ = a .s .now in
-    let l : List ℕ = a .payload .now in
-    let n : ℕ = c .before .before .before .before .before .before .before .before .before .before .before .before .before .before .before .at-most .result in
-    let k : monitorsAt + monitorSize * a .h + 7 + n - (monitorsAt + monitorSize * a .h + 7) ≡ n = omega arith in
-    let e : c .before .before .before .before .before .before .before .before .before .before .before .before .before .wide .result ≡ getD l 8 0 = c .before .before .before .before .before .before .before .before .before .before .before .before .before .wide .ensures .0 in
-    let j : 9 + c .before .before .before .before .before .before .before .before .before .before .before .before .before .wide .result - 9 ≡ getD l 8 0 = omega arith in
-    mark-matched s (a .h) l n (c .before .before .before .before .before .before .before .before .before .before .before .before .before .before .before .before .before .if1 .left) (clamped (c .before .before .before .before .before .before .before .before .before .before .before .before .before .before .before .at-most .ensures)) (ap (λ (i : ℕ). take i (drop (monitorsAt + monitorSize * a .h + 7) s)) k) refl
-    (ap (λ (i : ℕ). take i (drop 9 l)) j) (ap (λ (i : ℕ). take (length l - 1 - i) (drop i l)) (c .before .before .before .before .before .before .before .before .before .before .before .before .before .before .before .before .before .before .before .before .before .pre .3) ∙ scan-is l (c .before .before .before .before .before .before .before .before .before .before .before .before .before .before .before .before .before .before .before .before .before .pre .2 .2)) (c .before .before .before .before .before .before .match-packet .ensures) (c .before .before .before .before .before .if2 .taken)
-    (c .row-bits .ensures)
-
-returns-3 : tie.Need-returns-3
-returns-3 c = let a = c .before .before .before .before .before .before .before .before .before .before .before .before .before .before .before .before .args in
-    let s : List ℕ = a .s .now in
-    let l : List ℕ = a .payload .now in
-    let n : ℕ = c .before .before .before .before .before .before .before .before .before .before .at-most .result in
-    let k : monitorsAt + monitorSize * a .h + 7 + n - (monitorsAt + monitorSize * a .h + 7) ≡ n = omega arith in
-    let j : 9 + c .before .before .before .before .before .before .before .before .wide .result - 9 ≡ getD l 8 0 = omega (arith, c .before .before .before .before .before .before .before .before .wide .ensures .0) in
-    mark-unmatched s (a .h) l n (c .before .before .before .before .before .before .before .before .before .before .before .before .if1 .left) (clamped (c .before .before .before .before .before .before .before .before .before .before .at-most .ensures)) (ap (λ (i : ℕ). take i (drop (monitorsAt + monitorSize * a .h + 7) s)) k) refl
-    (ap (λ (i : ℕ). take i (drop 9 l)) j) (ap (λ (i : ℕ). take (length l - 1 - i) (drop i l)) (c .before .before .before .before .before .before .before .before .before .before .before .before .before .before .before .before .pre .3) ∙ scan-is l (c .before .before .before .before .before .before .before .before .before .before .before .before .before .before .before .before .pre .2 .2)) (c .before .match-packet .ensures) (c .if2 .left)
+returns-2 c = let a = c .before .before .before .before .before .before .before .before .args in mark-met (a .s .now) (a .h) (a .payload .now) (c .before .before .before .before .before .before .before .before .pre .3) (c .before .before .before .before .before .if1 .left) (c .row-bits .ensures)
 
 pub mark-at-spec : {M : Type 1} → statement M
 mark-at-spec =
     tie.close
     (tie.spec
+    returns
     mul-at
     add-at
-    add-if1
-    shared-slice-read-if1
-    returns
-    add-from
-    add-at-most
-    shared-slice-read-at-most
-    at-most-requires
-    add-to
-    shared-slice-read-wide
-    wide-requires
-    add-end
-    sub-last
-    add-match-packet
-    shared-slice-read-match-packet
-    sub-match-packet
-    part-match-packet-start
-    part-match-packet-end
-    shared-slice-read-match-packet-2
-    sub-match-packet-2
-    part-match-packet-start-2
-    part-match-packet-end-2
-    sub-match-packet-3
-    part-match-packet-start-3
-    part-match-packet-end-3
-    sub-match-packet-4
-    part-match-packet-start-4
-    part-match-packet-end-4
-    match-packet-requires
     add-row-bits
     shared-slice-read-row-bits
     add-row-bits-2
     shared-slice-read-row-bits-2
     add-row-bits-3
     shared-slice-read-row-bits-3
+    sub-row-bits
     shared-slice-read-row-bits-4
     row-bits-requires
-    returns-2
-    returns-3)
+    returns-2)

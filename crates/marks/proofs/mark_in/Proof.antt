@@ -1,72 +1,62 @@
-use Prim.Native.Nat.{_-_, _≤_}
-use mathlib.Core.List.{[], _∷_}
-use mathlib.Core.Path.{_≡_, refl, sym, _∙_}
-use native.Mathlib.Omega.{arith}
-use lib.ListN.{length, drop, length-set}
+use mathlib.Core.Path.{sym, _∙_}
+use mathlib.Core.Bool.{false≢true}
 use borrow.Author.Needs.{needs}
-use Rattle.marks.specs.Marks.{markRow, marksAt, marks-turn, marks-end}
-use Rattle.model.specs.Frames.{packetOf}
-use Rattle.laws.specs.Rows.{row}
-use Rattle.laws.specs.Loops.{upTo}
-use Rattle.laws.specs.Put.{put, put-nil}
 use Rattle.marks.proofs.mark_in.Statement.{statement}
 use Rattle.marks.proofs.mark_in.Tie as tie
-use Rattle.model.specs.Layout.{monitorSize, monitorsAt, mostMonitors}
+use Rattle.marks.proofs.mark_in.Reads as reads
+use Rattle.marks.proofs.mark_in.Lts as lts
+use Rattle.marks.proofs.is_private.Reads as is-private-reads
+use Rattle.marks.proofs.mark_each.Reads as mark-each-reads
+use Rattle.marks.proofs.mark_private.Reads as mark-private-reads
 
-abbrev Inv-loop : tie.InvT-loop
-Inv-loop acts₀ s payload scan₀ h₀ acts h = (h ≤ mostMonitors) × (length acts ≡ length acts₀) × (acts ≡ put acts₀ 0 (upTo (λ g. markRow (row monitorSize g (drop monitorsAt s)) (packetOf payload) ∷ []) h))
+-- src/lib.rt:215:8
+is-private-requires : tie.Need-is-private-requires
+is-private-requires c κs = search needs
 
-abbrev μ-loop : tie.MeasureT-loop
-μ-loop acts₀ s payload scan₀ h₀ acts h = mostMonitors - h
+-- src/lib.rt:216:9
+mark-private-requires : tie.Need-mark-private-requires
+mark-private-requires c κs =
+    (search needs, search needs, search needs, sym (c .before .before .is-private .ensures) ∙ c .before .if1 .taken)
 
-scan-at-requires : tie.Need-scan-at-requires Inv-loop μ-loop
-scan-at-requires c κs = search needs
+-- src/lib.rt:217:9
+same-length : tie.Need-same-length
+same-length c = search needs
 
-loop-holds : tie.Need-loop-holds Inv-loop μ-loop
-unfolding upTo
-loop-holds c = (omega arith, refl, sym (put-nil _ _))
+-- src/lib.rt:217:9
+returns : tie.Need-returns
+returns c = search needs
 
-mark-at-requires : tie.Need-mark-at-requires Inv-loop μ-loop
-mark-at-requires c κs = search needs
+-- src/lib.rt:220:21
+slice-aggregate-mark-each : tie.Need-slice-aggregate-mark-each
+slice-aggregate-mark-each c = search needs
 
-slice-write-acts : tie.Need-slice-write-acts Inv-loop μ-loop
-slice-write-acts c = omega arith
-
-add-h : tie.Need-add-h Inv-loop μ-loop
-add-h c = omega arith
-
-loop-less : tie.Need-loop-less Inv-loop μ-loop
-loop-less c = omega arith
-
-loop-again : tie.Need-loop-again Inv-loop μ-loop
-loop-again c = let a = c .before .before .before .before .before .before .before .args in let l = c .before .before .loop in (
-  omega arith,
-  simp length-set (l .inv .1),
-  rw (c .mark-at .ensures) (marks-turn (λ g. markRow (row monitorSize g (drop monitorsAt (a .s .now))) (packetOf (a .payload .now))) (a .acts .now) (l .h)
-      (omega arith) (omega arith) (l .inv .2)),
+-- src/lib.rt:220:5
+mark-each-requires : tie.Need-mark-each-requires
+mark-each-requires c κs = (
+  search needs,
+  search needs,
+  search needs,
+  search needs,
+  record { is = sym (c .before .before .if1 .left) ∙ c .before .before .before .is-private .ensures; keyed = λ e. absurd (false≢true e) },
 )
 
-same-length : tie.Need-same-length Inv-loop μ-loop
-same-length c = c .before .loop .inv .1
+-- src/lib.rt:211:1
+same-length-2 : tie.Need-same-length-2
+same-length-2 c = search needs
 
-returns : tie.Need-returns Inv-loop μ-loop
-unfolding marksAt
-returns c = let a = c .before .before .before .before .before .before .args in let l = c .before .loop in
-    let e : l .h ≡ mostMonitors = omega arith in
-    rw e at (l .inv .2) ∙ marks-end (a .s .now) (packetOf (a .payload .now)) (a .acts .now) (omega arith)
+-- src/lib.rt:211:1
+returns-2 : tie.Need-returns-2
+returns-2 c = search needs
 
 pub mark-in-spec : {M : Type 1} → statement M
 mark-in-spec =
     tie.close
     (tie.spec
-    Inv-loop
-    μ-loop
-    scan-at-requires
-    loop-holds
-    mark-at-requires
-    slice-write-acts
-    add-h
-    loop-less
-    loop-again
+    is-private-requires
+    mark-private-requires
     same-length
-    returns)
+    returns
+    slice-aggregate-mark-each
+    mark-each-requires
+    same-length-2
+    returns-2)

@@ -1,0 +1,2 @@
+-- The blocks of this crate as the octets of FIPS 197.
+pub mod Blocks

@@ -1,0 +1,1 @@
+// The definitions of FIPS 197 and their laws: specs/ alone.

@@ -1,0 +1,61 @@
+use native.Mathlib.Omega.{arith}
+use Rattle.octets.specs.Little.{little}
+use Rattle.resolve.specs.Resolve.{hashOf}
+use borrow.Author.Needs.{needs}
+use Rattle.resolve.proofs.hash.Statement.{statement}
+use Rattle.resolve.proofs.hash.Tie as tie
+
+shared-slice-read-wide : tie.Need-shared-slice-read-wide
+shared-slice-read-wide c = search needs
+
+wide-requires : tie.Need-wide-requires
+wide-requires c κs = search needs
+
+shared-slice-read-wide-2 : tie.Need-shared-slice-read-wide-2
+shared-slice-read-wide-2 c = search needs
+
+wide-requires-2 : tie.Need-wide-requires-2
+wide-requires-2 c κs = search needs
+
+mul-result : tie.Need-mul-result
+mul-result c = search needs
+
+add-result : tie.Need-add-result
+add-result c = search needs
+
+shared-slice-read-wide-3 : tie.Need-shared-slice-read-wide-3
+shared-slice-read-wide-3 c = search needs
+
+wide-requires-3 : tie.Need-wide-requires-3
+wide-requires-3 c κs = search needs
+
+mul-result-2 : tie.Need-mul-result-2
+mul-result-2 c = search needs
+
+add-result-2 : tie.Need-add-result-2
+add-result-2 c = search needs
+
+returns : tie.Need-returns
+unfolding hashOf little
+returns c = omega (
+  arith,
+  c .before .before .before .before .wide .ensures .0,
+  c .before .before .wide2 .ensures .0,
+  c .wide3 .ensures .0,
+)
+
+pub hash-spec : {M : Type 1} → statement M
+hash-spec =
+    tie.close
+    (tie.spec
+    shared-slice-read-wide
+    wide-requires
+    shared-slice-read-wide-2
+    wide-requires-2
+    mul-result
+    add-result
+    shared-slice-read-wide-3
+    wide-requires-3
+    mul-result-2
+    add-result-2
+    returns)
