@@ -23,7 +23,7 @@
  * examples/gateway does it, docs/FORMATS.md has the formats octet by octet.
  *
  * What a call needs. Octets of stack, measured over journals (reference/stack): write_line none, save 144, submit
- * 1,920, submit_line 2,464, replay and replay_to 2,576, begin 4,808, restore 14,768. No memory beside that and the
+ * 2,064, submit_line 2,608, replay and replay_to 2,720, begin 4,808, restore 14,768. No memory beside that and the
  * caller's buffers: a state of 4,761 octets, outputs of 2,880, 9,770 and 527. The code is 25 KB and reentrant. By the
  * System V calling convention it uses the general registers and those of SSE2 (xmm0 to xmm15), no x87, MMX or AVX: a
  * kernel or an interrupt handler saves these first. Every call's work is bounded, that of the replays by the length
