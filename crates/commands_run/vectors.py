@@ -60,11 +60,11 @@ def session(image, commands):
             lines.append(poke(0, row))
         elif text.startswith("A1"):
             lines.append(poke(40 + 71 * row[0], row))
-        elif text.startswith("A2"):
-            lines.append(poke(1176 + 56 * pairs, row))
+        elif text.startswith("A3"):
+            lines.append(poke(1176 + 57 * pairs, row))
             pairs += 1
         else:
-            lines.append(poke(4760, row[1:]))
+            lines.append(poke(4824, row[1:]))
     lines += ["02" + params.hex().upper() + "\n" for params in commands]
     return "".join(lines + ["03\n"])
 
@@ -158,7 +158,7 @@ def with_pairs(count):
         for name in names:
             with open(os.path.join(folder, name), encoding="ascii") as file:
                 image = file.read()
-            handles = [line[2:4] for line in image.split() if line.startswith("A2")]
+            handles = [line[2:4] for line in image.split() if line.startswith("A3")]
             if len(handles) > 2 and len(set(handles)) > 1 and has_numbers(image):
                 images.append(image)
         images.sort(key=len)

@@ -75,10 +75,10 @@ fn main() {
     let folder = env::args().nth(1).expect("vectors DIR");
     let fresh = b"A000000000001EFC024D53\nAF0000\n".to_vec();
     let session = b"A002000000001EFC024D53\nA100C4B00300040700060504030201\n\
-        A200000605040302010000000000000000000000000000000000\nAF0101\n"
+        A30000060504030201000000000000000000000000000000C40000\nAF0101\n"
         .to_vec();
     let window = b"A003000000011EFC024D53\nA100C4B00302040700060504030201\nA10FC4B03CFE0203011218\n\
-        A2000006050403020101000102000000C4FFFFFFFFFFFFFF0302AABB\nAF0201\n"
+        A3000006050403020101000102000000C4FFFFFFFFFFFFFFC40302AABB\nAF0201\n"
         .to_vec();
     let largest = image::text(&states::largest(&mut Random::new(1)));
     let mut rows: Vec<(u8, Vec<u8>)> = vec![(b'S', fresh), (b'S', session.clone()), (b'S', window.clone())];

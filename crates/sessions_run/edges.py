@@ -46,12 +46,12 @@ def monitor(handle=0, high=-60, low=-80, interval=60, sampling=4, condition=of_d
     return line(bytes([0xA1, handle, high & 255, low & 255, interval, sampling, condition[0], length]) + octets)
 
 
-def pair(handle=0, kind=0, device=1, silent=0, ticks=0, packets=0, total=0, event=0, data=b"", length=None):
-    """An A2 line. A length that is given stands for that of the data."""
+def pair(handle=0, kind=0, device=1, silent=0, ticks=0, packets=0, total=0, event=0, data=b"", length=None, kept=-60):
+    """An A3 line. A length that is given stands for that of the data."""
     length = len(data) if length is None else length
     window = bytes([ticks]) + packets.to_bytes(4, "little") + total.to_bytes(8, "little", signed=True)
-    return line(bytes([0xA2, handle, kind]) + address(device) + silent.to_bytes(2, "little") + window
-                + bytes([event, length]) + data)
+    return line(bytes([0xA3, handle, kind]) + address(device) + silent.to_bytes(2, "little") + window
+                + bytes([kept & 255, event, length]) + data)
 
 
 def end(monitors=1, pairs=1):
@@ -59,7 +59,7 @@ def end(monitors=1, pairs=1):
 
 
 def longest_image():
-    """The image of 9,770 characters."""
+    """The image of 9,898 characters."""
     condition = bytes([1, 1, 62, 9, 0]) + b"A" * 60
     text = head(prefix=bytes(range(32)))
     text += "".join(monitor(handle, condition=condition) for handle in range(16))
@@ -110,6 +110,11 @@ IMAGES = (
     ("10 packets at position 9", head() + monitor() + pair(packets=10, total=-500) + end(), False),
     ("a sum of 21", head() + monitor() + pair(packets=1, total=21) + end(), False),
     ("a sum of -128", head() + monitor() + pair(packets=1, total=-128) + end(), False),
+    ("kept RSSI -127", head() + monitor() + pair(kept=-127) + end(), True),
+    ("kept RSSI 20", head() + monitor() + pair(kept=20) + end(), True),
+    ("kept RSSI -128", head() + monitor() + pair(kept=-128) + end(), False),
+    ("kept RSSI 21", head() + monitor() + pair(kept=21) + end(), False),
+    ("an A2 line", head() + monitor() + line(b"\xA2\x00\x00" + address(1) + bytes(17)) + end(), False),
     ("event type 3", head() + monitor() + pair(packets=1, event=3) + end(), True),
     ("event type 4", head() + monitor() + pair(packets=1, event=4) + end(), False),
     ("no packets, a sum", head() + monitor() + pair(total=1) + end(), False),

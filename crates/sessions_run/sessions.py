@@ -48,6 +48,37 @@ def full():
     yield made
 
 
+def strongest():
+    """A full table keeps the strongest (T-05): smaller ones displaced, the earlier of two, two by one packet, none at
+    an equal RSSI; windows lost; a displaced device starts again; a pair of the same device displaced."""
+    for filter_on in (0, 1):
+        for sampling in (0, 2, 255):
+            made = Session("a full table keeps the strongest, sampling %d, filter %d" % (sampling, filter_on),
+                           enable=filter_on or None)
+            made.add(NAMED, interval=60, sampling=sampling, high=-90, low=-100)
+            made.add(bytes([2, 1, 0x0F, 0x18]), interval=60, sampling=sampling, high=-90, low=-100)
+            both = SMALL + bytes([3, 3, 0x0F, 0x18])
+            for device in range(30):
+                made.packet(device, -50 - device % 3, both)
+            for device in range(30, 34):
+                made.packet(device, -50, both[3:])
+            made.packet(40, -52, both)
+            made.packet(40, -51, both)
+            made.packet(2, -50, SMALL)
+            made.packet(33, -70, both[3:])
+            made.packet(33, -69, SMALL)
+            made.packet(41, -69, both)
+            made.packet(5, -100, both)
+            made.packet(42, -90, SMALL)
+            made.packet(42, -91, both)
+            made.packet(43, -90, both)
+            made.packet(5, -50, both)
+            made.ticks(2)
+            made.packet(44, 20, both)
+            made.ticks(2)
+            yield made
+
+
 def sixteen():
     for filter_on in (0, 1):
         for prefix in (b"", bytes(range(32))):
@@ -318,9 +349,9 @@ def counted():
             made = Session("a window %d packets short of 4,294,967,295, each at %d" % (below, each))
             count = 2**32 - 1 - below
             pair = bytes(2) + address(1) + bytes(2) + bytes([3]) + count.to_bytes(4, "little")
-            pair += (each * count).to_bytes(8, "little", signed=True) + b"\x00\x00"
+            pair += (each * count).to_bytes(8, "little", signed=True) + bytes([each & 255, 0, 0])
             made.image = line(b"\xA0" + count.to_bytes(4, "little") + b"\x01" + OPCODE + b"\x00")
-            made.image += line(b"\xA1\x00\xC4\xB0\x3C\x04\x04\x07" + of_device(1)[1:]) + line(b"\xA2" + pair)
+            made.image += line(b"\xA1\x00\xC4\xB0\x3C\x04\x04\x07" + of_device(1)[1:]) + line(b"\xA3" + pair)
             made.image += line(b"\xAF\x01\x01")
             made.number = count
             for _ in range(max(1, below - 1)):
@@ -347,7 +378,7 @@ def written(expected):
     for row in expected.splitlines():
         if len(row) < 3:
             number = int(row)
-        elif row[:2] in ("A0", "A1", "A2", "AF"):
+        elif row[:2] in ("A0", "A1", "A3", "AF"):
             image += row + "\n"
         else:
             answers += bytes.fromhex(row)
@@ -371,8 +402,8 @@ def read(path):
 
 def main():
     reference, sessions, lines = sys.argv[1], [], []
-    kinds = (in_full, full, sixteen, windows, samplings, equal, switched, scans, private, ends, longest, counted)
-    kinds += (refused,)
+    kinds = (in_full, full, strongest, sixteen, windows, samplings, equal, switched, scans, private, ends, longest)
+    kinds += (counted, refused)
     with tempfile.TemporaryDirectory() as folder:
         for kind in kinds + (conditions, characters, images):
             for made in kind():
@@ -395,7 +426,7 @@ def main():
                 sessions.append((image, journal))
                 lines.append(written(read(stem + ".expected").decode("ascii"))[0])
     print(len(sessions), "in all")
-    assert all(len(image) <= 9771 and len(journal) <= ROOM for image, journal in sessions)
+    assert all(len(image) <= 9899 and len(journal) <= ROOM for image, journal in sessions)
     with open("stdin", "wb") as file:
         for image, journal in sessions:
             file.write(b"%06d %06d\n" % (len(image), len(journal)) + image + journal)

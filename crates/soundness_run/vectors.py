@@ -9,7 +9,7 @@ with 16 monitors and 64 pairs; with `fresh`, 65,535 checks of a fresh one.
 import sys
 
 # The block (docs/DESIGN.md): the head, sixteen rows of monitors, sixty-four rows of pairs, their number.
-HEAD, MONITOR, PAIR = 40, 71, 56
+HEAD, MONITOR, PAIR = 40, 71, 57
 MONITORS, PAIRS = HEAD, HEAD + 16 * MONITOR
 COUNT = PAIRS + 64 * PAIR
 SIZE = COUNT + 1
@@ -51,8 +51,10 @@ def monitor(row, place):
 def pair(row, monitors, position):
     handle, address_type = row[0], row[1]
     silent, ticks, packets = int.from_bytes(row[8:10], "little"), row[10], int.from_bytes(row[11:15], "little")
-    total, event, n = signed(row[15:23]), row[23], row[24]
-    if handle > 15 or not monitors[handle] or address_type > 1 or event > 3 or n > 31 or any(row[25 + n:]):
+    total, kept, event, n = signed(row[15:23]), signed(row[23:24]), row[24], row[25]
+    if handle > 15 or not monitors[handle] or address_type > 1 or event > 3 or n > 31 or any(row[26 + n:]):
+        return False
+    if not -127 <= kept <= 20:
         return False
     interval, period = monitors[handle]
     if silent >= 10 * interval:
@@ -95,9 +97,9 @@ def mon(h, high=0xC4, low=0xB0, interval=3, sampling=5, kind=4, condition=bytes.
     return (MONITORS + MONITOR * h, bytes([h, high, low, interval, sampling, kind, len(condition)]) + condition)
 
 
-def watch(i, handle=0, kind=0, address="060504030201", silent=0, ticks=0, packets=0, total=0, event=0, data=b""):
+def watch(i, handle=0, kind=0, address="060504030201", silent=0, ticks=0, packets=0, total=0, event=0, data=b"", kept=0xC4):
     return (PAIRS + PAIR * i, bytes([handle, kind]) + bytes.fromhex(address) + silent.to_bytes(2, "little") + bytes([ticks])
-            + packets.to_bytes(4, "little") + total.to_bytes(8, "little", signed=True) + bytes([event, len(data)]) + data)
+            + packets.to_bytes(4, "little") + total.to_bytes(8, "little", signed=True) + bytes([kept, event, len(data)]) + data)
 
 
 def count(n):
@@ -142,8 +144,10 @@ vectors = [
     ("sum at -254", one + [watch(0, packets=2, total=-254)], 1), ("sum at -255", one + [watch(0, packets=2, total=-255)], 0),
     ("sum without packets", one + [watch(0, total=1)], 0), ("event without packets", one + [watch(0, event=1)], 0),
     ("data without packets", one + [watch(0, data=b"\0")], 0), ("data 31", one + [watch(0, packets=1, data=bytes(31))], 1),
-    ("data length 32", one + [watch(0, packets=1), (PAIRS + 24, b"\x20")], 0),
-    ("octet behind the data", one + [watch(0, packets=1, data=b"\1"), (PAIRS + 26, b"\1")], 0),
+    ("data length 32", one + [watch(0, packets=1), (PAIRS + 25, b"\x20")], 0),
+    ("octet behind the data", one + [watch(0, packets=1, data=b"\1"), (PAIRS + 27, b"\1")], 0),
+    ("kept RSSI -127", one + [watch(0, kept=0x81)], 1), ("kept RSSI -128", one + [watch(0, kept=0x80)], 0),
+    ("kept RSSI 20", one + [watch(0, kept=20)], 1), ("kept RSSI 21", one + [watch(0, kept=21)], 0),
     ("event 3", one + [watch(0, packets=1, event=3)], 1), ("event 4", one + [watch(0, packets=1, event=4)], 0),
     ("sampling 0", [mon(0, sampling=0), count(1), watch(0)], 1), ("sampling 0, ticks", [mon(0, sampling=0), count(1), watch(0, ticks=1)], 0),
     ("sampling 255", [mon(0, sampling=255), count(1), watch(0)], 1),

@@ -8,7 +8,7 @@ import sys
 
 ROOT = os.path.dirname(os.path.dirname(os.path.dirname(os.path.abspath(__file__))))
 BEGIN, SUBMIT, SUBMIT_LINE, WRITE_LINE, SAVE, RESTORE, RECORDS, SAVED, REPLAY, FRAMES, OVERWRITE, KEEP = range(12)
-# Outputs of 2,880, 9,770 and 20,480 octets, by their place in harness.c's list.
+# Outputs of 2,880, 9,898 and 20,480 octets, by their place in harness.c's list.
 ANSWER, IMAGE, LONG = range(3)
 # Longer inputs are left out, but for those with the largest image.
 LONGEST = 2500
@@ -103,7 +103,7 @@ def full(pattern, sampling, packets, pairs):
         device = bytes([pair % 16, pair // 16 % 2, pair, 2, 3, 4, 5, 6])
         window = number(packets, 4) + (-60 * packets).to_bytes(8, "little", signed=True)
         data = counted(bytes([30, 0xFF]) + pattern[:29], 1) if packets else b"\0"
-        records.append(b"\xa2" + device + number(599) + number(sampling - 1, 1) + window + b"\0" + data)
+        records.append(b"\xa3" + device + number(599) + number(sampling - 1, 1) + window + b"\xc4\0" + data)
     records.append(b"\xaf" + bytes([16, pairs]))
     return text_of(records)
 
@@ -113,7 +113,7 @@ def watched():
     records = [bytes([0xA0]) + number(99, 4) + b"\1\x1e\xfc\0"]
     devices = [bytes([0, 9, 2, 3, 4, 5, handle]) for handle in range(16)]
     records += [bytes([0xA1, handle, 0xC4, 0xB0, 3, 0, 4, 7]) + device for handle, device in enumerate(devices)]
-    records += [bytes([0xA2, handle]) + device + bytes(17) for handle, device in enumerate(devices)]
+    records += [bytes([0xA3, handle]) + device + bytes(15) + b"\xc4\0\0" for handle, device in enumerate(devices)]
     records.append(b"\xaf\x10\x10")
     packets = [b"\2" + number(100 + i, 4) + b"\0" + device + b"\0\xc0" for i, device in enumerate(devices)]
     return text_of(records), text_of(packets)
@@ -134,7 +134,7 @@ def singles():
     for text in (line, line.lower(), line[:-1], line[:-1] + b"\r\n", line[1:], b"\n"):
         yield call(SUBMIT_LINE, 31, ANSWER, counted(text)) + call(SUBMIT_LINE, 0, ANSWER, counted(text))
     monitor = bytes([0, 0xC4, 0xB0, 3, 0, 4, 7])
-    blocks = (0, b"\xff\xff\xff\xfe"), (4, b"\2"), (40, monitor), (4760, b"\1"), (4760, b"A")
+    blocks = (0, b"\xff\xff\xff\xfe"), (4, b"\2"), (40, monitor), (4824, b"\1"), (4824, b"A")
     for at, put in blocks:
         damaged = call(OVERWRITE, 0, 0, number(at) + counted(put, 1))
         yield (call(KEEP, 0, 0) + damaged + call(SUBMIT, 31, ANSWER, b"\1" + counted(tick)) + call(SAVE, 0, IMAGE) +

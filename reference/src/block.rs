@@ -1,6 +1,6 @@
-//! The state as the block of 4,761 octets that the proved calls are given (docs/DESIGN.md, "The block"): the
-//! fields of A0 at 0, a row for each handle at 40, the pairs' rows in start order at 1176, their number at
-//! 4760; the rows hold the fields of A1 and A2, whatever is not in use is 0.
+//! The state as the block of 4,825 octets that the proved calls are given (docs/DESIGN.md, "The block"): the
+//! fields of A0, a row for each handle, the pairs' rows in start order, their number; the rows hold the fields of A1
+//! and A3, whatever is not in use is 0.
 //!
 //! `of` and `state` undo each other: `of(&state(&b))` is `Some(b)` for any octets, and where `of(&s)` is
 //! `Some(b)`, `state(&b)` is `s`. So a block is sound exactly where its record is.
@@ -9,14 +9,14 @@ use crate::limits::{MONITORS, PAIRS};
 use crate::state::{Device, Monitor, Pair, State};
 
 /// Octets of the block.
-pub const SIZE: usize = 4761;
+pub const SIZE: usize = COUNT_AT + 1;
 
 const PREFIX_AT: usize = 8;
 const MONITORS_AT: usize = 40;
 const MONITOR_ROW: usize = 71;
-const PAIRS_AT: usize = 1176;
-const PAIR_ROW: usize = 56;
-const COUNT_AT: usize = 4760;
+const PAIRS_AT: usize = MONITORS_AT + MONITOR_ROW * MONITORS;
+const PAIR_ROW: usize = 57;
+const COUNT_AT: usize = PAIRS_AT + PAIR_ROW * PAIRS;
 
 /// The number of monitors in the record of a block that has a row at another place than its handle's. No
 /// sound state has so many; the rows are then held as they stand in the block, one place each.
@@ -108,7 +108,7 @@ fn monitor(row: &[u8; MONITOR_ROW]) -> Monitor {
 }
 
 /// Handle, address type, address, ticks since a good packet (2), ticks in the window (1), packets (4), sum (8),
-/// event type, n, data.
+/// latest matching RSSI, event type, n, data.
 fn pair_row(p: &Pair) -> [u8; PAIR_ROW] {
     let mut row = [0; PAIR_ROW];
     row[..2].copy_from_slice(&[p.handle, p.device.kind]);
@@ -117,8 +117,8 @@ fn pair_row(p: &Pair) -> [u8; PAIR_ROW] {
     row[10] = p.window_ticks;
     row[11..15].copy_from_slice(&p.packets.to_le_bytes());
     row[15..23].copy_from_slice(&p.sum.to_le_bytes());
-    row[23..25].copy_from_slice(&[p.event_type, p.n]);
-    row[25..].copy_from_slice(&p.data);
+    row[23..26].copy_from_slice(&[p.rssi as u8, p.event_type, p.n]);
+    row[26..].copy_from_slice(&p.data);
     row
 }
 
@@ -130,8 +130,9 @@ fn pair(row: &[u8; PAIR_ROW]) -> Pair {
         window_ticks: row[10],
         packets: u32::from_le_bytes(part(row, 11)),
         sum: i64::from_le_bytes(part(row, 15)),
-        event_type: row[23],
-        n: row[24],
-        data: part(row, 25),
+        rssi: row[23] as i8,
+        event_type: row[24],
+        n: row[25],
+        data: part(row, 26),
     }
 }

@@ -35,7 +35,7 @@ pub struct Showing {
 /// Every size of a piece up to this one is used for a text that is longer.
 pub const PIECES: usize = 700;
 /// The longest output that the program lends.
-const MOST_LENT: usize = 9800;
+const MOST_LENT: usize = IMAGE + 30;
 /// The digest is a polynomial's value modulo this prime.
 const PRIME: u64 = (1 << 54) - 33;
 

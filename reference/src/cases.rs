@@ -21,27 +21,32 @@ use crate::timers::Timers;
 /// One case in so many has addresses that change every 9,000 ticks.
 const QUARTERS: u64 = 1000;
 
+/// One case in so many has the table full from its first frames on.
+const FULL: u64 = 8;
+
 pub struct Case {
     pub image: Vec<u8>,
     pub journal: Vec<u8>,
     pub expected: Vec<u8>,
 }
 
+/// The state and the calls of a case: from a sound state, where that may be, or from a start.
+pub fn calls_of(seed: u64, index: u64, from_sound: bool) -> (State, Vec<Call>) {
+    let calls = match index % QUARTERS {
+        7 => generate::quarters(seed, index),
+        place if place % FULL == 3 => generate::full(seed, index, 120),
+        _ if from_sound => return generate::session_from(seed, index, 80),
+        _ => generate::session(seed, index, 120),
+    };
+    let Call::Start { opcode, prefix } = &calls[0] else { panic!("a session starts") };
+    (State::fresh(*opcode, prefix), calls[1..].to_vec())
+}
+
 /// Case `index` of a seed: an image after some frame k of a session, the journal from some frame j, either
 /// of them damaged at times. Both engines must say the same of it.
 pub fn case(seed: u64, index: u64) -> Case {
     let mut random = Random::of(seed ^ 0xCA5E, index);
-    let (base, calls) = match random.percent(30) && index % QUARTERS != 7 {
-        true => generate::session_from(seed, index, 80),
-        false => {
-            let calls = match index % QUARTERS {
-                7 => generate::quarters(seed, index),
-                _ => generate::session(seed, index, 120),
-            };
-            let Call::Start { opcode, prefix } = &calls[0] else { panic!("a session starts") };
-            (State::fresh(*opcode, prefix), calls[1..].to_vec())
-        }
-    };
+    let (base, calls) = calls_of(seed, index, random.percent(30));
     let (frames, states) = unbroken(&base, &calls);
     let k = random.below(states.len());
     let j = match random.below(10) {
@@ -279,7 +284,7 @@ fn block_vectors(seed: u64, index: u64) -> Vec<String> {
     vec![format!("{} {} {}", hex(&key), hex(&block), hex(&aes::encrypt(&key, &block, Fault::None)))]
 }
 
-/// `SUM COUNT MEAN`: the sum as 8 octets and the count as 4, as in an A2 line; the mean as its octet.
+/// `SUM COUNT MEAN`: the sum as 8 octets and the count as 4, as in an A3 line; the mean as its octet.
 fn mean_vectors(seed: u64, index: u64) -> Vec<String> {
     let mut random = Random::of(seed, index);
     let count = random.pick(&[1, 2, 3, 7, 1000, u32::MAX]) as i64;

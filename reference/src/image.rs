@@ -5,14 +5,14 @@ use crate::limits::{CONDITION, DATA, MONITORS, PAIRS, PREFIX};
 use crate::lines;
 use crate::state::{Device, Monitor, Pair, State};
 
-/// The text of a state: A0, the A1s, the A2s, AF.
+/// The text of a state: A0, the A1s, the A3s, AF.
 pub fn text(state: &State) -> Vec<u8> {
     let mut text = lines::write(&a0(state));
     for monitor in state.monitors() {
         text.extend(lines::write(&a1(monitor)));
     }
     for pair in state.pairs() {
-        text.extend(lines::write(&a2(pair)));
+        text.extend(lines::write(&a3(pair)));
     }
     text.extend(lines::write(&[0xAF, state.monitor_count, state.pair_count]));
     text
@@ -37,16 +37,16 @@ fn a1(m: &Monitor) -> Vec<u8> {
     octets
 }
 
-/// A2: handle, address type, address, ticks since a good packet (2), ticks in the window (1), packets (4),
-/// sum (8), event type, n, data of the latest packet in the window.
-fn a2(p: &Pair) -> Vec<u8> {
-    let mut octets = vec![0xA2, p.handle, p.device.kind];
+/// A3: handle, address type, address, ticks since a good packet (2), ticks in the window (1), packets (4),
+/// sum (8), latest matching RSSI, event type, n, data of the latest packet in the window.
+fn a3(p: &Pair) -> Vec<u8> {
+    let mut octets = vec![0xA3, p.handle, p.device.kind];
     octets.extend(p.device.address);
     octets.extend(p.quiet.to_le_bytes());
     octets.push(p.window_ticks);
     octets.extend(p.packets.to_le_bytes());
     octets.extend(p.sum.to_le_bytes());
-    octets.extend([p.event_type, p.n]);
+    octets.extend([p.rssi as u8, p.event_type, p.n]);
     octets.extend(p.latest());
     octets
 }
@@ -82,7 +82,7 @@ impl Fields {
     }
 }
 
-/// The records of a text, if it is lines A0, A1s, A2s, AF with right lengths and counts and nothing after
+/// The records of a text, if it is lines A0, A1s, A3s, AF with right lengths and counts and nothing after
 /// (READINGS 24). Whether they are those of a sound state is another question.
 pub fn read(text: &[u8], fault: Fault) -> Option<State> {
     let mut rest = text.split_inclusive(|c| *c == lines::LF).peekable();
@@ -93,7 +93,7 @@ pub fn read(text: &[u8], fault: Fault) -> Option<State> {
         rest.next();
     }
     let mut pairs = Vec::new();
-    while let Some(pair) = rest.peek().and_then(|line| read_a2(line)) {
+    while let Some(pair) = rest.peek().and_then(|line| read_a3(line)) {
         pairs.push(pair);
         rest.next();
     }
@@ -134,15 +134,15 @@ fn read_a1(line: &[u8]) -> Option<Monitor> {
     Some(Monitor { handle, high: high as i8, low: low as i8, interval, sampling, kind, length, octets })
 }
 
-fn read_a2(line: &[u8]) -> Option<Pair> {
-    let mut fields = Fields::of(line, 0xA2)?;
+fn read_a3(line: &[u8]) -> Option<Pair> {
+    let mut fields = Fields::of(line, 0xA3)?;
     let handle = fields.octet()?;
     let device = Device { kind: fields.octet()?, address: fields.take()? };
     let quiet = u16::from_le_bytes(fields.take()?);
     let window_ticks = fields.octet()?;
     let packets = u32::from_le_bytes(fields.take()?);
     let sum = i64::from_le_bytes(fields.take()?);
-    let [event_type, n] = fields.take()?;
+    let [rssi, event_type, n] = fields.take()?;
     let data = fields.rest::<DATA>(n)?;
-    Some(Pair { handle, device, quiet, window_ticks, packets, sum, event_type, n, data })
+    Some(Pair { handle, device, quiet, window_ticks, packets, sum, rssi: rssi as i8, event_type, n, data })
 }

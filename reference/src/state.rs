@@ -1,4 +1,4 @@
-//! The state as document 01's records: what the lines A0, A1 and A2 hold ("The image"), in places of
+//! The state as document 01's records: what the lines A0, A1 and A3 hold ("The image"), in places of
 //! fixed size, so that every unused octet and place can be asked to be 0 ("Sound").
 
 use crate::limits::{CONDITION, DATA, MONITORS, PAIRS, PREFIX};
@@ -23,7 +23,7 @@ pub struct Monitor {
     pub octets: [u8; CONDITION],
 }
 
-/// An A2 record: a pair under watch.
+/// An A3 record: a pair under watch. `rssi` is its latest matching RSSI (document 02, T-05).
 #[derive(Clone, Copy, PartialEq, Eq, Debug)]
 pub struct Pair {
     pub handle: u8,
@@ -32,6 +32,7 @@ pub struct Pair {
     pub window_ticks: u8,
     pub packets: u32,
     pub sum: i64,
+    pub rssi: i8,
     pub event_type: u8,
     pub n: u8,
     pub data: [u8; DATA],
@@ -84,6 +85,7 @@ impl Pair {
         window_ticks: 0,
         packets: 0,
         sum: 0,
+        rssi: 0,
         event_type: 0,
         n: 0,
         data: [0; DATA],

@@ -36,14 +36,15 @@ fn sound_block(octets: &[u8; SIZE]) -> bool {
 #[test]
 fn the_block_of_the_session_in_full() {
     let image = b"A002000000001EFC024D53\nA100C4B00300040700060504030201\n\
-        A200000605040302010000000000000000000000000000000000\nAF0101\n";
+        A30000060504030201000000000000000000000000000000C40000\nAF0101\n";
     let mut engine = Timers::default();
     engine.restore(image).unwrap();
     let mut expected = [0; SIZE];
     expected[..10].copy_from_slice(&[2, 0, 0, 0, 0, 0x1E, 0xFC, 2, 0x4D, 0x53]);
     expected[40..54].copy_from_slice(&[0, 0xC4, 0xB0, 3, 0, 4, 7, 0, 6, 5, 4, 3, 2, 1]);
     expected[1176..1184].copy_from_slice(&[0, 0, 6, 5, 4, 3, 2, 1]);
-    expected[4760] = 1;
+    expected[1176 + 23] = 0xC4;
+    expected[4824] = 1;
     assert_eq!(block::of(&engine.state()), Some(expected));
     assert_eq!(block::state(&expected), engine.state());
 }
@@ -62,11 +63,12 @@ fn fields_and_places() {
     let octets = block::of(&s).unwrap();
     assert_eq!(octets[..4], [1, 2, 3, 4]);
     assert_eq!(octets[39], 8);
-    let row = 1176 + 56;
+    let row = 1176 + 57;
     assert_eq!(octets[row + 8..row + 10], [1, 2]);
     assert_eq!(octets[row + 11..row + 15], [1, 2, 3, 4]);
     assert_eq!(octets[row + 15..row + 23], [0xFE, 0xFF, 0xFF, 0xFF, 0xFF, 0xFF, 0xFF, 0xFF]);
-    assert_eq!(octets[4759], 9);
+    assert_eq!(octets[row + 23] as i8, s.pairs[1].rssi);
+    assert_eq!(octets[4823], 9);
     for m in state.monitors() {
         let row = 40 + 71 * m.handle as usize;
         assert_eq!(
@@ -118,9 +120,9 @@ fn unused(state: &State) -> Vec<usize> {
         places.extend(row + used..row + 71);
     }
     for place in 0..64 {
-        let row = 1176 + 56 * place;
-        let used = state.pairs().get(place).map_or(0, |p| 25 + p.n as usize);
-        places.extend(row + used..row + 56);
+        let row = 1176 + 57 * place;
+        let used = state.pairs().get(place).map_or(0, |p| 26 + p.n as usize);
+        places.extend(row + used..row + 57);
     }
     places
 }

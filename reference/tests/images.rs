@@ -45,9 +45,9 @@ fn is_image(text: &[u8]) -> bool {
 fn largest_image_and_longest_answer() {
     let state = states::largest(&mut Random::new(1));
     let text = image::text(&state);
-    assert_eq!(text.len(), 9770);
+    assert_eq!(text.len(), 9898);
     let lengths: Vec<usize> = lines::split(&text).map(<[u8]>::len).collect();
-    assert_eq!(lengths, [vec![83], vec![145; 16], vec![115; 64], vec![7]].concat());
+    assert_eq!(lengths, [vec![83], vec![145; 16], vec![117; 64], vec![7]].concat());
     for mut engine in engines() {
         engine.restore(&text).unwrap();
         assert_eq!(engine.state(), state);
@@ -75,12 +75,12 @@ fn a_window_in_the_image() {
         host.tick();
         host.packet(&DEVICE, &[0xCC], -61);
         let head = "A100C4B00305040700060504030201\n";
-        let first = "A2 00 00 060504030201 0000 01 02000000 87FFFFFFFFFFFFFF 00 01 CC".replace(' ', "");
+        let first = "A3 00 00 060504030201 0000 01 02000000 87FFFFFFFFFFFFFF C3 00 01 CC".replace(' ', "");
         let expected = format!("A005000000001EFC024D53\n{head}{first}\nAF0101\n");
         assert_eq!(String::from_utf8(host.image()).unwrap(), expected);
         host.quiet_ticks(2);
         host.packet(&DEVICE, &[1, 2, 3], -80);
-        let then = "A2 00 00 060504030201 0200 03 03000000 37FFFFFFFFFFFFFF 00 03 010203".replace(' ', "");
+        let then = "A3 00 00 060504030201 0200 03 03000000 37FFFFFFFFFFFFFF B0 00 03 010203".replace(' ', "");
         let expected = format!("A008000000001EFC024D53\n{head}{then}\nAF0101\n");
         assert_eq!(String::from_utf8(host.image()).unwrap(), expected);
     });
@@ -171,12 +171,18 @@ fn damaged_images() {
 #[test]
 fn texts_that_are_no_images() {
     let good = "A002000000001EFC024D53\nA100C4B00300040700060504030201\n\
-        A200000605040302010000000000000000000000000000000000\nAF0101\n";
+        A30000060504030201000000000000000000000000000000C40000\nAF0101\n";
     assert!(is_image(good.as_bytes()));
     let head = "A002000000001EFC024D53\n";
     let monitor = "A100C4B00300040700060504030201\n";
-    let pair = "A200000605040302010000000000000000000000000000000000\n";
+    let pair = "A30000060504030201000000000000000000000000000000C40000\n";
+    let pair_with = |rssi: &str| good.replace("C40000\nAF", &format!("{rssi}0000\nAF"));
     for text in [
+        // Before request T-05.
+        format!("{head}{monitor}A200000605040302010000000000000000000000000000000000\nAF0101\n"),
+        pair_with("15"),
+        pair_with("7F"),
+        pair_with("80"),
         String::new(),
         "\n".to_string(),
         head.to_string(),
@@ -219,6 +225,10 @@ fn texts_that_are_no_images() {
     }
     assert!(is_image(good.replace("030201000000000000", "0302011D0000000000").as_bytes()), "29 of 30");
     assert!(is_image(good.replace("C4B003000407", "C4B003FE0407").as_bytes()));
+    assert!(
+        is_image(pair_with("14").as_bytes()) && is_image(pair_with("81").as_bytes()),
+        "kept RSSI 20 and -127"
+    );
     assert!(is_image(good.replace("C4B003", "B0B003").as_bytes()), "equal thresholds");
     assert!(is_image(good.replace("C4B003", "818103").as_bytes()), "equal at -127");
     assert!(is_image(good.replace("C4B003", "141403").as_bytes()), "equal at 20");

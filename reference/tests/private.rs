@@ -121,7 +121,7 @@ fn conditions_of_type_3() {
         assert_eq!(host.packet(&Device { kind: 0, ..next }, &[], -60), []);
         let text = String::from_utf8(host.image()).unwrap();
         assert!(text.contains("A100C4B001000310 9B7D390AA61010 3405ADC857A33402EC".replace(' ', "").as_str()));
-        assert!(text.contains("A20001AAFB0D948170"));
+        assert!(text.contains("A30001AAFB0D948170"));
         assert!(text.ends_with("AF0203\n"));
         host.engine.restore(text.as_bytes()).unwrap();
         assert_eq!(host.packet(&next, &[], -61), report(&next, &[], -61), "under watch");

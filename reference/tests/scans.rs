@@ -160,7 +160,7 @@ fn windows() {
         assert_eq!(host.scanned(2, &DEVICE, &[1, 7], &named, -71), []);
         host.quiet_ticks(1);
         let text = String::from_utf8(host.image()).unwrap();
-        assert!(text.contains("02000000 73FFFFFFFFFFFFFF 02 02 0107".replace(' ', "").as_str()), "{text}");
+        assert!(text.contains("02000000 73FFFFFFFFFFFFFF B9 02 02 0107".replace(' ', "").as_str()), "{text}");
         assert_eq!(host.tick(), report_of(2, &DEVICE, &[1, 7], -71), "one report, the mean of -70 and -71");
     });
 }

@@ -23,6 +23,7 @@ fn sixty_four_pairs() {
         let four: Vec<u8> = (0..4).flat_map(|h| event(&device(9), h, 1)).collect();
         assert_eq!(host.packet(&device(9), &DATA, 0), [four, report(&device(9), &DATA, 0)].concat());
         assert!(host.image().ends_with(b"AF0F40\n"));
+        // None is weaker.
         assert_eq!(host.packet(&device(10), &DATA, 0), report(&device(10), &DATA, 0));
         assert_eq!(host.packet(&device(9), &DATA, 0), report(&device(9), &DATA, 0));
         // Cancelling makes room and writes no stop event: handle 0 had 5 pairs.

@@ -1,5 +1,5 @@
 -- What follows from the facts of a sound state: bounds of the fields that rows are written from, and that these rows
--- are octets. Document 01, The image ("Sound: .."; A0, A1, A2). Assumes nothing.
+-- are octets. Document 01, The image ("Sound: .."; A0, A1, A3). Assumes nothing.
 use Prim.Native.Nat.{ℕ, _+_, _*_, _≤_, _<_}
 use mathlib.Core.Path.{_≡_, refl}
 use mathlib.Core.Bool.{Bool, true, false, _&&_, _||_}
@@ -96,6 +96,7 @@ pub record Fits (q : Pair) : Type 0 where
   pub ticks-most : q .ticks < 254
   pub packets-most : q .packets ≤ 4294967295
   pub sum-most : q .sum < 18446744073709551616
+  pub kept-octet : q .kept < 256
   pub event-most : q .event ≤ 3
   pub adv-most : length (q .adv) ≤ mostData
   pub adv-octets : every isOctet (q .adv) ≡ true
@@ -114,6 +115,7 @@ pair-fits m f q s =
       ticks-most = w .ticks-most;
       packets-most = omega (arith, w .packets-most, f .position-most);
       sum-most = w .sum-most;
+      kept-octet = s .fields .kept-octet;
       event-most = s .fields .event-most;
       adv-most = s .fields .adv-most;
       adv-octets = s .fields .adv-octets;
@@ -144,6 +146,7 @@ pub fits-pairRow : (q : Pair) → Fits q → every isOctet (pairRow q) ≡ true
 fits-pairRow q f =
     pairRow-octets q (omega (arith, f .handle-most)) (omega (arith, f .kind-most)) (f .address-octets)
     (omega (arith, f .ticks-most))
+    (f .kept-octet)
     (omega (arith, f .event-most)) (omega (arith, f .adv-most)) (f .adv-octets)
 
 -- a sound state's head row is octets

@@ -1,5 +1,5 @@
 -- Writes of pairs in a block: one pair changed, one pair more, and a block known by its rows. Document 01, The image
--- (A2), Watching, by history. Assumes nothing.
+-- (A3), Watching, by history. Assumes nothing.
 use Prim.Native.Nat.{ℕ, zero, suc, _+_, _-_, _*_, _≤_, _<_}
 use mathlib.Core.Path.{_≡_, sym, ap, _∙_}
 use mathlib.Core.List.{List, [], _∷_, _++_, append-assoc}

@@ -17,6 +17,7 @@ use Rattle.rule.specs.Engine.{find}
 use Rattle.rule.specs.Finds.{Rising}
 use Rattle.sessions.specs.Machine.{lastNumber}
 use Rattle.model.specs.Types.{Model, Monitor, Pair}
+use Rattle.model.specs.Level.{inRange}
 use Rattle.model.specs.Monitors.{accepts, runOf}
 use Rattle.model.specs.Sound.{octetsUpTo, soundSettings, soundMonitor, soundMonitors, soundWindow, soundEmpty}
 use Rattle.model.specs.Sound.{soundFields, soundOf, soundPair, apart, soundModel}
@@ -150,6 +151,8 @@ pub record SoundOf (position : ℕ) (m : Monitor) (q : Pair) : Type 0 where
   pub event-most : q .event ≤ 3
   pub adv-most : length (q .adv) ≤ mostData
   pub adv-octets : every isOctet (q .adv) ≡ true
+  pub kept-octet : q .kept < 256
+  pub kept-range : inRange (q .kept) ≡ true
   pub silent-below : q .silent < runOf m
   pub window : soundWindow position m q ≡ true
   pub empty : soundEmpty q ≡ true
@@ -162,6 +165,8 @@ of-facts position m q e =
     let a = every isOctet (q .address) in
     let v = leb (q .event) 3 in
     let d = octetsUpTo mostData (q .adv) in
+    let o = isOctet (q .kept) in
+    let r = inRange (q .kept) in
     let s = ltb (q .silent) (runOf m) in
     let w = soundWindow position m q in
     let z = soundEmpty q in
@@ -169,10 +174,12 @@ of-facts position m q e =
     let e2 = and-left (f && s && w) z e in
     let e1 = and-left (f && s) w e2 in
     let g4 = and-left f s e1 in
-    let g3 = and-left (k && l && a && v) d g4 in
+    let g5 = and-right (k && l && a && v && d) (o && r) g4 in
+    let g6 = and-left (k && l && a && v && d) (o && r) g4 in
+    let g3 = and-left (k && l && a && v) d g6 in
     let g2 = and-left (k && l && a) v g3 in
     let g1 = and-left (k && l) a g2 in
-    let u = up-to mostData (q .adv) (and-right (k && l && a && v) d g4) in
+    let u = up-to mostData (q .adv) (and-right (k && l && a && v) d g6) in
     record {
       kind-most = leb-true (q .kind) 1 (and-left k l g1);
       address-length = eqb-true (length (q .address)) 6 (and-right k l g1);
@@ -180,6 +187,8 @@ of-facts position m q e =
       event-most = leb-true (q .event) 3 (and-right (k && l && a) v g3);
       adv-most = u .0;
       adv-octets = u .1;
+      kept-octet = ltb-true (q .kept) 256 (and-left o r g5);
+      kept-range = and-right o r g5;
       silent-below = ltb-true (q .silent) (runOf m) (and-right f s e1);
       window = and-right (f && s) w e2;
       empty = and-right (f && s && w) z e;
@@ -194,6 +203,8 @@ facts-of position m q f =
       f .address-octets,
       le-leb (q .event) 3 (f .event-most),
       to-up mostData (q .adv) (f .adv-most) (f .adv-octets),
+      lt-ltb (q .kept) 256 (f .kept-octet),
+      f .kept-range,
       lt-ltb (q .silent) (runOf m) (f .silent-below),
       f .window,
     )

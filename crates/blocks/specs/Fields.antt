@@ -1,4 +1,4 @@
--- Fields written in a pair's row: the row of the changed pair. Document 01, The image (A2), Watching, by history.
+-- Fields written in a pair's row: the row of the changed pair. Document 01, The image (A3), Watching, by history.
 -- Assumes nothing.
 use Prim.Native.Nat.{ℕ, _+_, _-_, _≤_}
 use mathlib.Core.Path.{_≡_, refl, sym, ap, _∙_}
@@ -10,24 +10,24 @@ use Rattle.octets.specs.Little.{octetsOf, length-octets}
 use Rattle.model.specs.Types.{Packet, Pair}
 use Rattle.model.specs.Level.{addRssi}
 use Rattle.model.specs.Image.{pairRow}
-use Rattle.model.specs.Watch.{withSilent, withTicks, gathered, emptied, startPair}
+use Rattle.model.specs.Watch.{withSilent, withTicks, withKept, gathered, emptied, startPair}
 use Rattle.model.specs.Block.{padTo}
 use Rattle.blocks.specs.Rows.{length-pairRow}
-use Rattle.model.specs.Layout.{dataAt, dataRoom, mostData, packetsAt, pairSize, silentAt, spareSize, ticksAt, timesSize, windowSize, windowedSize}
+use Rattle.model.specs.Layout.{countsSize, dataAt, dataRoom, eventAt, latestSize, mostData, packetsAt, pairSize, rssiAt, silentAt, spareSize, ticksAt, timesSize, windowSize}
 
 -- a pair's key, its window from the packets on, and all that follows the key, with zeros behind the data up to a room
 abbrev pub keyOf : Pair → List ℕ
 keyOf q = q .handle ∷ q .kind ∷ q .address
 
-abbrev pub windowIn : ℕ → ℕ → ℕ → ℕ → List ℕ → List ℕ
-windowIn room packets sum event adv =
-    octetsOf 4 packets ++ (octetsOf 8 sum ++ (event ∷ length adv ∷ (adv ++ replicate (room - length adv) 0)))
+abbrev pub windowIn : ℕ → ℕ → ℕ → ℕ → ℕ → List ℕ → List ℕ
+windowIn room packets sum kept event adv =
+    octetsOf 4 packets ++ (octetsOf 8 sum ++ (kept ∷ event ∷ length adv ∷ (adv ++ replicate (room - length adv) 0)))
 
-abbrev pub windowOf : ℕ → ℕ → ℕ → List ℕ → List ℕ
-windowOf packets sum event adv = windowIn mostData packets sum event adv
+abbrev pub windowOf : ℕ → ℕ → ℕ → ℕ → List ℕ → List ℕ
+windowOf packets sum kept event adv = windowIn mostData packets sum kept event adv
 
 abbrev pub timesIn : ℕ → Pair → List ℕ
-timesIn room q = octetsOf 2 (q .silent) ++ (q .ticks ∷ windowIn room (q .packets) (q .sum) (q .event) (q .adv))
+timesIn room q = octetsOf 2 (q .silent) ++ (q .ticks ∷ windowIn room (q .packets) (q .sum) (q .kept) (q .event) (q .adv))
 
 abbrev pub timesOf : Pair → List ℕ
 timesOf q = timesIn dataRoom q
@@ -49,7 +49,7 @@ unfolding octetsOf spare
 times-split q l =
     let e : dataRoom - length (q .adv) ≡ mostData - length (q .adv) + spareSize = omega arith in
     ap (λ (x : List ℕ). octetsOf 2 (q .silent) ++ (q .ticks ∷ (octetsOf 4 (q .packets) ++ (octetsOf 8 (q .sum)
-    ++ (q .event ∷ length (q .adv) ∷ x)))))
+    ++ (q .kept ∷ q .event ∷ length (q .adv) ∷ x)))))
     (ap (λ (k : ℕ). q .adv ++ replicate k 0) e
     ∙ ap (λ (z : List ℕ). q .adv ++ z) (sym (replicate-append-replicate (mostData - length (q .adv)) spareSize 0))
     ∙ sym (append-assoc (q .adv) (replicate (mostData - length (q .adv)) 0) (replicate spareSize 0)))
@@ -66,9 +66,9 @@ put-times q p h g k i ys e =
     ∙ ap (λ (l : List ℕ). l ++ timesOf p) k
     ∙ sym (place-split p g)
 
-pub length-window : (packets sum event : ℕ) (adv : List ℕ) → length adv ≤ mostData
-    → length (windowOf packets sum event adv) ≡ windowSize
-length-window packets sum event adv h = simp (length-append, length-octets, length-replicate) (omega arith)
+pub length-window : (packets sum kept event : ℕ) (adv : List ℕ) → length adv ≤ mostData
+    → length (windowOf packets sum kept event adv) ≡ windowSize
+length-window packets sum kept event adv h = simp (length-append, length-octets, length-replicate) (omega arith)
 
 length-times : (q : Pair) → length (q .adv) ≤ mostData → length (timesIn mostData q) ≡ timesSize
 length-times q h = simp (length-append, length-octets, length-replicate) (omega arith)
@@ -98,25 +98,63 @@ module _ (q : Pair) (h : length (q .address) ≡ 6) where
   unfolding put octetsOf withTicks
   put-ticks n = put-times q (withTicks q n) h h refl 2 (n ∷ []) refl
 
-  -- the window from the packets on: one packet more; an empty window
+  -- the kept RSSI
+  pub put-kept : (o : ℕ) → put (padTo pairSize (pairRow q)) rssiAt (o ∷ []) ≡ padTo pairSize (pairRow (withKept q o))
+  unfolding put octetsOf withKept
+  put-kept o = put-times q (withKept q o) h h refl 15 (o ∷ []) refl
+
+  -- the window from the packets on: one packet more
   pub put-gathered : (p : Packet) → length (q .adv) ≤ mostData → length (p .adv) ≤ mostData
-      → put (padTo pairSize (pairRow q)) packetsAt (windowOf (q .packets + 1) (addRssi (q .sum) (p .rssi)) (p .event) (p .adv))
+      → put (padTo pairSize (pairRow q)) packetsAt (windowOf (q .packets + 1) (addRssi (q .sum) (p .rssi)) (p .rssi) (p .event) (p .adv))
       ≡ padTo pairSize (pairRow (gathered p q))
   unfolding gathered octetsOf
   put-gathered p l k =
-      let w : List ℕ = windowOf (q .packets + 1) (addRssi (q .sum) (p .rssi)) (p .event) (p .adv) in
-      let a : length w ≡ windowSize = length-window (q .packets + 1) (addRssi (q .sum) (p .rssi)) (p .event) (p .adv) k in
+      let w : List ℕ = windowOf (q .packets + 1) (addRssi (q .sum) (p .rssi)) (p .rssi) (p .event) (p .adv) in
+      let a : length w ≡ windowSize = length-window (q .packets + 1) (addRssi (q .sum) (p .rssi)) (p .rssi) (p .event) (p .adv) k in
       put-times q (gathered p q) h h refl 3 w (put-last q (gathered p q) l k 3 w (omega arith) refl)
 
-  pub put-emptied : length (q .adv) ≤ mostData
-      → put (padTo pairSize (pairRow q)) ticksAt (replicate windowedSize 0) ≡ padTo pairSize (pairRow (emptied q))
-  unfolding emptied octetsOf
-  put-emptied l =
-      put-times q (emptied q) h h refl 2 (replicate windowedSize 0)
-      (put-last q (emptied q) l (omega arith) 2 (replicate windowedSize 0) (omega arith) refl)
+-- a pair whose window has no ticks, packets and sum, and the latest packet still
+uncounted : Pair → Pair
+uncounted q =
+    record {
+      handle = q .handle;
+      kind = q .kind;
+      address = q .address;
+      silent = q .silent;
+      ticks = 0;
+      packets = 0;
+      sum = 0;
+      kept = q .kept;
+      event = q .event;
+      adv = q .adv;
+    }
 
--- a pair at its start: its key over an empty row
+-- an empty window: what is before the kept RSSI, and what is behind it
+module _ (q : Pair) (h : length (q .address) ≡ 6) where
+  put-uncounted : put (padTo pairSize (pairRow q)) ticksAt (replicate countsSize 0) ≡ padTo pairSize (pairRow (uncounted q))
+  unfolding put octetsOf uncounted
+  put-uncounted = put-times q (uncounted q) h h refl 2 (replicate countsSize 0) refl
+
+  put-forgotten : length (q .adv) ≤ mostData
+      → put (padTo pairSize (pairRow (uncounted q))) eventAt (replicate latestSize 0) ≡ padTo pairSize (pairRow (emptied q))
+  unfolding emptied octetsOf uncounted
+  put-forgotten l =
+      put-times (uncounted q) (emptied q) h h refl 16 (replicate latestSize 0)
+      (put-last (uncounted q) (emptied q) l (omega arith) 16 (replicate latestSize 0) (omega arith) refl)
+
+  pub put-emptied : length (q .adv) ≤ mostData
+      → put (put (padTo pairSize (pairRow q)) ticksAt (replicate countsSize 0)) eventAt (replicate latestSize 0)
+      ≡ padTo pairSize (pairRow (emptied q))
+  put-emptied l = ap (λ (x : List ℕ). put x eventAt (replicate latestSize 0)) put-uncounted ∙ put-forgotten l
+
+-- a pair at its start: its key over an empty row, and its RSSI
+put-key : (n : ℕ) (p : Packet) → length (p .address) ≡ 6
+    → put (replicate pairSize 0) 0 (n ∷ p .kind ∷ p .address) ≡ padTo pairSize (pairRow (withKept (startPair n p) 0))
+unfolding put startPair withKept octetsOf
+put-key n p h = rw h (sym (place-split (withKept (startPair n p) 0) h))
+
 pub put-start : (n : ℕ) (p : Packet) → length (p .address) ≡ 6
-    → put (replicate pairSize 0) 0 (n ∷ p .kind ∷ p .address) ≡ padTo pairSize (pairRow (startPair n p))
-unfolding put startPair octetsOf
-put-start n p h = rw h (sym (place-split (startPair n p) h))
+    → put (put (replicate pairSize 0) 0 (n ∷ p .kind ∷ p .address)) rssiAt (p .rssi ∷ []) ≡ padTo pairSize (pairRow (startPair n p))
+unfolding startPair withKept
+put-start n p h =
+    ap (λ (x : List ℕ). put x rssiAt (p .rssi ∷ [])) (put-key n p h) ∙ put-kept (withKept (startPair n p) 0) h (p .rssi)

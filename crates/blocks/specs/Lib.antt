@@ -12,3 +12,4 @@ pub mod Held
 pub mod Places
 pub mod Fields
 pub mod Ends
+pub mod Full

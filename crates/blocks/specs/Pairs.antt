@@ -1,5 +1,5 @@
 -- The pair table of the block: its length, its rows, the pairs read from it, and the way back from rows to the table.
--- Document 01, The image (A2; "every unused octet and place of the state 0"). Assumes nothing.
+-- Document 01, The image (A3; "every unused octet and place of the state 0"). Assumes nothing.
 use Prim.Native.Nat.{ℕ, zero, suc, _+_, _-_, _*_, _≤_, _<_}
 use mathlib.Core.Path.{_≡_, refl, sym, ap, _∙_}
 use mathlib.Core.Bool.{true}

@@ -1,4 +1,4 @@
--- Rows written in the pair table, and tables of changed pairs: the table of other pairs. Document 01, The image (A2),
+-- Rows written in the pair table, and tables of changed pairs: the table of other pairs. Document 01, The image (A3),
 -- Watching, by history. Assumes nothing.
 use Prim.Native.Nat.{ℕ, zero, suc, _+_, _-_, _*_, _≤_, _<_}
 use mathlib.Core.Path.{_≡_, refl, sym, ap, _∙_}

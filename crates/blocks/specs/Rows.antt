@@ -1,5 +1,5 @@
 -- Rows of the image and of the block: how long they are, that they hold what was written, and that they are octets.
--- Document 01, The image (A0, A1, A2). Assumes nothing.
+-- Document 01, The image (A0, A1, A3). Assumes nothing.
 use Prim.Native.Nat.{ℕ, zero, suc, _+_, _-_, _^_, _≤_, _<_}
 use mathlib.Core.Path.{_≡_, refl, ap, _∙_}
 use mathlib.Core.Bool.{true}
@@ -16,7 +16,7 @@ use Rattle.octets.specs.Little.{octets-octets}
 use Rattle.model.specs.Types.{Model, Monitor, Pair}
 use Rattle.model.specs.Image.{headRow, monitorRow, pairRow, monitorIn, pairIn}
 use Rattle.model.specs.Block.{padTo}
-use Rattle.model.specs.Layout.{dataAt}
+use Rattle.model.specs.Layout.{dataAt, lengthAt}
 
 -- lengths
 pub length-monitorRow : (x : ℕ × Monitor) → length (monitorRow x) ≡ 7 + length (x .1 .condition)
@@ -68,18 +68,18 @@ little-in k p v t n e h =
     ∙ mod-eq-of-lt h
 
 -- two pairs with the same fields are one
-pub pair-eq : {h k : ℕ} {a : List ℕ} {s t p u e : ℕ} {d : List ℕ} (q : Pair)
+pub pair-eq : {h k : ℕ} {a : List ℕ} {s t p u r e : ℕ} {d : List ℕ} (q : Pair)
     → h ≡ q .handle → k ≡ q .kind → a ≡ q .address → s ≡ q .silent → t ≡ q .ticks → p ≡ q .packets → u ≡ q .sum
-    → e ≡ q .event → d ≡ q .adv
+    → r ≡ q .kept → e ≡ q .event → d ≡ q .adv
     → _≡_ {A = Pair}
-    (record { handle = h; kind = k; address = a; silent = s; ticks = t; packets = p; sum = u; event = e; adv = d }) q
-pair-eq q e1 e2 e3 e4 e5 e6 e7 e8 e9 = rw (e1, e2, e3, e4, e5, e6, e7, e8, e9)
+    (record { handle = h; kind = k; address = a; silent = s; ticks = t; packets = p; sum = u; kept = r; event = e; adv = d }) q
+pair-eq q e1 e2 e3 e4 e5 e6 e7 e8 e9 e10 = rw (e1, e2, e3, e4, e5, e6, e7, e8, e9, e10)
 
 -- what follows the address in a pair's row
 abbrev rest : Pair → List ℕ
 rest q =
     octetsOf 2 (q .silent) ++
-    (q .ticks ∷ (octetsOf 4 (q .packets) ++ (octetsOf 8 (q .sum) ++ (q .event ∷ length (q .adv) ∷ q .adv))))
+    (q .ticks ∷ (octetsOf 4 (q .packets) ++ (octetsOf 8 (q .sum) ++ (q .kept ∷ q .event ∷ length (q .adv) ∷ q .adv))))
 
 -- a pair's row holds the pair, whatever stands behind it
 pub pairIn-row : (q : Pair) (zs : List ℕ) → length (q .address) ≡ 6 → q .silent < 65536 → q .packets < 4294967296
@@ -90,7 +90,7 @@ pairIn-row q zs la ls lp lu =
     let x : List ℕ = rest q ++ zs in
     let l : length w ≡ 8 = omega arith in
     let s : (q .address ++ rest q) ++ zs ≡ q .address ++ x = append-assoc (q .address) (rest q) zs in
-    let n : getD (w ++ x) 24 0 ≡ length (q .adv) = getD-past w x 8 l 16 in
+    let n : getD (w ++ x) lengthAt 0 ≡ length (q .adv) = getD-past w x 8 l 17 in
     rw s (pair-eq q refl refl (take-at (q .address) x 6 la)
     (little-past 2 w x 8 l 0 ∙ little-in 2 [] (q .silent) _ 0 refl ls)
     (getD-past w x 8 l 2)
@@ -98,7 +98,8 @@ pairIn-row q zs la ls lp lu =
     (little-past 8 w x 8 l 7
     ∙ little-in 8 (octetsOf 2 (q .silent) ++ (q .ticks ∷ octetsOf 4 (q .packets))) (q .sum) _ 7 refl lu)
     (getD-past w x 8 l 15)
-    (ap (λ (k : ℕ). take k (drop 25 (w ++ x))) n ∙ ap (λ (y : List ℕ). take (length (q .adv)) y) (drop-past w x 8 l 17)
+    (getD-past w x 8 l 16)
+    (ap (λ (k : ℕ). take k (drop dataAt (w ++ x))) n ∙ ap (λ (y : List ℕ). take (length (q .adv)) y) (drop-past w x 8 l 18)
     ∙ take-append-seam (q .adv) zs))
 
 -- the head row holds A0's fields, whatever stands behind it
@@ -163,12 +164,12 @@ monitorRow-octets x a b c d e f g o =
     octets-cons (x .1 .sampling) _ e (octets-cons (x .1 .kind) _ f (octets-cons (length (x .1 .condition)) _ g o))))))
 
 pub pairRow-octets : (q : Pair) → q .handle < 256 → q .kind < 256 → every isOctet (q .address) ≡ true → q .ticks < 256
-    → q .event < 256
+    → q .kept < 256 → q .event < 256
     → length (q .adv) < 256 → every isOctet (q .adv) ≡ true → every isOctet (pairRow q) ≡ true
 unfolding pairRow
-pairRow-octets q a b c d e f o =
+pairRow-octets q a b c d k e f o =
     octets-cons (q .handle) _ a (octets-cons (q .kind) _ b (octets-append (q .address) _ c (
     octets-append (octetsOf 2 (q .silent)) _ (octets-octets 2 (q .silent)) (octets-cons (q .ticks) _ d (
     octets-append (octetsOf 4 (q .packets)) _ (octets-octets 4 (q .packets)) (
     octets-append (octetsOf 8 (q .sum)) _ (octets-octets 8 (q .sum)) (
-    octets-cons (q .event) _ e (octets-cons (length (q .adv)) _ f o))))))))
+    octets-cons (q .kept) _ k (octets-cons (q .event) _ e (octets-cons (length (q .adv)) _ f o)))))))))

@@ -39,7 +39,7 @@ const REPLAY_TO: u8 = 10;
 // Octets of an image at most, and of the longest output that is lent.
 const IMAGE: usize = State::IMAGE;
 
-const ROOM: usize = 9800;
+const ROOM: usize = State::IMAGE + 30;
 
 // The octets before those that a call gives.
 const HEAD: usize = 7;

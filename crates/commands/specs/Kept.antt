@@ -122,7 +122,7 @@ all-keep f (q ∷ qs) a = go (f q) (all-keep f qs (a .1))
 
 -- a pair of no use: what `getD` gives past the end
 abbrev noPair : Pair
-noPair = record { handle = 0; kind = 0; address = []; silent = 0; ticks = 0; packets = 0; sum = 0; event = 0; adv = [] }
+noPair = record { handle = 0; kind = 0; address = []; silent = 0; ticks = 0; packets = 0; sum = 0; kept = 0; event = 0; adv = [] }
 
 -- one row, and what is written of it
 module _ (h : ℕ) (q : Pair) (s : List ℕ) (i : ℕ) (e : take pairSize (drop (pairsAt + pairSize * i) s) ≡ padTo pairSize (pairRow q)) where

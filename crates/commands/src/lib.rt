@@ -288,7 +288,7 @@ fn execute(s: &mut [u8], params: &[u8], out: &mut [u8]) -> usize
 }
 
 // Executes the vendor command with these parameters, the first of them the sub-opcode: changes the block, writes the
-// Command Complete at the front of the output, and answers its length. Where the block is not of 4,761 octets or at the
+// Command Complete at the front of the output, and answers its length. Where the block is not of 4,825 octets or at the
 // last frame number, or the output has under 2,880 octets, nothing is done and the answer is 0. Of a block that is of no
 // sound state the contents, what is written and how much are free; the lengths stay, the answer is at most the output's
 // length, and the octets past it are as they were.

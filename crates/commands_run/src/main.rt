@@ -63,7 +63,7 @@ fn show_row(kind: u8, row: &[u8]) {
 // The first octets of the block from an index on, of which there are fixed ones and as many more as the octet at a
 // place says.
 fn part(kind: u8, s: &[u8], at: usize, fixed: usize)
-    requires { ⌜ (at ≤ 4761) × (1 ≤ fixed) × (fixed ≤ 25) ⌝ }
+    requires { ⌜ (at ≤ 4825) × (1 ≤ fixed) × (fixed ≤ 26) ⌝ }
 {
     let end = at + fixed;
     if end <= s.len() {
@@ -94,7 +94,12 @@ fn pairs(s: &[u8], count: usize) {
     let mut i = 0;
     while i < 64 {
         if i < count {
-            part(0xA2, s, State::PAIRS_AT + State::PAIR_ROW * i, 25);
+            part(
+                0xA3,
+                s,
+                State::PAIRS_AT + State::PAIR_ROW * i,
+                State::DATA_AT,
+            );
         }
         i += 1;
     }

@@ -20,6 +20,7 @@ use Rattle.rule.specs.Engine
 use Rattle.rule.specs.Project.{over, each-view, turnsFull, turns-view, startedFull}
 use Rattle.rule.specs.Shows.{Shows}
 use Rattle.model.specs.Types.{Model, Monitor, Packet, Pair, watched, device, deviceOf, withLists, withFilter, moved, ticksOf}
+use Rattle.model.specs.Level.{level}
 use Rattle.model.specs.Frames.{Body, Typed, command, packet as packetFrame, tick as tickFrame, bad, typed}
 use Rattle.model.specs.Monitors.{matches, good, strong, runOf, windowed, accepts, faultOf, monitorOf, invalid, full}
 use Rattle.model.specs.Commands.{status, addStatus, cancelStatus, commanded, changed, added, cancelled, ofOther, subOf, paramsIn, table, present}
@@ -32,7 +33,7 @@ use Rattle.model.specs.Layout.{mostMonitors, mostPairs}
 
 -- a pair as the core holds it
 unfoldable pub viewPair : Pair → CorePair radio
-viewPair q = (q .handle, watched q, q .silent)
+viewPair q = (q .handle, watched q, q .silent, level (q .kept))
 
 -- the state as the core holds it
 unfoldable pub view : Model → State radio
@@ -59,10 +60,42 @@ pub length-view : (qs : List Pair) → length (map viewPair qs) ≡ length qs
 length-view [] = refl
 length-view (q ∷ qs) = ap suc (length-view qs)
 
+-- the smallest level kept, the pairs without the first that keeps it, and whether there is room
+pub least-view : (r : ℕ) (qs : List Pair) → Engine.least radio r (map viewPair qs) ≡ Watch.least r qs
+unfolding Watch.least Watch.smaller viewPair
+least-view r [] = refl
+least-view r (q ∷ qs) =
+    ap (Engine.smaller radio (level (q .kept))) (least-view r qs)
+    ∙ sym (pick-cond (ltb (level (q .kept)) (Watch.least r qs)) (level (q .kept)) (Watch.least r qs))
+
+pub without-view : (k : ℕ) (qs : List Pair) → map viewPair (Watch.without k qs) ≡ Engine.dropFirst radio k (map viewPair qs)
+unfolding Watch.without pick viewPair
+without-view k [] = refl
+without-view k (q ∷ qs) = go (eqb (level (q .kept)) k) (without-view k qs)
+  where
+    go : (t : Bool) → map viewPair (Watch.without k qs) ≡ Engine.dropFirst radio k (map viewPair qs)
+        → map viewPair (pick t qs (q ∷ Watch.without k qs))
+        ≡ cond t (map viewPair qs) (viewPair q ∷ Engine.dropFirst radio k (map viewPair qs))
+    go true e = refl
+    go false e = ap (λ (l : List (CorePair radio)). viewPair q ∷ l) e
+
+pub fits-view : (r : ℕ) (qs : List Pair) → Engine.fits radio r (map viewPair qs) ≡ Watch.fits r qs
+unfolding Watch.fits Watch.hasRoom CAP
+fits-view r qs = rw (length-view qs, least-view r qs)
+
+pub stays-view : (r : ℕ) (qs : List Pair) → map viewPair (Watch.staysFor r qs) ≡ Engine.roomFor radio r (map viewPair qs)
+unfolding Watch.staysFor Watch.hasRoom CAP pick
+stays-view r qs = rw (length-view qs, least-view r qs) (go (ltb (length qs) mostPairs))
+  where
+    go : (t : Bool) → map viewPair (pick t qs (Watch.without (Watch.least r qs) qs))
+        ≡ cond t (map viewPair qs) (Engine.dropFirst radio (Watch.least r qs) (map viewPair qs))
+    go true = refl
+    go false = without-view (Watch.least r qs) qs
+
 -- a start is a start of the core
 pub begins-view : (m : Monitor) (p : Packet) (h : ℕ) (qs : List Pair) → begins radio m p h (map viewPair qs) ≡ Watch.begins m p h qs
-unfolding Watch.begins CAP
-begins-view m p h qs = rw (held-holds qs h (deviceOf p), length-view qs)
+unfolding Watch.begins
+begins-view m p h qs = rw (held-holds qs h (deviceOf p), fits-view (level (p .rssi)) qs)
 
 pub turn-view : (o : Option Monitor) (p : Packet) (h : ℕ) (qs : List Pair)
     → map viewPair (Watch.turn o p h qs) ≡ started radio o p h (map viewPair qs)
@@ -70,9 +103,14 @@ unfolding pick viewPair Watch.startPair watched deviceOf
 turn-view none p h qs = ap (map viewPair) (turn-none p h qs)
 turn-view (some m) p h qs = ap (map viewPair) (turn-pick m p h qs) ∙ rw (begins-view m p h qs) (go (Watch.begins m p h qs))
   where
-    go : (b : Bool) → map viewPair (pick b (qs ++ (Watch.startPair h p ∷ [])) qs)
-        ≡ cond b (map viewPair qs ++ ((h, deviceOf p, zero) ∷ [])) (map viewPair qs)
-    go true = map-append viewPair qs (Watch.startPair h p ∷ [])
+    r : ℕ
+    r = level (p .rssi)
+
+    go : (b : Bool) → map viewPair (pick b (Watch.staysFor r qs ++ (Watch.startPair h p ∷ [])) qs)
+        ≡ cond b (Engine.roomFor radio r (map viewPair qs) ++ ((h, deviceOf p, zero, r) ∷ [])) (map viewPair qs)
+    go true =
+        map-append viewPair (Watch.staysFor r qs) (Watch.startPair h p ∷ [])
+        ∙ ap (λ (l : List (CorePair radio)). l ++ ((h, deviceOf p, zero, r) ∷ [])) (stays-view r qs)
     go false = refl
 
 pub all-turns-view : (l : List (ℕ × Monitor)) (p : Packet) (n : ℕ) (qs : List Pair)
@@ -82,39 +120,25 @@ all-turns-view l p zero qs = refl
 all-turns-view l p (suc n) qs =
     turn-view (find l n) p n (Watch.turns l p n qs) ∙ ap (started radio (find l n) p n) (all-turns-view l p n qs)
 
--- a window does not show
-pub window-view : (m : Monitor) (p : Packet) (q : Pair) → viewPair (Watch.windowTakes m p q) ≡ viewPair q
-unfolding Watch.windowTakes pick viewPair Watch.gathered watched
-window-view m p q = go (windowed m)
-  where
-    go : (t : Bool) → viewPair (pick t (Watch.gathered p q) q) ≡ viewPair q
-    go true = refl
-    go false = refl
-
-pub refreshed-view : (m : Monitor) (p : Packet) (q : Pair)
-    → viewPair (Watch.refreshed m p q) ≡ cond (good m p) (q .handle, watched q, zero) (viewPair q)
-unfolding Watch.refreshed pick viewPair Watch.withSilent watched
-refreshed-view m p q = go (good m p)
-  where
-    go : (t : Bool) → viewPair (pick t (Watch.withSilent q 0) q) ≡ cond t (q .handle, watched q, zero) (viewPair q)
-    go true = refl
-    go false = refl
-
--- a held pair at a packet
+-- a held pair at a packet: a window does not show
 pub packet-view : (o : Option Monitor) (p : Packet) (q : Pair) → viewPair (Watch.atPacket o p q) ≡ Engine.atPacket radio o p (viewPair q)
-unfolding Watch.atPacket viewPair Watch.counts
+unfolding Watch.atPacket Watch.windowTakes Watch.refreshed Watch.gathered Watch.withSilent Watch.withKept
+    Watch.counts viewPair watched pick
 packet-view none p q = refl
-packet-view (some m) p q = go (sames (deviceOf p) (watched q)) (matches m p) (good m p) (refreshed-view m p q)
+packet-view (some m) p q = go (sames (deviceOf p) (watched q)) (matches m p) (good m p) (windowed m)
   where
-    go : (a b c : Bool) → viewPair (Watch.refreshed m p q) ≡ cond c (q .handle, watched q, zero) (viewPair q)
-        → viewPair (pick (a && b) (Watch.windowTakes m p (Watch.refreshed m p q)) q)
-        ≡ cond (a && (b && c)) (q .handle, watched q, zero) (viewPair q)
-    go true true c e = pick-true-view ∙ window-view m p (Watch.refreshed m p q) ∙ e
-      where
-        pick-true-view : viewPair (pick true (Watch.windowTakes m p (Watch.refreshed m p q)) q) ≡ viewPair (Watch.windowTakes m p (Watch.refreshed m p q))
-        pick-true-view = ap viewPair (Rattle.laws.specs.Tests.pick-true (Watch.windowTakes m p (Watch.refreshed m p q)) q refl)
-    go true false c e = ap viewPair (Rattle.laws.specs.Tests.pick-false (Watch.windowTakes m p (Watch.refreshed m p q)) q refl)
-    go false b c e = ap viewPair (Rattle.laws.specs.Tests.pick-false (Watch.windowTakes m p (Watch.refreshed m p q)) q refl)
+    k : Pair
+    k = Watch.withKept q (p .rssi)
+
+    go : (a b c w : Bool)
+        → viewPair (pick (a && b) (pick w (Watch.gathered p (pick c (Watch.withSilent k 0) k)) (pick c (Watch.withSilent k 0) k)) q)
+        ≡ (q .handle, watched q, cond (a && (b && c)) zero (q .silent), cond (a && b) (level (p .rssi)) (level (q .kept)))
+    go true true true true = refl
+    go true true true false = refl
+    go true true false true = refl
+    go true true false false = refl
+    go true false c w = refl
+    go false b c w = refl
 
 -- moving every element and dropping none
 pub map-each : {A B : Type 0} (v : A → B) (f : A → A) (g : B → B) (l : List A) → ((x : A) → v (f x) ≡ g (v x))
@@ -139,7 +163,7 @@ tick-view none q = refl
 tick-view (some m) q = rw (add-one (q .silent)) (go (ltb (suc (q .silent)) (runOf m)))
   where
     go : (t : Bool) → over viewPair (pick t (some (Watch.windowTick m (Watch.withSilent q (suc (q .silent))))) none)
-        ≡ cond t (some (q .handle, watched q, suc (q .silent))) none
+        ≡ cond t (some (q .handle, watched q, suc (q .silent), level (q .kept))) none
     go true = ap some (window-tick-view m (Watch.withSilent q (suc (q .silent))))
     go false = refl
 

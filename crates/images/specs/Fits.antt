@@ -21,6 +21,7 @@ use Rattle.model.specs.Accepted.{Accepted, accepted}
 use Rattle.model.specs.Sound.{octetsUpTo, soundSettings, soundMonitor, soundMonitors, soundWindow, soundEmpty}
 use Rattle.model.specs.Sound.{soundFields, soundOf, soundPair, apart, soundModel}
 use Rattle.images.specs.Texts.{octets}
+use Rattle.model.specs.Level.{inRange}
 use Rattle.model.specs.Layout.{mostCondition, mostData, mostMonitors, mostPairs, mostPrefix}
 
 -- A0's fields
@@ -42,7 +43,7 @@ pub record MonitorFits (x : ℕ × Monitor) : Type 0 where
   pub short : length (x .1 .condition) ≤ mostCondition
   pub condition : octets (x .1 .condition) ≡ true
 
--- A2's fields
+-- A3's fields
 pub record PairFits (q : Pair) : Type 0 where
   pub handle : q .handle < mostMonitors
   pub kind : q .kind ≤ 1
@@ -52,6 +53,7 @@ pub record PairFits (q : Pair) : Type 0 where
   pub ticks : q .ticks < 256
   pub packets : q .packets ≤ 4294967295
   pub sum : q .sum < 18446744073709551616
+  pub kept : q .kept < 256
   pub event : q .event ≤ 3
   pub short : length (q .adv) ≤ mostData
   pub adv : octets (q .adv) ≡ true
@@ -217,7 +219,10 @@ pair-fits position (some m) q b f e =
     let v = leb (q .event) 3 in
     let l = leb (length (q .adv)) mostData in
     let d = octets (q .adv) in
-    let f3 = and-left (soundFields q) s e1 in
+    let o = isOctet (q .kept) in
+    let j = inRange (q .kept) in
+    let f4 = and-left (soundFields q) s e1 in
+    let f3 = and-left (k && n && a && v && (l && d)) (o && j) f4 in
     let f2 = and-left (k && n && a && v) (l && d) f3 in
     let f1 = and-left (k && n && a) v f2 in
     let f0 = and-left (k && n) a f1 in
@@ -235,6 +240,7 @@ pair-fits position (some m) q b f e =
       ticks = z .ticks;
       packets = z .packets;
       sum = z .sum;
+      kept = ltb-true (q .kept) 256 (and-left o j (and-right (k && n && a && v && (l && d)) (o && j) f4));
       event = leb-true (q .event) 3 (and-right (k && n && a) v f2);
       short = leb-true (length (q .adv)) mostData (and-left l d y);
       adv = and-right l d y;

@@ -6,5 +6,6 @@ pub mod Exactly
 pub mod Sizes
 pub mod Engines
 pub mod Longest
+pub mod Reached
 pub mod Characters
 pub mod Edges

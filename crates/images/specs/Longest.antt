@@ -1,4 +1,4 @@
--- The longest image: a sound state whose image has 9,770 characters, so that no shorter output would do. Document 01,
+-- The longest image: a sound state whose image has 9,898 characters, so that no shorter output would do. Document 01,
 -- Sizes of the gateway. 16 monitors with conditions of 64 octets, 64 pairs with data of 31 octets, a prefix of 32.
 -- Assumes nothing.
 use Prim.Native.Nat.{ℕ, zero, suc}
@@ -42,6 +42,7 @@ longPair d =
       ticks = 0;
       packets = 1;
       sum = 18446744073709551556;
+      kept = 0xC4;
       event = 3;
       adv = replicate mostData 0x11;
     }

@@ -57,7 +57,7 @@ module _ (m : Model) where
   monitorLines = map (λ (x : ℕ × Monitor). 0xA1 ∷ monitorRow x) (m .mons)
 
   abbrev pairLines : List (List ℕ)
-  pairLines = map (λ (q : Pair). 0xA2 ∷ pairRow q) (m .pairs)
+  pairLines = map (λ (q : Pair). 0xA3 ∷ pairRow q) (m .pairs)
 
   abbrev endLines : List (List ℕ)
   endLines = (0xAF ∷ endRow m) ∷ []
@@ -68,16 +68,16 @@ module _ (m : Model) where
       rows-other 0xA1 0xA0 (headRow m) (monitorLines ++ (pairLines ++ endLines)) refl
       ∙ rows-append 0xA1 monitorLines (pairLines ++ endLines)
       ∙ rw (rows-own monitorRow 0xA1 (m .mons) refl, rows-append 0xA1 pairLines endLines)
-      (rw (rows-none pairRow 0xA1 0xA2 (m .pairs) refl, rows-other 0xA1 0xAF (endRow m) [] refl)
+      (rw (rows-none pairRow 0xA1 0xA3 (m .pairs) refl, rows-other 0xA1 0xAF (endRow m) [] refl)
       (append-nil (map monitorRow (m .mons))))
 
-  rows-pairs : rowsNamed 0xA2 (records m) ≡ map pairRow (m .pairs)
+  rows-pairs : rowsNamed 0xA3 (records m) ≡ map pairRow (m .pairs)
   unfolding records rowsNamed keep
   rows-pairs =
-      rows-other 0xA2 0xA0 (headRow m) (monitorLines ++ (pairLines ++ endLines)) refl
-      ∙ rows-append 0xA2 monitorLines (pairLines ++ endLines)
-      ∙ rw (rows-none monitorRow 0xA2 0xA1 (m .mons) refl, rows-append 0xA2 pairLines endLines)
-      (rw (rows-own pairRow 0xA2 (m .pairs) refl, rows-other 0xA2 0xAF (endRow m) [] refl)
+      rows-other 0xA3 0xA0 (headRow m) (monitorLines ++ (pairLines ++ endLines)) refl
+      ∙ rows-append 0xA3 monitorLines (pairLines ++ endLines)
+      ∙ rw (rows-none monitorRow 0xA3 0xA1 (m .mons) refl, rows-append 0xA3 pairLines endLines)
+      (rw (rows-own pairRow 0xA3 (m .pairs) refl, rows-other 0xA3 0xAF (endRow m) [] refl)
       (append-nil (map pairRow (m .pairs))))
 
   first-head : firstOf (records m) ≡ headRow m
@@ -130,7 +130,7 @@ monitor-octets x f =
 
 pair-octets : (q : Pair) → PairFits q → octets (pairRow q) ≡ true
 pair-octets q f =
-    pairRow-octets q (omega (arith, f .handle)) (omega (arith, f .kind)) (f .address) (f .ticks)
+    pairRow-octets q (omega (arith, f .handle)) (omega (arith, f .kind)) (f .address) (f .ticks) (f .kept)
     (omega (arith, f .event)) (omega (arith, f .short)) (f .adv)
 
 pub records-octets : (m : Model) → Fits m → every octets (records m) ≡ true
@@ -146,7 +146,7 @@ records-octets m f =
     (every-append octets (monitorLines m) (pairLines m ++ endLines m)
     ∙ and-both (octets-rows monitorRow 0xA1 MonitorFits (m .mons) (omega arith) monitor-octets (f .mons))
     (every-append octets (pairLines m) (endLines m)
-    ∙ and-both (octets-rows pairRow 0xA2 PairFits (m .pairs) (omega arith) pair-octets (f .pairs)) e))
+    ∙ and-both (octets-rows pairRow 0xA3 PairFits (m .pairs) (omega arith) pair-octets (f .pairs)) e))
 
 -- the text of a state holds the state
 pub held-image : (m : Model) → soundModel m ≡ true → heldIn (imageText m) ≡ m

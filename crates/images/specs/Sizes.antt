@@ -1,5 +1,5 @@
--- How long an image is: the sum of its lines, at most 9,770 characters. Document 01, Sizes of the gateway
--- ("image 9,770") and The image. Assumes nothing.
+-- How long an image is: the sum of its lines, at most 9,898 characters. Document 01, Sizes of the gateway
+-- ("image 9,898") and The image. Assumes nothing.
 use Prim.Native.Nat.{ℕ, suc, _+_, _*_, _≤_}
 use mathlib.Core.Path.{_≡_, refl, _∙_}
 use mathlib.Core.Bool.{true}
@@ -16,7 +16,7 @@ use Rattle.model.specs.Sound.{soundModel}
 use Rattle.model.specs.Image.{headRow, monitorRow, pairRow, endRow, records, imageText}
 use Rattle.blocks.specs.Rows.{length-headRow, length-monitorRow, length-pairRow}
 use Rattle.images.specs.Fits.{MonitorFits, PairFits, All, Fits, sound-fits}
-use Rattle.model.specs.Layout.{monitorLine, pairLine}
+use Rattle.model.specs.Layout.{dataAt, monitorLine, pairLine}
 
 -- the sum of a number for each element
 unfoldable pub total : {A : Type 0} → (A → ℕ) → List A → ℕ
@@ -35,9 +35,9 @@ headLength m = lineLength (9 + length (m .prefix))
 unfoldable pub monitorLength : ℕ × Monitor → ℕ
 monitorLength x = lineLength (8 + length (x .1 .condition))
 
--- A2: its name and 25 octets, then the data
+-- A3: its name and the fields before the data, then the data
 unfoldable pub pairLength : Pair → ℕ
-pairLength q = lineLength (26 + length (q .adv))
+pairLength q = lineLength (1 + (dataAt + length (q .adv)))
 
 -- AF: its name and 2 octets
 unfoldable pub endLength : ℕ
@@ -71,9 +71,9 @@ length-monitor : (x : ℕ × Monitor) → MonitorFits x → length (textOf (0xA1
 unfolding monitorLength lineLength
 length-monitor x f = length-text (0xA1 ∷ monitorRow x) ∙ omega (arith, length-monitorRow x)
 
-length-pair : (q : Pair) → PairFits q → length (textOf (0xA2 ∷ pairRow q)) ≡ pairLength q
+length-pair : (q : Pair) → PairFits q → length (textOf (0xA3 ∷ pairRow q)) ≡ pairLength q
 unfolding pairLength lineLength
-length-pair q f = length-text (0xA2 ∷ pairRow q) ∙ omega (arith, length-pairRow q (f .six))
+length-pair q f = length-text (0xA3 ∷ pairRow q) ∙ omega (arith, length-pairRow q (f .six))
 
 length-end : (m : Model) → length (textOf (0xAF ∷ endRow m)) ≡ endLength
 unfolding endLength lineLength endRow
@@ -85,17 +85,17 @@ unfolding imageText records imageLength each
 image-length m e =
     let f : Fits m = sound-fits m e in
     let r : List (List ℕ) = map (λ (x : ℕ × Monitor). 0xA1 ∷ monitorRow x) (m .mons) in
-    let p : List (List ℕ) = map (λ (q : Pair). 0xA2 ∷ pairRow q) (m .pairs) in
+    let p : List (List ℕ) = map (λ (q : Pair). 0xA3 ∷ pairRow q) (m .pairs) in
     let z : List (List ℕ) = (0xAF ∷ endRow m) ∷ [] in
     let a : length (each textOf r) ≡ total monitorLength (m .mons) =
     length-lines (λ (x : ℕ × Monitor). 0xA1 ∷ monitorRow x) monitorLength MonitorFits (m .mons) length-monitor
     (f .mons) in
     let b : length (each textOf p) ≡ total pairLength (m .pairs) =
-    length-lines (λ (q : Pair). 0xA2 ∷ pairRow q) pairLength PairFits (m .pairs) length-pair (f .pairs) in
+    length-lines (λ (q : Pair). 0xA3 ∷ pairRow q) pairLength PairFits (m .pairs) length-pair (f .pairs) in
     rw (each-append textOf r (p ++ z), each-append textOf p z)
     (simp length-append (omega (arith, length-head m, length-end m)))
 
--- "image 9,770": the image of a sound state is at most that long.
+-- "image 9,898": the image of a sound state is at most that long.
 pub image-most : (m : Model) → soundModel m ≡ true → length (imageText m) ≤ saveRoom
 unfolding imageLength headLength monitorLength pairLength endLength lineLength
 image-most m e =

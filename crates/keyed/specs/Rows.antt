@@ -1,7 +1,7 @@
 -- Document 02, T-03: a monitor of a key, watched by the whole model, as rows that the checker computes, and the same of the engine over
 -- blocks, which the calls' contracts cite. Keys and addresses are those of resolve (Examples). Assumes nothing.
 use Prim.Native.Nat.{ℕ}
-use mathlib.Core.Path.{_≡_, refl, _∙_}
+use mathlib.Core.Path.{_≡_, refl, ap, _∙_}
 use mathlib.Core.Bool.{Bool, true, false, false≢true}
 use mathlib.Core.List.{List, [], _∷_, _++_}
 use lib.ListN.{replicate}
@@ -35,7 +35,7 @@ t03image = session
     (cmd 1 (addKey key) ∷ from 2 1 address 0xC4 ∷ [])
     (wrote added0 ∷ wrote (startOf address ++ reportOf address 0xC4) ∷ [])
     ((0xA0 ∷ 2 ∷ 0 ∷ 0 ∷ 0 ∷ 0 ∷ 0x1E ∷ 0xFC ∷ 2 ∷ 0x4D ∷ 0x53 ∷ []) ∷ (0xA1 ∷ 0 ∷ 0xC4 ∷ 0xB0 ∷ 3 ∷ 0 ∷ 3 ∷ 16 ∷ key)
-    ∷ (0xA2 ∷ 0 ∷ 1 ∷ (address ++ replicate 17 0)) ∷ (0xAF ∷ 1 ∷ 1 ∷ []) ∷ [])
+    ∷ (0xA3 ∷ 0 ∷ 1 ∷ (address ++ (replicate 15 0 ++ (0xC4 ∷ 0 ∷ 0 ∷ [])))) ∷ (0xAF ∷ 1 ∷ 1 ∷ []) ∷ [])
 
 -- the next address of the same device starts another pair
 unfoldable pub t03watch : Row
@@ -79,11 +79,11 @@ watching =
       opcode = 0xFC1E;
       prefix = 0x4D ∷ 0x53 ∷ [];
       mons = (0, record { high = 0xC4; low = 0xB0; interval = 3; sampling = 0; kind = 3; condition = key }) ∷ [];
-      pairs = record { handle = 0; kind = 1; address = address; silent = 0; ticks = 0; packets = 0; sum = 0; event = 0; adv = [] } ∷ [];
+      pairs = record { handle = 0; kind = 1; address = address; silent = 0; ticks = 0; packets = 0; sum = 0; kept = 0xC4; event = 0; adv = [] } ∷ [];
     }
 
 -- come out as they say; the checker runs the cipher at most a few times in one claim
-image-holds : right models fresh t03image ≡ true
+image-answers : answered models fresh (fresh (t03image .opcode) (t03image .prefix)) (t03image .frames) (t03image .replies) ≡ true
 unfolding t03image addKey from startOf reportOf
     Rattle.model.specs.Rows.replyOf Rattle.model.specs.Rows.same Rattle.model.specs.Rows.imaged Rattle.model.specs.Rows.answered Rattle.model.specs.Rows.reached Rattle.model.specs.Rows.right Rattle.model.specs.Rows.cmd Rattle.model.specs.Rows.pkt Rattle.model.specs.Rows.adv Rattle.model.specs.Rows.tck Rattle.model.specs.Rows.tcks Rattle.model.specs.Rows.quiet Rattle.model.specs.Rows.addWatch Rattle.model.specs.Rows.added0 Rattle.model.specs.Rows.start0 Rattle.model.specs.Rows.stop0 Rattle.model.specs.Rows.report60 Rattle.model.specs.Rows.session Rattle.model.specs.Rows.on Rattle.model.specs.Rows.onAnswer Rattle.model.specs.Rows.addSampled Rattle.model.specs.Rows.invalid03 Rattle.model.specs.Rows.added1 Rattle.model.specs.Rows.added2
     Rattle.model.specs.Types.ticksOf Rattle.model.specs.Types.device Rattle.model.specs.Types.deviceOf Rattle.model.specs.Types.watched Rattle.model.specs.Types.withLists Rattle.model.specs.Types.withFilter Rattle.model.specs.Types.moved Rattle.model.specs.Types.fresh Rattle.model.specs.Types.blank Rattle.model.specs.Types.scanText
@@ -91,7 +91,7 @@ unfolding t03image addKey from startOf reportOf
     Rattle.model.specs.Frames.frameOf Rattle.model.specs.Frames.rawOf Rattle.model.specs.Frames.readRaw Rattle.model.specs.Frames.read Rattle.model.specs.Frames.write Rattle.model.specs.Frames.isCommand Rattle.model.specs.Frames.isPacket Rattle.model.specs.Frames.isScanned Rattle.model.specs.Frames.scanOf Rattle.model.specs.Frames.packetOf Rattle.model.specs.Frames.isTick Rattle.model.specs.Frames.typed
     Rattle.model.specs.Monitors.ordered Rattle.model.specs.Monitors.settingsGood Rattle.model.specs.Monitors.conditionFault Rattle.model.specs.Monitors.faultOf Rattle.model.specs.Monitors.accepts Rattle.model.specs.Monitors.monitorOf Rattle.model.specs.Monitors.matches Rattle.model.specs.Monitors.good Rattle.model.specs.Monitors.strong Rattle.model.specs.Monitors.runOf Rattle.model.specs.Monitors.windowed
     Rattle.model.specs.Commands.table Rattle.model.specs.Commands.paramsIn Rattle.model.specs.Commands.answerIn Rattle.model.specs.Commands.present Rattle.model.specs.Commands.subOf Rattle.model.specs.Commands.readStatus Rattle.model.specs.Commands.addStatus Rattle.model.specs.Commands.cancelStatus Rattle.model.specs.Commands.enableStatus Rattle.model.specs.Commands.status Rattle.model.specs.Commands.handleOr Rattle.model.specs.Commands.newHandle Rattle.model.specs.Commands.features Rattle.model.specs.Commands.success Rattle.model.specs.Commands.failure Rattle.model.specs.Commands.returned Rattle.model.specs.Commands.ofOther Rattle.model.specs.Commands.cancelled Rattle.model.specs.Commands.added Rattle.model.specs.Commands.changed Rattle.model.specs.Commands.commanded
-    Rattle.model.specs.Watch.withSilent Rattle.model.specs.Watch.gathered Rattle.model.specs.Watch.withTicks Rattle.model.specs.Watch.emptied Rattle.model.specs.Watch.counts Rattle.model.specs.Watch.refreshed Rattle.model.specs.Watch.windowTakes Rattle.model.specs.Watch.atPacket Rattle.model.specs.Watch.packetMove Rattle.model.specs.Watch.isPair Rattle.model.specs.Watch.holds Rattle.model.specs.Watch.begins Rattle.model.specs.Watch.startPair Rattle.model.specs.Watch.startOf Rattle.model.specs.Watch.startsBelow Rattle.model.specs.Watch.turn Rattle.model.specs.Watch.turns Rattle.model.specs.Watch.packetPairs Rattle.model.specs.Watch.startsOf Rattle.model.specs.Watch.wants Rattle.model.specs.Watch.reported Rattle.model.specs.Watch.packetAnswer Rattle.model.specs.Watch.goesOn Rattle.model.specs.Watch.closes Rattle.model.specs.Watch.windowTick Rattle.model.specs.Watch.atTick Rattle.model.specs.Watch.tickPairs Rattle.model.specs.Watch.windowSays Rattle.model.specs.Watch.tickOctets Rattle.model.specs.Watch.tickAnswer
+    Rattle.model.specs.Watch.withSilent Rattle.model.specs.Watch.gathered Rattle.model.specs.Watch.withTicks Rattle.model.specs.Watch.emptied Rattle.model.specs.Watch.counts Rattle.model.specs.Watch.refreshed Rattle.model.specs.Watch.windowTakes Rattle.model.specs.Watch.atPacket Rattle.model.specs.Watch.packetMove Rattle.model.specs.Watch.isPair Rattle.model.specs.Watch.holds Rattle.model.specs.Watch.begins Rattle.model.specs.Watch.withKept Rattle.model.specs.Watch.smaller Rattle.model.specs.Watch.least Rattle.model.specs.Watch.firstKeeping Rattle.model.specs.Watch.without Rattle.model.specs.Watch.hasRoom Rattle.model.specs.Watch.fits Rattle.model.specs.Watch.goesFor Rattle.model.specs.Watch.staysFor Rattle.model.specs.Watch.stopOf Rattle.model.specs.Watch.turnAnswer Rattle.model.specs.Watch.turnsAnswer Rattle.model.specs.Watch.startPair Rattle.model.specs.Watch.startOf Rattle.model.specs.Watch.startsBelow Rattle.model.specs.Watch.turn Rattle.model.specs.Watch.turns Rattle.model.specs.Watch.packetPairs Rattle.model.specs.Watch.startsOf Rattle.model.specs.Watch.wants Rattle.model.specs.Watch.reported Rattle.model.specs.Watch.packetAnswer Rattle.model.specs.Watch.goesOn Rattle.model.specs.Watch.closes Rattle.model.specs.Watch.windowTick Rattle.model.specs.Watch.atTick Rattle.model.specs.Watch.tickPairs Rattle.model.specs.Watch.windowSays Rattle.model.specs.Watch.tickOctets Rattle.model.specs.Watch.tickAnswer
     Rattle.model.specs.Events.complete Rattle.model.specs.Events.event Rattle.model.specs.Events.startEvent Rattle.model.specs.Events.stopEvent Rattle.model.specs.Events.report Rattle.model.specs.Events.packetReport Rattle.model.specs.Events.windowReport Rattle.model.specs.Events.scanReport Rattle.model.specs.Events.packetReports
     Rattle.model.specs.Step.stepTyped Rattle.model.specs.Step.answerTyped Rattle.model.specs.Step.refusalTyped Rattle.model.specs.Step.actTyped Rattle.model.specs.Step.act
     Rattle.model.specs.Sound.octetsUpTo Rattle.model.specs.Sound.soundSettings Rattle.model.specs.Sound.soundMonitor Rattle.model.specs.Sound.soundMonitors Rattle.model.specs.Sound.soundWindow Rattle.model.specs.Sound.soundEmpty Rattle.model.specs.Sound.soundFields Rattle.model.specs.Sound.soundOf Rattle.model.specs.Sound.soundPair Rattle.model.specs.Sound.apart Rattle.model.specs.Sound.soundModel
@@ -115,7 +115,7 @@ unfolding t03image addKey from startOf reportOf
     Rattle.sessions.specs.Session.refuseIf Rattle.sessions.specs.Session.stateAfter Rattle.sessions.specs.Session.judge Rattle.sessions.specs.Session.answer
     Rattle.sessions.specs.Machine.lastNumber
     Rattle.sessions.specs.Saved.cutFrom Rattle.sessions.specs.Saved.cut Rattle.sessions.specs.Saved.withAnswer Rattle.sessions.specs.Saved.resume Rattle.sessions.specs.Saved.replayLines Rattle.sessions.specs.Saved.replay
-image-holds = refl
+image-answers = refl
 
 parts-hold : (reached models fresh (fresh (t03image .opcode) (t03image .prefix)) (t03image .frames) ≡ watching)
     × (answered models fresh watching (from 3 1 addressLater 0xC4 ∷ []) (wrote (startOf addressLater ++ reportOf addressLater 0xC4) ∷ []) ≡ true)
@@ -126,7 +126,7 @@ unfolding t03image watching addKey from startOf reportOf
     Rattle.model.specs.Frames.frameOf Rattle.model.specs.Frames.rawOf Rattle.model.specs.Frames.readRaw Rattle.model.specs.Frames.read Rattle.model.specs.Frames.write Rattle.model.specs.Frames.isCommand Rattle.model.specs.Frames.isPacket Rattle.model.specs.Frames.isScanned Rattle.model.specs.Frames.scanOf Rattle.model.specs.Frames.packetOf Rattle.model.specs.Frames.isTick Rattle.model.specs.Frames.typed
     Rattle.model.specs.Monitors.ordered Rattle.model.specs.Monitors.settingsGood Rattle.model.specs.Monitors.conditionFault Rattle.model.specs.Monitors.faultOf Rattle.model.specs.Monitors.accepts Rattle.model.specs.Monitors.monitorOf Rattle.model.specs.Monitors.matches Rattle.model.specs.Monitors.good Rattle.model.specs.Monitors.strong Rattle.model.specs.Monitors.runOf Rattle.model.specs.Monitors.windowed
     Rattle.model.specs.Commands.table Rattle.model.specs.Commands.paramsIn Rattle.model.specs.Commands.answerIn Rattle.model.specs.Commands.present Rattle.model.specs.Commands.subOf Rattle.model.specs.Commands.readStatus Rattle.model.specs.Commands.addStatus Rattle.model.specs.Commands.cancelStatus Rattle.model.specs.Commands.enableStatus Rattle.model.specs.Commands.status Rattle.model.specs.Commands.handleOr Rattle.model.specs.Commands.newHandle Rattle.model.specs.Commands.features Rattle.model.specs.Commands.success Rattle.model.specs.Commands.failure Rattle.model.specs.Commands.returned Rattle.model.specs.Commands.ofOther Rattle.model.specs.Commands.cancelled Rattle.model.specs.Commands.added Rattle.model.specs.Commands.changed Rattle.model.specs.Commands.commanded
-    Rattle.model.specs.Watch.withSilent Rattle.model.specs.Watch.gathered Rattle.model.specs.Watch.withTicks Rattle.model.specs.Watch.emptied Rattle.model.specs.Watch.counts Rattle.model.specs.Watch.refreshed Rattle.model.specs.Watch.windowTakes Rattle.model.specs.Watch.atPacket Rattle.model.specs.Watch.packetMove Rattle.model.specs.Watch.isPair Rattle.model.specs.Watch.holds Rattle.model.specs.Watch.begins Rattle.model.specs.Watch.startPair Rattle.model.specs.Watch.startOf Rattle.model.specs.Watch.startsBelow Rattle.model.specs.Watch.turn Rattle.model.specs.Watch.turns Rattle.model.specs.Watch.packetPairs Rattle.model.specs.Watch.startsOf Rattle.model.specs.Watch.wants Rattle.model.specs.Watch.reported Rattle.model.specs.Watch.packetAnswer Rattle.model.specs.Watch.goesOn Rattle.model.specs.Watch.closes Rattle.model.specs.Watch.windowTick Rattle.model.specs.Watch.atTick Rattle.model.specs.Watch.tickPairs Rattle.model.specs.Watch.windowSays Rattle.model.specs.Watch.tickOctets Rattle.model.specs.Watch.tickAnswer
+    Rattle.model.specs.Watch.withSilent Rattle.model.specs.Watch.gathered Rattle.model.specs.Watch.withTicks Rattle.model.specs.Watch.emptied Rattle.model.specs.Watch.counts Rattle.model.specs.Watch.refreshed Rattle.model.specs.Watch.windowTakes Rattle.model.specs.Watch.atPacket Rattle.model.specs.Watch.packetMove Rattle.model.specs.Watch.isPair Rattle.model.specs.Watch.holds Rattle.model.specs.Watch.begins Rattle.model.specs.Watch.withKept Rattle.model.specs.Watch.smaller Rattle.model.specs.Watch.least Rattle.model.specs.Watch.firstKeeping Rattle.model.specs.Watch.without Rattle.model.specs.Watch.hasRoom Rattle.model.specs.Watch.fits Rattle.model.specs.Watch.goesFor Rattle.model.specs.Watch.staysFor Rattle.model.specs.Watch.stopOf Rattle.model.specs.Watch.turnAnswer Rattle.model.specs.Watch.turnsAnswer Rattle.model.specs.Watch.startPair Rattle.model.specs.Watch.startOf Rattle.model.specs.Watch.startsBelow Rattle.model.specs.Watch.turn Rattle.model.specs.Watch.turns Rattle.model.specs.Watch.packetPairs Rattle.model.specs.Watch.startsOf Rattle.model.specs.Watch.wants Rattle.model.specs.Watch.reported Rattle.model.specs.Watch.packetAnswer Rattle.model.specs.Watch.goesOn Rattle.model.specs.Watch.closes Rattle.model.specs.Watch.windowTick Rattle.model.specs.Watch.atTick Rattle.model.specs.Watch.tickPairs Rattle.model.specs.Watch.windowSays Rattle.model.specs.Watch.tickOctets Rattle.model.specs.Watch.tickAnswer
     Rattle.model.specs.Events.complete Rattle.model.specs.Events.event Rattle.model.specs.Events.startEvent Rattle.model.specs.Events.stopEvent Rattle.model.specs.Events.report Rattle.model.specs.Events.packetReport Rattle.model.specs.Events.windowReport Rattle.model.specs.Events.scanReport Rattle.model.specs.Events.packetReports
     Rattle.model.specs.Step.stepTyped Rattle.model.specs.Step.answerTyped Rattle.model.specs.Step.refusalTyped Rattle.model.specs.Step.actTyped Rattle.model.specs.Step.act
     Rattle.model.specs.Sound.octetsUpTo Rattle.model.specs.Sound.soundSettings Rattle.model.specs.Sound.soundMonitor Rattle.model.specs.Sound.soundMonitors Rattle.model.specs.Sound.soundWindow Rattle.model.specs.Sound.soundEmpty Rattle.model.specs.Sound.soundFields Rattle.model.specs.Sound.soundOf Rattle.model.specs.Sound.soundPair Rattle.model.specs.Sound.apart Rattle.model.specs.Sound.soundModel
@@ -160,7 +160,7 @@ unfolding t03not addKey from
     Rattle.model.specs.Frames.frameOf Rattle.model.specs.Frames.rawOf Rattle.model.specs.Frames.readRaw Rattle.model.specs.Frames.read Rattle.model.specs.Frames.write Rattle.model.specs.Frames.isCommand Rattle.model.specs.Frames.isPacket Rattle.model.specs.Frames.isScanned Rattle.model.specs.Frames.scanOf Rattle.model.specs.Frames.packetOf Rattle.model.specs.Frames.isTick Rattle.model.specs.Frames.typed
     Rattle.model.specs.Monitors.ordered Rattle.model.specs.Monitors.settingsGood Rattle.model.specs.Monitors.conditionFault Rattle.model.specs.Monitors.faultOf Rattle.model.specs.Monitors.accepts Rattle.model.specs.Monitors.monitorOf Rattle.model.specs.Monitors.matches Rattle.model.specs.Monitors.good Rattle.model.specs.Monitors.strong Rattle.model.specs.Monitors.runOf Rattle.model.specs.Monitors.windowed
     Rattle.model.specs.Commands.table Rattle.model.specs.Commands.paramsIn Rattle.model.specs.Commands.answerIn Rattle.model.specs.Commands.present Rattle.model.specs.Commands.subOf Rattle.model.specs.Commands.readStatus Rattle.model.specs.Commands.addStatus Rattle.model.specs.Commands.cancelStatus Rattle.model.specs.Commands.enableStatus Rattle.model.specs.Commands.status Rattle.model.specs.Commands.handleOr Rattle.model.specs.Commands.newHandle Rattle.model.specs.Commands.features Rattle.model.specs.Commands.success Rattle.model.specs.Commands.failure Rattle.model.specs.Commands.returned Rattle.model.specs.Commands.ofOther Rattle.model.specs.Commands.cancelled Rattle.model.specs.Commands.added Rattle.model.specs.Commands.changed Rattle.model.specs.Commands.commanded
-    Rattle.model.specs.Watch.withSilent Rattle.model.specs.Watch.gathered Rattle.model.specs.Watch.withTicks Rattle.model.specs.Watch.emptied Rattle.model.specs.Watch.counts Rattle.model.specs.Watch.refreshed Rattle.model.specs.Watch.windowTakes Rattle.model.specs.Watch.atPacket Rattle.model.specs.Watch.packetMove Rattle.model.specs.Watch.isPair Rattle.model.specs.Watch.holds Rattle.model.specs.Watch.begins Rattle.model.specs.Watch.startPair Rattle.model.specs.Watch.startOf Rattle.model.specs.Watch.startsBelow Rattle.model.specs.Watch.turn Rattle.model.specs.Watch.turns Rattle.model.specs.Watch.packetPairs Rattle.model.specs.Watch.startsOf Rattle.model.specs.Watch.wants Rattle.model.specs.Watch.reported Rattle.model.specs.Watch.packetAnswer Rattle.model.specs.Watch.goesOn Rattle.model.specs.Watch.closes Rattle.model.specs.Watch.windowTick Rattle.model.specs.Watch.atTick Rattle.model.specs.Watch.tickPairs Rattle.model.specs.Watch.windowSays Rattle.model.specs.Watch.tickOctets Rattle.model.specs.Watch.tickAnswer
+    Rattle.model.specs.Watch.withSilent Rattle.model.specs.Watch.gathered Rattle.model.specs.Watch.withTicks Rattle.model.specs.Watch.emptied Rattle.model.specs.Watch.counts Rattle.model.specs.Watch.refreshed Rattle.model.specs.Watch.windowTakes Rattle.model.specs.Watch.atPacket Rattle.model.specs.Watch.packetMove Rattle.model.specs.Watch.isPair Rattle.model.specs.Watch.holds Rattle.model.specs.Watch.begins Rattle.model.specs.Watch.withKept Rattle.model.specs.Watch.smaller Rattle.model.specs.Watch.least Rattle.model.specs.Watch.firstKeeping Rattle.model.specs.Watch.without Rattle.model.specs.Watch.hasRoom Rattle.model.specs.Watch.fits Rattle.model.specs.Watch.goesFor Rattle.model.specs.Watch.staysFor Rattle.model.specs.Watch.stopOf Rattle.model.specs.Watch.turnAnswer Rattle.model.specs.Watch.turnsAnswer Rattle.model.specs.Watch.startPair Rattle.model.specs.Watch.startOf Rattle.model.specs.Watch.startsBelow Rattle.model.specs.Watch.turn Rattle.model.specs.Watch.turns Rattle.model.specs.Watch.packetPairs Rattle.model.specs.Watch.startsOf Rattle.model.specs.Watch.wants Rattle.model.specs.Watch.reported Rattle.model.specs.Watch.packetAnswer Rattle.model.specs.Watch.goesOn Rattle.model.specs.Watch.closes Rattle.model.specs.Watch.windowTick Rattle.model.specs.Watch.atTick Rattle.model.specs.Watch.tickPairs Rattle.model.specs.Watch.windowSays Rattle.model.specs.Watch.tickOctets Rattle.model.specs.Watch.tickAnswer
     Rattle.model.specs.Events.complete Rattle.model.specs.Events.event Rattle.model.specs.Events.startEvent Rattle.model.specs.Events.stopEvent Rattle.model.specs.Events.report Rattle.model.specs.Events.packetReport Rattle.model.specs.Events.windowReport Rattle.model.specs.Events.scanReport Rattle.model.specs.Events.packetReports
     Rattle.model.specs.Step.stepTyped Rattle.model.specs.Step.answerTyped Rattle.model.specs.Step.refusalTyped Rattle.model.specs.Step.actTyped Rattle.model.specs.Step.act
     Rattle.model.specs.Sound.octetsUpTo Rattle.model.specs.Sound.soundSettings Rattle.model.specs.Sound.soundMonitor Rattle.model.specs.Sound.soundMonitors Rattle.model.specs.Sound.soundWindow Rattle.model.specs.Sound.soundEmpty Rattle.model.specs.Sound.soundFields Rattle.model.specs.Sound.soundOf Rattle.model.specs.Sound.soundPair Rattle.model.specs.Sound.apart Rattle.model.specs.Sound.soundModel
@@ -185,6 +185,17 @@ unfolding t03not addKey from
     Rattle.sessions.specs.Machine.lastNumber
     Rattle.sessions.specs.Saved.cutFrom Rattle.sessions.specs.Saved.cut Rattle.sessions.specs.Saved.withAnswer Rattle.sessions.specs.Saved.resume Rattle.sessions.specs.Saved.replayLines Rattle.sessions.specs.Saved.replay
 not-holds = refl
+
+image-shown : imaged (t03image .image) (models .encode watching) ≡ true
+unfolding t03image watching session imaged key address
+    Rattle.model.specs.Image.headRow Rattle.model.specs.Image.monitorRow Rattle.model.specs.Image.pairRow Rattle.model.specs.Image.endRow Rattle.model.specs.Image.records Rattle.model.specs.Image.imageText
+    Rattle.laws.specs.Tests.pick Rattle.laws.specs.Tests.sames Rattle.laws.specs.Loops.each Rattle.octets.specs.Little.octetsOf Rattle.lines.specs.Hex.digit Rattle.lines.specs.Hex.hexOf Rattle.lines.specs.Hex.textOf
+image-shown = refl
+
+image-holds : right models fresh t03image ≡ true
+unfolding right
+image-holds =
+    and-both image-answers (ap (λ (m : Model). imaged (t03image .image) (models .encode m)) (parts-hold .0) ∙ image-shown)
 
 watch-holds : right models fresh t03watch ≡ true
 unfolding right imaged t03watch t03image session

@@ -7,7 +7,8 @@ use mathlib.Core.List.{List, [], _∷_}
 use mathlib.Core.Option.{Option, none, some}
 use native.Mathlib.Numerals.{add-one}
 use native.Mathlib.Omega.{arith}
-use lib.Dec.{eqb}
+use lib.Dec.{leb, eqb}
+use borrow.Author.Tests.{le-leb}
 use lib.ListN.{length, drop, getD, set, length-append, List·getD-append}
 use lib.Seq.{getD-at}
 use Rattle.laws.specs.Tests.{pick, pick-true, pick-false, cases-le}
@@ -26,13 +27,17 @@ use Rattle.blocks.specs.Monitors.{inUse-none, inUse-some, monitorIn-some}
 use Rattle.blocks.specs.Block.{sound-measured, row-monitors}
 use Rattle.model.specs.Layout.{monitorSize, monitorsAt, mostMonitors}
 
+-- what the octet of a packet that matches has beside its tests
+abbrev pub matched : ℕ
+matched = 16
+
 -- a test as a number
 unfoldable pub flag : Bool → ℕ
 flag true = 1
 flag false = 0
 
 -- What an octet says of the packet: the count of ticks since a good packet starts anew, the window takes the packet,
--- the packet may start a watch, and it is reported at once where the pair is under watch.
+-- the packet may start a watch, it is reported at once where the pair is under watch, and it matches, so that its RSSI is kept (T-05).
 unfoldable pub refreshes : ℕ → Bool
 refreshes a = eqb (a % 2) 1
 
@@ -45,8 +50,11 @@ opens a = eqb (a / 4 % 2) 1
 unfoldable pub tells : ℕ → Bool
 tells a = eqb (a / 8 % 2) 1
 
+unfoldable pub keeps : ℕ → Bool
+keeps a = leb matched a
+
 unfoldable pub bits : Bool → Bool → Bool → Bool → ℕ
-bits a b c d = flag a + 2 * flag b + 4 * flag c + 8 * flag d
+bits a b c d = flag a + 2 * flag b + 4 * flag c + 8 * flag d + matched
 
 -- the octet of a packet that matches: good, sampling from 0x01 to 0xFE, RSSI at least high, sampling 0
 unfoldable pub markOf : Monitor → Packet → ℕ
@@ -80,38 +88,46 @@ flag-one false = refl
 
 -- each test of an octet is the flag it was made with
 module _ (a b c d : Bool) where
-  pub bits-most : bits a b c d ≤ 15
+  pub bits-most : bits a b c d ≤ 31
   unfolding bits
   bits-most = omega (arith, flag-most a, flag-most b, flag-most c, flag-most d)
 
   bits-refreshes : refreshes (bits a b c d) ≡ a
   unfolding refreshes bits
   bits-refreshes =
-      let e : (flag a + 2 * flag b + 4 * flag c + 8 * flag d) % 2 ≡ flag a = omega (arith, flag-most a) in
+      let e : (flag a + 2 * flag b + 4 * flag c + 8 * flag d + matched) % 2 ≡ flag a = omega (arith, flag-most a) in
       ap (λ (n : ℕ). eqb n 1) e ∙ flag-one a
 
   bits-takes : takes (bits a b c d) ≡ b
   unfolding takes bits
   bits-takes =
-      let e : (flag a + 2 * flag b + 4 * flag c + 8 * flag d) / 2 % 2 ≡ flag b =
+      let e : (flag a + 2 * flag b + 4 * flag c + 8 * flag d + matched) / 2 % 2 ≡ flag b =
       omega (arith, flag-most a, flag-most b) in
       ap (λ (n : ℕ). eqb n 1) e ∙ flag-one b
 
   bits-opens : opens (bits a b c d) ≡ c
   unfolding opens bits
   bits-opens =
-      let e : (flag a + 2 * flag b + 4 * flag c + 8 * flag d) / 4 % 2 ≡ flag c =
+      let e : (flag a + 2 * flag b + 4 * flag c + 8 * flag d + matched) / 4 % 2 ≡ flag c =
       omega (arith, flag-most a, flag-most b, flag-most c) in
       ap (λ (n : ℕ). eqb n 1) e ∙ flag-one c
 
   bits-tells : tells (bits a b c d) ≡ d
   unfolding tells bits
   bits-tells =
-      let e : (flag a + 2 * flag b + 4 * flag c + 8 * flag d) / 8 % 2 ≡ flag d =
+      let e : (flag a + 2 * flag b + 4 * flag c + 8 * flag d + matched) / 8 % 2 ≡ flag d =
       omega (arith, flag-most a, flag-most b, flag-most c, flag-most d) in
       ap (λ (n : ℕ). eqb n 1) e ∙ flag-one d
 
+  bits-keeps : keeps (bits a b c d) ≡ true
+  unfolding keeps bits
+  bits-keeps = le-leb matched (flag a + 2 * flag b + 4 * flag c + 8 * flag d + matched) (omega arith)
+
 -- a test of a monitor's octet: the packet matches, and the test of the model holds
+and-true : (t : Bool) → (t && true) ≡ t
+and-true true = refl
+and-true false = refl
+
 at-match : (f : ℕ → Bool) (t b : Bool) (n : ℕ) → f 0 ≡ false → f n ≡ b → f (pick t n 0) ≡ (t && b)
 unfolding pick
 at-match f true b n z e = e
@@ -141,6 +157,12 @@ module _ (m : Monitor) (p : Packet) where
   mark-tells =
       at-match tells (matches m p) (eqb (m .sampling) 0) _ refl
       (bits-tells (good m p) (windowed m) (strong m p) (eqb (m .sampling) 0))
+
+  pub mark-keeps : keeps (markOf m p) ≡ matches m p
+  unfolding markOf keeps
+  mark-keeps =
+      at-match keeps (matches m p) true _ refl (bits-keeps (good m p) (windowed m) (strong m p) (eqb (m .sampling) 0))
+      ∙ and-true (matches m p)
 
 -- the octet of a row is that of the handle's monitor
 pub mark-place : (h : ℕ) (o : Option Monitor) (p : Packet) → ((m : Monitor) → o ≡ some m → SoundMonitor m)

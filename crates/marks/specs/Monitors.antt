@@ -18,7 +18,7 @@ use Rattle.model.specs.Frames.{packetOf, scanOf}
 use Rattle.model.specs.Monitors.{matches, good, strong, windowed}
 use Rattle.model.specs.Image.{monitorIn}
 use Rattle.model.specs.Block.{inUse}
-use Rattle.marks.specs.Marks.{flag, bits, markOf, markRow}
+use Rattle.marks.specs.Marks.{matched, flag, bits, markOf, markRow}
 use Rattle.marks.specs.Fields.{Clamped}
 use Rattle.model.specs.Layout.{conditionAt, conditionLengthAt, conditionRoom, headSize, monitorSize, monitorsAt, typeAt}
 
@@ -31,7 +31,7 @@ rowBits high low sampling rssi =
 pub bits-made : (high low sampling rssi : ℕ) {v u w a b c d : ℕ} → v ≡ level rssi → u ≡ level low → w ≡ level high
     → a ≡ flag (ltb u v) → b ≡ flag (leb 1 sampling && leb sampling 254) → c ≡ flag (leb w v)
     → d ≡ flag (eqb sampling 0)
-    → a + 2 * b + 4 * c + 8 * d ≡ rowBits high low sampling rssi
+    → a + 2 * b + 4 * c + 8 * d + matched ≡ rowBits high low sampling rssi
 unfolding rowBits bits
 bits-made high low sampling rssi e f g p q r s = rw (p, q, r, s, e, f, g)
 

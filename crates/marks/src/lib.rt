@@ -24,7 +24,10 @@ fn bit(t: bool) -> u8
     0
 }
 
-// What a packet that matches means to a monitor: good, in its window, strong enough for a start, reported at once.
+// What the octet of a packet that matches has beside the tests.
+pub const MATCHED: u8 = 0x10;
+
+// What a packet that matches means to a monitor: good, in its window, strong enough for a start, reported at once; its RSSI is kept.
 fn row_bits(high: u8, low: u8, sampling: u8, rssi: u8) -> u8
     ensures { λ r. ⌜ r ≡ rowBits high low sampling rssi ⌝ }
 {
@@ -35,7 +38,7 @@ fn row_bits(high: u8, low: u8, sampling: u8, rssi: u8) -> u8
     let windowed = bit((1 <= sampling) & (sampling <= 254));
     let strong = bit(highest <= l);
     let instant = bit(sampling == 0);
-    good + 2 * windowed + 4 * strong + 8 * instant
+    good + 2 * windowed + 4 * strong + 8 * instant + MATCHED
 }
 
 // Whether the row of handle j is in use and has the type and the condition of that of h.
@@ -259,7 +262,7 @@ fn is_framed(payload: &[u8]) -> bool
 }
 
 // The octets of the handles 0 to 15, from the block s and a packet frame's payload. Where acts is not of 16 octets, s no block of
-// 4,761 or the payload no packet frame's by its lengths, nothing is written and the answer is false.
+// 4,825 or the payload no packet frame's by its lengths, nothing is written and the answer is false.
 pub fn mark_all(acts: &mut [u8], s: &[u8], payload: &[u8]) -> bool
     ensures { λ r. ⌜ (r ≡ marksFit (now (acts .entry)) (now (s .entry)) (now (payload .entry))) × (now (acts .exit) ≡ marked r (now (acts .entry)) (now (s .entry)) (now (payload .entry))) ⌝ }
 {

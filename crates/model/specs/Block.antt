@@ -1,6 +1,6 @@
 -- The state as a block of octets: rows as the image has them before hexadecimal, unused octets and rows 0. Document 01, The image
 -- ("every unused octet and place of the state 0"). A0's fields stand at 0 (40 octets, the prefix padded), the 16 monitor rows of 71
--- octets at 40, the row of handle h at place h, the 64 pair rows of 56 octets at 1176 in start order, the number of pairs at 4760.
+-- octets at 40, the row of handle h at place h, the 64 pair rows of 57 octets at 1176 in start order, the number of pairs at 4824.
 use Prim.Native.Nat.{ℕ, zero, suc, _+_, _-_, _*_}
 use mathlib.Core.Bool.{Bool, true, false, _&&_, not}
 use mathlib.Core.List.{List, [], _∷_, _++_, map}

@@ -12,7 +12,7 @@ use Rattle.lines.specs.Hex.{textOf, octetsIn}
 use Rattle.sessions.specs.Saved.{cut}
 use Rattle.model.specs.Types.{Model, Monitor, Pair}
 use Rattle.model.specs.Sound.{soundModel}
-use Rattle.model.specs.Layout.{kindAt, addressSize, filterAt, opcodeAt, positionAt, prefixAt, prefixLengthAt, addressAt, conditionAt, conditionLengthAt, dataAt, eventAt, handleAt, highAt, intervalAt, lengthAt, lowAt, packetsAt, samplingAt, silentAt, sumAt, ticksAt, typeAt}
+use Rattle.model.specs.Layout.{kindAt, addressSize, filterAt, opcodeAt, positionAt, prefixAt, prefixLengthAt, addressAt, conditionAt, conditionLengthAt, dataAt, eventAt, handleAt, highAt, intervalAt, lengthAt, lowAt, packetsAt, rssiAt, samplingAt, silentAt, sumAt, ticksAt, typeAt}
 
 -- "A0 line: position (4), filter, opcode (2), prefix length, prefix"
 unfoldable pub headRow : Model → List ℕ
@@ -24,11 +24,12 @@ monitorRow x =
     x .0 ∷ x .1 .high ∷ x .1 .low ∷ x .1 .interval ∷ x .1 .sampling ∷ x .1 .kind ∷ length (x .1 .condition) ∷ x .1 .condition
 
 -- "A2 per pair, in start order: handle, address type, address, ticks since a good packet (2), ticks in the window (1), packets (4),
--- sum (8), event type, n, data of the latest packet in the window"
+-- sum (8), event type, n, data of the latest packet in the window"; T-05: "The A2 line becomes an A3 line, which has that octet" (the kept
+-- RSSI) "before the event type"
 unfoldable pub pairRow : Pair → List ℕ
 pairRow q =
     q .handle ∷ q .kind ∷ (q .address ++ (octetsOf 2 (q .silent) ++ (q .ticks ∷ (octetsOf 4 (q .packets) ++ (octetsOf 8 (q .sum)
-    ++ (q .event ∷ length (q .adv) ∷ q .adv))))))
+    ++ (q .kept ∷ q .event ∷ length (q .adv) ∷ q .adv))))))
 
 -- "AF: number of monitors, number of pairs"
 unfoldable pub endRow : Model → List ℕ
@@ -38,7 +39,7 @@ endRow m = length (m .mons) ∷ length (m .pairs) ∷ []
 unfoldable pub records : Model → List (List ℕ)
 records m =
     (0xA0 ∷ headRow m) ∷ (map (λ (x : ℕ × Monitor). 0xA1 ∷ monitorRow x) (m .mons)
-    ++ (map (λ (q : Pair). 0xA2 ∷ pairRow q) (m .pairs) ++ ((0xAF ∷ endRow m) ∷ [])))
+    ++ (map (λ (q : Pair). 0xA3 ∷ pairRow q) (m .pairs) ++ ((0xAF ∷ endRow m) ∷ [])))
 
 -- the image's text
 unfoldable pub imageText : Model → List ℕ
@@ -61,6 +62,7 @@ pairIn r =
       ticks = getD r ticksAt 0;
       packets = little 4 r packetsAt;
       sum = little 8 r sumAt;
+      kept = getD r rssiAt 0;
       event = getD r eventAt 0;
       adv = take (getD r lengthAt 0) (drop dataAt r);
     }
@@ -86,7 +88,7 @@ modelIn rs =
       opcode = little 2 (firstOf rs) opcodeAt;
       prefix = take (getD (firstOf rs) prefixLengthAt 0) (drop prefixAt (firstOf rs));
       mons = map monitorIn (rowsNamed 0xA1 rs);
-      pairs = map pairIn (rowsNamed 0xA2 rs);
+      pairs = map pairIn (rowsNamed 0xA3 rs);
     }
 
 unfoldable pub heldIn : List ℕ → Model

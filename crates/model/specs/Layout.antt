@@ -71,8 +71,8 @@ conditionAt = conditionLengthAt + 1
 abbrev pub monitorSize : ℕ
 monitorSize = conditionAt + mostCondition
 
--- A pair's row, A2's fields: handle, address type, address, ticks since a good packet (2), ticks in the window, packets (4),
--- sum (8), event type, n, data.
+-- A pair's row, A3's fields: handle, address type, address, ticks since a good packet (2), ticks in the window, packets (4),
+-- sum (8), kept RSSI (document 02, T-05), event type, n, data.
 abbrev pub kindAt : ℕ
 kindAt = handleAt + 1
 
@@ -91,8 +91,11 @@ packetsAt = ticksAt + 1
 abbrev pub sumAt : ℕ
 sumAt = packetsAt + 4
 
+abbrev pub rssiAt : ℕ
+rssiAt = sumAt + 8
+
 abbrev pub eventAt : ℕ
-eventAt = sumAt + 8
+eventAt = rssiAt + 1
 
 abbrev pub lengthAt : ℕ
 lengthAt = eventAt + 1
@@ -129,12 +132,16 @@ intervalsAt = monitorsAt + intervalAt
 abbrev pub periodsAt : ℕ
 periodsAt = monitorsAt + samplingAt
 
--- in a pair's row: from the ticks since a good packet, from the ticks in the window, and from the packets on, up to the data's end
+-- in a pair's row: from the ticks since a good packet, and from the packets on, up to the data's end; what an empty window has 0, before
+-- the kept RSSI and behind it
 abbrev pub timesSize : ℕ
 timesSize = dataAt + mostData - silentAt
 
-abbrev pub windowedSize : ℕ
-windowedSize = dataAt + mostData - ticksAt
+abbrev pub countsSize : ℕ
+countsSize = rssiAt - ticksAt
+
+abbrev pub latestSize : ℕ
+latestSize = dataAt + mostData - eventAt
 
 abbrev pub windowSize : ℕ
 windowSize = dataAt + mostData - packetsAt
@@ -161,7 +168,8 @@ lineRow = monitorSize + 1
 abbrev pub bodySize : ℕ
 bodySize = blockSize - headSize
 
--- the longest event, report, return parameters and Command Complete; a packet's start events, and with both reports; the parameters of 03
+-- the longest event, report, return parameters and Command Complete; what one handle's turn writes at a
+-- packet, what all do (a stop event and a start event each), and with both reports; the parameters of 03
 abbrev pub eventMost : ℕ
 eventMost = 12 + mostPrefix
 
@@ -174,11 +182,14 @@ returnMost = 11 + mostPrefix
 abbrev pub commandMost : ℕ
 commandMost = 5 + returnMost
 
-abbrev pub startsMost : ℕ
-startsMost = eventMost * mostMonitors
+abbrev pub turnMost : ℕ
+turnMost = 2 * eventMost
+
+abbrev pub turnsMost : ℕ
+turnsMost = turnMost * mostMonitors
 
 abbrev pub packetMost : ℕ
-packetMost = startsMost + 2 * reportMost
+packetMost = turnsMost + 2 * reportMost
 
 abbrev pub paramsMost : ℕ
 paramsMost = 6 + mostCondition

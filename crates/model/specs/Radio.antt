@@ -10,6 +10,7 @@ use borrow.Author.Tests.{leb-true, eqb-true}
 use Rattle.laws.specs.Tests.{pick, sames, sames-eq, sames-refl}
 use Rattle.rule.specs.Radio.{Radio, Frame, add, cancel, packet, tick, other}
 use Rattle.model.specs.Types.{Model, Monitor, Packet, Pair, deviceOf, ticksOf}
+use Rattle.model.specs.Level.{level}
 use Rattle.model.specs.Monitors.{matches, good, strong, runOf, accepts, monitorOf, faultOf}
 use Rattle.model.specs.Accepted.{accepts-run}
 use Rattle.model.specs.Commands.{subOf, paramsIn, table}
@@ -28,6 +29,7 @@ radio =
       matches = matches;
       good = good;
       strong = strong;
+      rssi = λ p. level (p .rssi);
       run = runOf;
       okay = accepts;
       okay-run = accepts-run;

@@ -1,10 +1,10 @@
 -- Both sides of the edges of the requests of document 02, as rows of the claim in Edges.
-use Prim.Native.Nat.{ℕ, _+_}
+use Prim.Native.Nat.{ℕ, zero, suc, _+_}
 use mathlib.Core.List.{List, [], _∷_, _++_}
 use lib.ListN.{length, drop, replicate}
 use Rattle.resolve.specs.Examples.{key}
 use Rattle.octets.specs.Little.{octetsOf}
-use Rattle.model.specs.Rows.{Row, wrote, refusal, session, cmd, pkt, adv, tck, tcks, quiet, added0, added1, start0, stop0, invalid03, on, onAnswer}
+use Rattle.model.specs.Rows.{Row, Reply, wrote, refusal, session, cmd, pkt, adv, tck, tcks, quiet, addWatch, added0, added1, start0, stop0, invalid03, on, onAnswer}
 
 -- T-01: a monitor for the device of the rows, 1 second, sampling 0xFF, with these thresholds; a report of that device
 unfoldable pub addEqual : ℕ → ℕ → List ℕ
@@ -112,7 +112,7 @@ t06window = session
     (wrote added0 ∷ wrote onAnswer ∷ wrote (start0 ++ (rep 0 aa 0xC4 ++ rep 4 [] 0xC4)) ∷ wrote [] ∷ wrote (rep 2 bb 0xC6) ∷ wrote [] ∷ [])
     ((0xA0 ∷ 6 ∷ 0 ∷ 0 ∷ 0 ∷ 1 ∷ 0x1E ∷ 0xFC ∷ 2 ∷ 0x4D ∷ 0x53 ∷ [])
     ∷ (0xA1 ∷ 0 ∷ 0xC4 ∷ 0xB0 ∷ 3 ∷ 1 ∷ 1 ∷ 5 ∷ 1 ∷ 3 ∷ 0xFF ∷ 0 ∷ 0xAA ∷ [])
-    ∷ (0xA2 ∷ 0 ∷ 0 ∷ 6 ∷ 5 ∷ 4 ∷ 3 ∷ 2 ∷ 1 ∷ 0 ∷ 0 ∷ 0 ∷ 1 ∷ 0 ∷ 0 ∷ 0 ∷ 0xC6 ∷ 0xFF ∷ 0xFF ∷ 0xFF ∷ 0xFF ∷ 0xFF ∷ 0xFF ∷ 0xFF ∷ 2 ∷ 3 ∷ bb)
+    ∷ (0xA3 ∷ 0 ∷ 0 ∷ 6 ∷ 5 ∷ 4 ∷ 3 ∷ 2 ∷ 1 ∷ 0 ∷ 0 ∷ 0 ∷ 1 ∷ 0 ∷ 0 ∷ 0 ∷ 0xC6 ∷ 0xFF ∷ 0xFF ∷ 0xFF ∷ 0xFF ∷ 0xFF ∷ 0xFF ∷ 0xFF ∷ 0xC6 ∷ 2 ∷ 3 ∷ bb)
     ∷ (0xAF ∷ 1 ∷ 1 ∷ []) ∷ [])
 
 -- sampling 0xFF: the start is reported, twice, and nothing after it
@@ -134,6 +134,90 @@ t03sizes = session
     ((0xA0 ∷ 5 ∷ 0 ∷ 0 ∷ 0 ∷ 0 ∷ 0x1E ∷ 0xFC ∷ 2 ∷ 0x4D ∷ 0x53 ∷ [])
     ∷ (0xA1 ∷ 0 ∷ 0xC4 ∷ 0xB0 ∷ 3 ∷ 0 ∷ 3 ∷ 16 ∷ key) ∷ (0xA1 ∷ 1 ∷ 0xC4 ∷ 0xB0 ∷ 3 ∷ 0 ∷ 3 ∷ 16 ∷ replicate 16 0) ∷ (0xAF ∷ 2 ∷ 0 ∷ []) ∷ [])
 
+-- T-05: a packet of the device d 5 4 3 2 1 with data; its report, and its start and stop events at a handle
+unfoldable pub from : ℕ → ℕ → List ℕ → ℕ → List ℕ
+from n d l rssi = 2 ∷ (octetsOf 4 n ++ (0 ∷ 0 ∷ d ∷ 5 ∷ 4 ∷ 3 ∷ 2 ∷ 1 ∷ length l ∷ (l ++ (rssi ∷ []))))
+
+unfoldable pub repOf : ℕ → List ℕ → ℕ → List ℕ
+repOf d l rssi = 0x3E ∷ (12 + length l) ∷ 0x02 ∷ 0x01 ∷ 0 ∷ 0 ∷ d ∷ 5 ∷ 4 ∷ 3 ∷ 2 ∷ 1 ∷ length l ∷ (l ++ (rssi ∷ []))
+
+unfoldable pub evt : ℕ → ℕ → ℕ → List ℕ
+evt h d state = 0xFF ∷ 0x0C ∷ 0x4D ∷ 0x53 ∷ 0x02 ∷ 0x00 ∷ d ∷ 5 ∷ 4 ∷ 3 ∷ 2 ∷ 1 ∷ h ∷ state ∷ []
+
+-- a monitor of 60 s with that high, low −127, that sampling, of one octet at the front of a section of AD type 0xFF; its answer
+unfoldable pub addFor : ℕ → ℕ → ℕ → List ℕ
+addFor high sampling o = 0x03 ∷ high ∷ 0x81 ∷ 60 ∷ sampling ∷ 1 ∷ 1 ∷ 3 ∷ 0xFF ∷ 0 ∷ o ∷ []
+
+unfoldable pub addedAt : ℕ → Reply
+addedAt h = wrote (0x0E ∷ 0x06 ∷ 0x01 ∷ 0x1E ∷ 0xFC ∷ 0x00 ∷ 0x03 ∷ h ∷ [])
+
+-- the events of one packet for the n handles from h on
+unfoldable pub evts : ℕ → ℕ → ℕ → List ℕ
+evts zero h d = []
+evts (suc n) h d = evt h d 1 ++ evts n (suc h) d
+
+-- k monitors with high −50 from handle h on, by frames from n on, and their answers
+unfoldable pub adds : ℕ → ℕ → List (List ℕ)
+adds zero n = []
+adds (suc k) n = cmd n (addFor 0xCE 0xFF 0xAA) ∷ adds k (suc n)
+
+unfoldable pub addsSaid : ℕ → ℕ → List Reply
+addsSaid zero h = []
+addsSaid (suc k) h = addedAt h ∷ addsSaid k (suc h)
+
+-- sixteen monitors: handle 0 from −127 on and handles 1 to 14 from −50 on match `aa`, handle 15 from −127 on matches `bb`, with windows of
+-- one tick; the filter on; four devices at −50 under the first fifteen, three under the last: 63 pairs
+unfoldable pub crowd : List (List ℕ)
+crowd =
+    cmd 1 (addFor 0x81 0xFF 0xAA) ∷ (adds 14 2 ++ (cmd 16 (addFor 0x81 1 0xBB) ∷ cmd 17 on ∷ from 18 1 aa 0xCE ∷ from 19 2 aa 0xCE
+    ∷ from 20 3 aa 0xCE ∷ from 21 4 aa 0xCE ∷ from 22 5 bb 0xCE ∷ from 23 6 bb 0xCE ∷ from 24 7 bb 0xCE ∷ []))
+
+unfoldable pub crowdSaid : List Reply
+crowdSaid =
+    addsSaid 16 0 ++ (wrote onAnswer ∷ wrote (evts 15 0 1 ++ repOf 1 aa 0xCE) ∷ wrote (evts 15 0 2 ++ repOf 2 aa 0xCE)
+    ∷ wrote (evts 15 0 3 ++ repOf 3 aa 0xCE) ∷ wrote (evts 15 0 4 ++ repOf 4 aa 0xCE) ∷ wrote (evt 15 5 1 ++ repOf 5 bb 0xCE)
+    ∷ wrote (evt 15 6 1 ++ repOf 6 bb 0xCE) ∷ wrote (evt 15 7 1 ++ repOf 7 bb 0xCE) ∷ [])
+
+-- 63 held: the 64th starts and none goes, at −60. 64 held: at −60 nothing, at −59 the smallest goes, of the same handle, and its window,
+-- which had a packet, is not reported; the displaced device starts again at its next packet
+unfoldable pub t05full : Row
+t05full = session
+    (crowd ++ (from 25 8 bb 0xC4 ∷ from 26 8 bb 0xC4 ∷ from 27 9 bb 0xC4 ∷ from 28 9 bb 0xC5 ∷ tck 29 ∷ from 30 8 bb 0xC6 ∷ []))
+    (crowdSaid ++ (wrote (evt 15 8 1 ++ repOf 8 bb 0xC4) ∷ wrote [] ∷ wrote [] ∷ wrote (evt 15 8 0 ++ (evt 15 9 1 ++ repOf 9 bb 0xC5)) ∷ wrote []
+    ∷ wrote (evt 15 9 0 ++ (evt 15 8 1 ++ repOf 8 bb 0xC6)) ∷ []))
+    []
+
+-- 64 held, and device 2 is heard at −70 by its fifteen monitors. At −69 for handle 15 the earliest started of those goes: of another handle
+-- and the same device, then of another device; then one packet for handles 0 and 15 displaces two, stop and start in turn, and at last
+-- nothing is below −69
+unfoldable pub t05two : Row
+t05two = session
+    (crowd ++ (from 25 8 bb 0xCE ∷ from 26 2 aa 0xBA ∷ from 27 2 bb 0xBB ∷ from 28 3 bb 0xBB ∷ from 29 10 (aa ++ bb) 0xBB ∷ from 30 11 bb 0xBA ∷ []))
+    (crowdSaid ++ (wrote (evt 15 8 1 ++ repOf 8 bb 0xCE) ∷ wrote [] ∷ wrote (evt 0 2 0 ++ (evt 15 2 1 ++ repOf 2 bb 0xBB))
+    ∷ wrote (evt 1 2 0 ++ (evt 15 3 1 ++ repOf 3 bb 0xBB))
+    ∷ wrote (evt 2 2 0 ++ (evt 0 10 1 ++ (evt 3 2 0 ++ (evt 15 10 1 ++ repOf 10 (aa ++ bb) 0xBB)))) ∷ wrote [] ∷ []))
+    []
+
+-- all pairs of the packet's device are updated first: device 1 at −40 for handle 15 and the others, whose pairs of it are at −40 then, so
+-- that the smallest, at −50, is of device 2; high has to be reached, also by a packet above the smallest
+unfoldable pub t05first : Row
+t05first = session
+    (crowd ++ (from 25 8 bb 0xCE ∷ from 26 1 (aa ++ bb) 0xD8 ∷ from 27 2 aa 0x81 ∷ from 28 12 aa 0xCD ∷ []))
+    (crowdSaid ++ (wrote (evt 15 8 1 ++ repOf 8 bb 0xCE) ∷ wrote (evt 0 2 0 ++ (evt 15 1 1 ++ repOf 1 (aa ++ bb) 0xD8)) ∷ wrote []
+    ∷ wrote (evt 1 2 0 ++ (evt 0 12 1 ++ repOf 12 aa 0xCD)) ∷ []))
+    []
+
+-- the kept RSSI is that of any matching packet, good or not, and is in the image: −60 at the start, then −90, which is not above low
+unfoldable pub t05kept : Row
+t05kept = session
+    (cmd 1 addWatch ∷ pkt 2 0xC4 ∷ pkt 3 0xA6 ∷ [])
+    (wrote added0 ∷ wrote (start0 ++ reportAt 0xC4) ∷ wrote (reportAt 0xA6) ∷ [])
+    ((0xA0 ∷ 3 ∷ 0 ∷ 0 ∷ 0 ∷ 0 ∷ 0x1E ∷ 0xFC ∷ 2 ∷ 0x4D ∷ 0x53 ∷ [])
+    ∷ (0xA1 ∷ 0 ∷ 0xC4 ∷ 0xB0 ∷ 3 ∷ 0 ∷ 4 ∷ 7 ∷ 0 ∷ 6 ∷ 5 ∷ 4 ∷ 3 ∷ 2 ∷ 1 ∷ [])
+    ∷ (0xA3 ∷ 0 ∷ 0 ∷ 6 ∷ 5 ∷ 4 ∷ 3 ∷ 2 ∷ 1 ∷ 0 ∷ 0 ∷ 0 ∷ 0 ∷ 0 ∷ 0 ∷ 0 ∷ 0 ∷ 0 ∷ 0 ∷ 0 ∷ 0 ∷ 0 ∷ 0 ∷ 0 ∷ 0xA6 ∷ 0 ∷ 0 ∷ [])
+    ∷ (0xAF ∷ 1 ∷ 1 ∷ []) ∷ [])
+
 -- all rows
 unfoldable pub requests : List Row
-requests = equalAdded ∷ equalStart ∷ equalLow ∷ equalGood ∷ t06sizes ∷ t06events ∷ t06texts ∷ t06straddle ∷ t06off ∷ t06window ∷ t06start ∷ t03sizes ∷ []
+requests = equalAdded ∷ equalStart ∷ equalLow ∷ equalGood ∷ t06sizes ∷ t06events ∷ t06texts ∷ t06straddle ∷ t06off ∷ t06window ∷ t06start ∷ t03sizes
+    ∷ t05full ∷ t05two ∷ t05first ∷ t05kept ∷ []

@@ -12,7 +12,7 @@ use Rattle.octets.specs.Little.{isOctet}
 use Rattle.rule.specs.Engine.{find}
 use Rattle.sessions.specs.Machine.{lastNumber}
 use Rattle.model.specs.Types.{Model, Monitor, Pair, watched}
-use Rattle.model.specs.Level.{levels}
+use Rattle.model.specs.Level.{levels, inRange}
 use Rattle.model.specs.Monitors.{accepts, runOf, windowed}
 use Rattle.model.specs.Watch.{isPair, holds}
 use Rattle.model.specs.Layout.{mostData, mostMonitors, mostPairs, mostPrefix}
@@ -47,10 +47,11 @@ soundWindow position m q =
 unfoldable pub soundEmpty : Pair → Bool
 soundEmpty q = leb 1 (q .packets) || (eqb (q .sum) 0 && eqb (q .event) 0 && eqb (length (q .adv)) 0)
 
--- "with valid address type and event type, n at most 31"
+-- "with valid address type and event type, n at most 31"; T-05: the kept RSSI "between −127 and 20"
 unfoldable pub soundFields : Pair → Bool
 soundFields q =
     leb (q .kind) 1 && eqb (length (q .address)) 6 && every isOctet (q .address) && leb (q .event) 3 && octetsUpTo mostData (q .adv)
+    && (isOctet (q .kept) && inRange (q .kept))
 
 -- "of live handles"; "ticks below 10 × interval"
 unfoldable pub soundOf : ℕ → Option Monitor → Pair → Bool

@@ -28,9 +28,10 @@ pub record Packet : Type 0 where
   pub scan : Option (List ℕ)
   pub rssi : ℕ
 
--- The image, A2: a pair of a monitor (its handle) and a device (address type `kind` and address) under watch. `silent` are
+-- The image, A3: a pair of a monitor (its handle) and a device (address type `kind` and address) under watch. `silent` are
 -- the ticks since a good packet; `ticks`, `packets`, `sum` (two's complement in 8 octets), `event` and `adv` are the window's:
--- ticks in it, packets in it, the sum of their RSSI, and event type and data of the latest of them.
+-- ticks in it, packets in it, the sum of their RSSI, and event type and data of the latest of them. `kept` is the RSSI octet of the
+-- latest packet that matched, the start's included (document 02, T-05).
 pub record Pair : Type 0 where
   pub handle : ℕ
   pub kind : ℕ
@@ -39,6 +40,7 @@ pub record Pair : Type 0 where
   pub ticks : ℕ
   pub packets : ℕ
   pub sum : ℕ
+  pub kept : ℕ
   pub event : ℕ
   pub adv : List ℕ
 

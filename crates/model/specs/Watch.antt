@@ -10,7 +10,7 @@ use Rattle.laws.specs.Loops.{some as someOf, each, when}
 use Rattle.rule.specs.Engine.{find}
 use Rattle.rule.specs.Base.{each as moveEach}
 use Rattle.model.specs.Types.{Model, Monitor, Packet, Pair, deviceOf, watched, withLists}
-use Rattle.model.specs.Level.{addRssi}
+use Rattle.model.specs.Level.{level, addRssi}
 use Rattle.model.specs.Monitors.{matches, good, strong, runOf, windowed}
 use Rattle.model.specs.Events.{startEvent, stopEvent, packetReports, windowReport}
 use Rattle.model.specs.Layout.{mostMonitors, mostPairs}
@@ -27,6 +27,7 @@ withSilent q n =
       ticks = q .ticks;
       packets = q .packets;
       sum = q .sum;
+      kept = q .kept;
       event = q .event;
       adv = q .adv;
     }
@@ -41,6 +42,7 @@ gathered p q =
       ticks = q .ticks;
       packets = q .packets + 1;
       sum = addRssi (q .sum) (p .rssi);
+      kept = p .rssi;
       event = p .event;
       adv = p .adv;
     }
@@ -55,6 +57,7 @@ withTicks q n =
       ticks = n;
       packets = q .packets;
       sum = q .sum;
+      kept = q .kept;
       event = q .event;
       adv = q .adv;
     }
@@ -69,8 +72,25 @@ emptied q =
       ticks = 0;
       packets = 0;
       sum = 0;
+      kept = q .kept;
       event = 0;
       adv = [];
+    }
+
+-- a pair that keeps another RSSI
+unfoldable pub withKept : Pair → ℕ → Pair
+withKept q o =
+    record {
+      handle = q .handle;
+      kind = q .kind;
+      address = q .address;
+      silent = q .silent;
+      ticks = q .ticks;
+      packets = q .packets;
+      sum = q .sum;
+      kept = o;
+      event = q .event;
+      adv = q .adv;
     }
 
 -- the packet is of the pair's device and matches its monitor's condition: "only packets that match its condition count"
@@ -84,9 +104,10 @@ refreshed m p q = pick (good m p) (withSilent q 0) q
 unfoldable pub windowTakes : Monitor → Packet → Pair → Pair
 windowTakes m p q = pick (windowed m) (gathered p q) q
 
+-- T-05: "Each pair keeps its latest matching RSSI", good or not
 unfoldable pub atPacket : Option Monitor → Packet → Pair → Pair
 atPacket none p q = q
-atPacket (some m) p q = pick (counts m p q) (windowTakes m p (refreshed m p q)) q
+atPacket (some m) p q = pick (counts m p q) (windowTakes m p (refreshed m p (withKept q (p .rssi)))) q
 
 unfoldable pub packetMove : List (ℕ × Monitor) → Packet → Pair → Pair
 packetMove mons p q = atPacket (find mons (q .handle)) p q
@@ -98,24 +119,62 @@ isPair h d q = eqb (q .handle) h && sames (watched q) d
 unfoldable pub holds : List Pair → ℕ → List ℕ → Bool
 holds qs h d = someOf (isPair h d) qs
 
--- "It is a start if its RSSI is at least high, the pair is not under watch just before, and fewer than 64 pairs are"
+-- the smallest level that a pair keeps, where it is below r, else r
+unfoldable pub smaller : ℕ → ℕ → ℕ
+smaller a b = pick (ltb a b) a b
+
+unfoldable pub least : ℕ → List Pair → ℕ
+least r [] = r
+least r (q ∷ qs) = smaller (level (q .kept)) (least r qs)
+
+-- the first of the pairs that keep a level ("the earliest started if several"), and the pairs without it
+unfoldable pub firstKeeping : ℕ → List Pair → List Pair
+firstKeeping k [] = []
+firstKeeping k (q ∷ qs) = pick (eqb (level (q .kept)) k) (q ∷ []) (firstKeeping k qs)
+
+unfoldable pub without : ℕ → List Pair → List Pair
+without k [] = []
+without k (q ∷ qs) = pick (eqb (level (q .kept)) k) qs (q ∷ without k qs)
+
+-- "fewer than 64 pairs are"; T-05: or, "64 are under watch, and its RSSI is above the smallest kept one"
+unfoldable pub hasRoom : List Pair → Bool
+hasRoom qs = ltb (length qs) mostPairs
+
+unfoldable pub fits : ℕ → List Pair → Bool
+fits r qs = hasRoom qs || ltb (least r qs) r
+
+-- "It is a start if its RSSI is at least high, the pair is not under watch just before", and there is room for it
 unfoldable pub begins : Monitor → Packet → ℕ → List Pair → Bool
-begins m p h qs = matches m p && (strong m p && (not (holds qs h (deviceOf p)) && ltb (length qs) mostPairs))
+begins m p h qs = matches m p && (strong m p && (not (holds qs h (deviceOf p)) && fits (level (p .rssi)) qs))
 
 -- a pair at its start: "The start packet is in no window". T-01: "A start packet now counts as good even when its RSSI is not above
 -- low": no ticks have passed since a good packet.
 unfoldable pub startPair : ℕ → Packet → Pair
 startPair h p =
-    record { handle = h; kind = p .kind; address = p .address; silent = 0; ticks = 0; packets = 0; sum = 0; event = 0; adv = [] }
+    record { handle = h; kind = p .kind; address = p .address; silent = 0; ticks = 0; packets = 0; sum = 0; kept = p .rssi; event = 0; adv = [] }
 
 -- one handle's turn gives its start, if it has one
 unfoldable pub startOf : Option Monitor → Packet → ℕ → List Pair → List Pair
 startOf none p h qs = []
 startOf (some m) p h qs = when (begins m p h qs) (startPair h p ∷ [])
 
+-- T-05: "that pair (the earliest started if several) gets its stop event": the pair that goes for a start at a level where there is no
+-- room, and those that stay
+unfoldable pub goesFor : ℕ → List Pair → List Pair
+goesFor r qs = pick (hasRoom qs) [] (firstKeeping (least r qs) qs)
+
+unfoldable pub staysFor : ℕ → List Pair → List Pair
+staysFor r qs = pick (hasRoom qs) qs (without (least r qs) qs)
+
+-- one handle's turn ends the watch of these
+unfoldable pub stopOf : Option Monitor → Packet → ℕ → List Pair → List Pair
+stopOf none p h qs = []
+stopOf (some m) p h qs = when (begins m p h qs) (goesFor (level (p .rssi)) qs)
+
 -- the pairs after it: "monitors take one packet in handle order, and a start takes its room at once"
 unfoldable pub turn : Option Monitor → Packet → ℕ → List Pair → List Pair
-turn o p h qs = qs ++ startOf o p h qs
+turn none p h qs = qs
+turn (some m) p h qs = pick (begins m p h qs) (staysFor (level (p .rssi)) qs ++ (startPair h p ∷ [])) qs
 
 -- the turns of the handles below n, and the starts that they give, by handle
 unfoldable pub turns : List (ℕ × Monitor) → Packet → ℕ → List Pair → List Pair
@@ -126,7 +185,16 @@ unfoldable pub startsBelow : List (ℕ × Monitor) → Packet → ℕ → List P
 startsBelow mons p zero qs = []
 startsBelow mons p (suc n) qs = startsBelow mons p n qs ++ startOf (find mons n) p n (turns mons p n qs)
 
--- the pairs after a packet: those held, moved, and then the starts by handle
+-- what a turn writes, "its stop event and the new one starts", and what the turns of the handles below n do
+unfoldable pub turnAnswer : List ℕ → Option Monitor → Packet → ℕ → List Pair → List ℕ
+turnAnswer prefix o p h qs = each (stopEvent prefix) (stopOf o p h qs) ++ each (startEvent prefix) (startOf o p h qs)
+
+unfoldable pub turnsAnswer : List ℕ → List (ℕ × Monitor) → Packet → ℕ → List Pair → List ℕ
+turnsAnswer prefix mons p zero qs = []
+turnsAnswer prefix mons p (suc n) qs =
+    turnsAnswer prefix mons p n qs ++ turnAnswer prefix (find mons n) p n (turns mons p n qs)
+
+-- the pairs after a packet: those held, moved ("updated for the present packet first"), and then the turns by handle
 unfoldable pub packetPairs : Model → Packet → List Pair
 packetPairs m p = turns (m .mons) p mostMonitors (map (packetMove (m .mons) p) (m .pairs))
 
@@ -143,9 +211,11 @@ unfoldable pub reported : Model → Packet → Bool
 reported m p =
     eqb (m .filter) 0 || (someOf (wants (packetPairs m p) p) (m .mons) || leb 1 (length (startsOf m p)))
 
--- "Packet, handles ascending: a start event for each start. Then one report with the packet's RSSI"; with kind 04 a second one
+-- "Packet, handles ascending: a start event for each start", behind the stop event of the pair that goes for it. "Then one report
+-- with the packet's RSSI"; with kind 04 a second one
 unfoldable pub packetAnswer : Model → Packet → List ℕ
-packetAnswer m p = each (startEvent (m .prefix)) (startsOf m p) ++ when (reported m p) (packetReports p)
+packetAnswer m p =
+    turnsAnswer (m .prefix) (m .mons) p mostMonitors (map (packetMove (m .mons) p) (m .pairs)) ++ when (reported m p) (packetReports p)
 
 -- the watch goes on over one tick more: "The tick that completes such a run ends the watch. Silence counts as low (H)."
 unfoldable pub goesOn : Monitor → Pair → Bool

@@ -1,4 +1,4 @@
--- What a packet writes: a start event for each pair behind those that were held, then its reports. Document 01,
+-- What a packet writes: the start and stop events of its turns, then its reports. Document 01,
 -- Watching, by history (Event, Report). Assumes nothing.
 use Prim.Native.Nat.{ℕ, _+_, _-_, _*_, _≤_, _<_}
 use mathlib.Core.Path.{_≡_, refl, sym, ap, _∙_}
@@ -10,28 +10,22 @@ use lib.ListN.{length, take, drop, getD, length-append, length-take, length-drop
 use lib.Seq.{take-take, drop-cons, getD-drop, take-all, length-take-le}
 use borrow.Author.Tests.{le-leb, eq-eqb}
 use Rattle.laws.specs.Tests.{pick, and-both}
-use Rattle.laws.specs.Loops.{each, each-take, when, when-true, when-false}
+use Rattle.laws.specs.Loops.{when, when-true, when-false}
 use Rattle.laws.specs.Put.{put, putIf, put-nil, put-then}
-use Rattle.model.specs.Types.{Model, Pair}
+use Rattle.model.specs.Types.{Model}
 use Rattle.steps.specs.Stepped.{rest-put}
 use Rattle.model.specs.Frames.{packetOf, scanOf}
-use Rattle.model.specs.Events.{startEvent, packetReport, scanReport, packetReports, event, report}
+use Rattle.model.specs.Events.{packetReport, scanReport, packetReports, event, report}
 use Rattle.model.specs.Block.{padded}
 use Rattle.blocks.specs.Bounds.{Fits}
 use Rattle.blocks.specs.Block.{row-pairs, read-count, read-prefix}
 use Rattle.events.specs.Octets.{eventOctets, reportOctets, eventFits, reportFits, length-event, length-report}
 use Rattle.events.specs.Octets.{event-opens, event-pair, report-device}
 use Rattle.marks.specs.Fields.{Clamped, Framed, scanAt, scan-at-some}
-use Rattle.packets.specs.Writes.{part-row}
-use Rattle.packets.specs.Moves.{noPair, pairAt, AtPair, pair-fits}
-use Rattle.packets.specs.Starts.{Holding}
+use Rattle.packets.specs.Writes.{noPair, Wrote, part-row}
+use Rattle.packets.specs.Moves.{pairAt, AtPair, pair-fits}
 use Rattle.model.specs.Layout.{eventMost, reportMost}
 use Rattle.model.specs.Layout.{blockSize, mostData, mostPairs, mostPrefix, pairSize, pairsAt, prefixAt, prefixLengthAt}
-
--- ys written into out at an index, and how many
-pub record Wrote (out : List ℕ) (at : ℕ) (ys after : List ℕ) (n : ℕ) : Type 0 where
-  pub octets : after ≡ put out at ys
-  pub count : n ≡ length ys
 
 fits-wrote : (t : Bool) (out : List ℕ) (at : ℕ) (ys : List ℕ) {o : List ℕ} {r : ℕ} → t ≡ true
     → (r ≡ pick t (length ys) 0) × (o ≡ putIf t out at ys) → Wrote out at ys o r
@@ -50,109 +44,64 @@ module _ (m : Model) (s : List ℕ) (i : ℕ) (w : AtPair m s i) where
       ap (λ (k : ℕ). take k (drop prefixAt s)) e ∙ ap (λ (l : List ℕ). take (length (m .prefix)) (drop 8 l)) (w .block)
       ∙ read-prefix m
 
-  event-part : eventOctets (m .prefix) (take 8 (drop (pairsAt + pairSize * i) s)) 1 ≡ startEvent (m .prefix) (pairAt m i)
-  unfolding startEvent pairAt
-  event-part =
+  event-part : (state : ℕ) → eventOctets (m .prefix) (take 8 (drop (pairsAt + pairSize * i) s)) state ≡ event (m .prefix) (pairAt m i) state
+  unfolding pairAt
+  event-part state =
       let f : Fits (pairAt m i) = pair-fits w in
       let r : List ℕ = take pairSize (drop (pairsAt + pairSize * i) s) in
-      ap (λ (l : List ℕ). eventOctets (m .prefix) l 1) (sym (take-take 8 pairSize (drop (pairsAt + pairSize * i) s) (omega arith)))
-      ∙ event-opens (m .prefix) r 1
-      ∙ ap (λ (l : List ℕ). eventOctets (m .prefix) l 1)
+      ap (λ (l : List ℕ). eventOctets (m .prefix) l state) (sym (take-take 8 pairSize (drop (pairsAt + pairSize * i) s) (omega arith)))
+      ∙ event-opens (m .prefix) r state
+      ∙ ap (λ (l : List ℕ). eventOctets (m .prefix) l state)
       (ap (λ (l : List ℕ). take pairSize (drop (pairsAt + pairSize * i) l)) (w .block) ∙ part-row (padded m) i
       ∙ row-pairs m (w .measured) i noPair (w .within))
-      ∙ event-pair (m .prefix) (getD (m .pairs) i noPair) 1 (f .address-length)
+      ∙ event-pair (m .prefix) (getD (m .pairs) i noPair) state (f .address-length)
 
-  pub start-wrote : (out : List ℕ) (at n : ℕ) {o pre r8 : List ℕ} {r : ℕ} → Clamped (getD s prefixLengthAt 0) mostPrefix n
+  pub event-wrote : (state : ℕ) (out : List ℕ) (at n : ℕ) {o pre r8 : List ℕ} {r : ℕ} → Clamped (getD s prefixLengthAt 0) mostPrefix n
       → at + eventMost ≤ length out
       → length s ≡ blockSize → i < mostPairs
       → pre ≡ take n (drop prefixAt s) → r8 ≡ take 8 (drop (pairsAt + pairSize * i) s)
-      → (r ≡ pick (eventFits (length out) at pre r8 1) (length (eventOctets pre r8 1)) 0)
-      × (o ≡ putIf (eventFits (length out) at pre r8 1) out at (eventOctets pre r8 1))
-      → Wrote out at (startEvent (m .prefix) (pairAt m i)) o r
+      → (r ≡ pick (eventFits (length out) at pre r8 state) (length (eventOctets pre r8 state)) 0)
+      × (o ≡ putIf (eventFits (length out) at pre r8 state) out at (eventOctets pre r8 state))
+      → Wrote out at (event (m .prefix) (pairAt m i) state) o r
   unfolding eventFits
-  start-wrote out at n {o} {pre} {r8} {r} c h l b ep er x =
+  event-wrote state out at n {o} {pre} {r8} {r} c h l b ep er x =
       let d : length (drop (pairsAt + pairSize * i) s) ≡ length s - (pairsAt + pairSize * i) = length-drop (pairsAt + pairSize * i) s in
       let k : length r8 ≡ 8 = ap (λ (y : List ℕ). length y) er
       ∙ length-take-le 8 (drop (pairsAt + pairSize * i) s) (omega arith) in
       let p : pre ≡ m .prefix = ep ∙ prefix-part n c in
       let q : length pre ≡ length (m .prefix) = ap (λ (y : List ℕ). length y) p in
-      let u : length (eventOctets pre r8 1) ≡ 12 + length pre = length-event pre r8 1 (omega arith) in
-      let v : eventOctets pre r8 1 ≡ startEvent (m .prefix) (pairAt m i) =
-      ap (λ (y : List ℕ). eventOctets y r8 1) p ∙ ap (λ (y : List ℕ). eventOctets (m .prefix) y 1) er ∙ event-part in
-      let z : Wrote out at (eventOctets pre r8 1) o r =
-      fits-wrote (eventFits (length out) at pre r8 1) out at (eventOctets pre r8 1)
+      let u : length (eventOctets pre r8 state) ≡ 12 + length pre = length-event pre r8 state (omega arith) in
+      let v : eventOctets pre r8 state ≡ event (m .prefix) (pairAt m i) state =
+      ap (λ (y : List ℕ). eventOctets y r8 state) p ∙ ap (λ (y : List ℕ). eventOctets (m .prefix) y state) er ∙ event-part state in
+      let z : Wrote out at (eventOctets pre r8 state) o r =
+      fits-wrote (eventFits (length out) at pre r8 state) out at (eventOctets pre r8 state)
       (and-both (le-leb (length pre) mostPrefix (omega (arith, w .measured .prefix-most)))
       (and-both (le-leb 8 (length r8) (omega arith))
-      (le-leb (at + length (eventOctets pre r8 1)) (length out) (omega (arith, w .measured .prefix-most))))) x in
+      (le-leb (at + length (eventOctets pre r8 state)) (length out) (omega (arith, w .measured .prefix-most))))) x in
       record { octets = z .octets ∙ ap (put out at) v; count = z .count ∙ ap (λ (y : List ℕ). length y) v }
 
 -- an event's length, whatever the octets
-pub event-most : (out : List ℕ) (at : ℕ) (pre r8 : List ℕ) {r : ℕ} → length pre ≤ mostPrefix → 8 ≤ length r8
-    → r ≡ pick (eventFits (length out) at pre r8 1) (length (eventOctets pre r8 1)) 0 → r ≤ eventMost
+pub event-most : (out : List ℕ) (at : ℕ) (pre r8 : List ℕ) (state : ℕ) {r : ℕ} → length pre ≤ mostPrefix → 8 ≤ length r8
+    → r ≡ pick (eventFits (length out) at pre r8 state) (length (eventOctets pre r8 state)) 0 → r ≤ eventMost
 unfolding pick
-event-most out at pre r8 {r} h b e = go (eventFits (length out) at pre r8 1) e
+event-most out at pre r8 state {r} h b e = go (eventFits (length out) at pre r8 state) e
   where
-    go : (t : Bool) → r ≡ pick t (length (eventOctets pre r8 1)) 0 → r ≤ eventMost
-    go true e = omega (arith, length-event pre r8 1 b)
+    go : (t : Bool) → r ≡ pick t (length (eventOctets pre r8 state)) 0 → r ≤ eventMost
+    go true e = omega (arith, length-event pre r8 state b)
     go false e = omega arith
 
 -- octets past an event are as they were, whatever the octets
-pub event-rest : (out : List ℕ) (at : ℕ) (pre r8 : List ℕ) {o : List ℕ} {r : ℕ} → at ≤ length out
-    → (r ≡ pick (eventFits (length out) at pre r8 1) (length (eventOctets pre r8 1)) 0)
-    × (o ≡ putIf (eventFits (length out) at pre r8 1) out at (eventOctets pre r8 1))
+pub event-rest : (out : List ℕ) (at : ℕ) (pre r8 : List ℕ) (state : ℕ) {o : List ℕ} {r : ℕ} → at ≤ length out
+    → (r ≡ pick (eventFits (length out) at pre r8 state) (length (eventOctets pre r8 state)) 0)
+    × (o ≡ putIf (eventFits (length out) at pre r8 state) out at (eventOctets pre r8 state))
     → drop (at + r) o ≡ drop (at + r) out
 unfolding pick putIf
-event-rest out at pre r8 {o} {r} h e = go (eventFits (length out) at pre r8 1) e
+event-rest out at pre r8 state {o} {r} h e = go (eventFits (length out) at pre r8 state) e
   where
-    go : (t : Bool) → (r ≡ pick t (length (eventOctets pre r8 1)) 0) × (o ≡ putIf t out at (eventOctets pre r8 1))
+    go : (t : Bool) → (r ≡ pick t (length (eventOctets pre r8 state)) 0) × (o ≡ putIf t out at (eventOctets pre r8 state))
         → drop (at + r) o ≡ drop (at + r) out
-    go true x = rest-put out at (eventOctets pre r8 1) h (x .1) (ap (λ (k : ℕ). at + k) (x .0))
+    go true x = rest-put out at (eventOctets pre r8 state) h (x .1) (ap (λ (k : ℕ). at + k) (x .0))
     go false x = ap (drop (at + r)) (x .1)
-
--- a turn of the loop over the starts
-module _ (m : Model) (s : List ℕ) (from count : ℕ) (w : Holding m s (from + count)) where
-  pub starts-none : (out : List ℕ) → Wrote out 0 (each (startEvent (m .prefix)) (take 0 (drop from (m .pairs)))) out 0
-  unfolding each
-  starts-none out = record { octets = sym (put-nil out 0); count = refl }
-
-  pub starts-turn : (out : List ℕ) (j : ℕ) {o u : List ℕ} {n r : ℕ} → j < count
-      → Wrote out 0 (each (startEvent (m .prefix)) (take j (drop from (m .pairs)))) o n
-      → (AtPair m s (from + j) → Wrote o n (startEvent (m .prefix) (pairAt m (from + j))) u r)
-      → Wrote out 0 (each (startEvent (m .prefix)) (take (j + 1) (drop from (m .pairs)))) u (n + r)
-  unfolding pairAt
-  starts-turn out j {o} {u} {n} {r} b x y =
-      let f : Pair → List ℕ = startEvent (m .prefix) in
-      let l : List Pair = drop from (m .pairs) in
-      let k : length l ≡ length (m .pairs) - from = length-drop from (m .pairs) in
-      let q : AtPair m s (from + j) = record {
-        measured = w .measured;
-        block = w .block;
-        within = omega
-            (arith, w .count);
-      } in
-      let z : Wrote o n (f (getD (m .pairs) (from + j) noPair)) u r = y q in
-      let g : each f (take j l) ++ f (getD (m .pairs) (from + j) noPair) ≡ each f (take (j + 1) l) =
-      ap (λ (t : Pair). each f (take j l) ++ f t) (sym (getD-drop from (m .pairs) j noPair))
-      ∙ sym (each-take f l j noPair (omega (arith, w .count))) in
-      record {
-        octets = put-then out 0 (each f (take j l)) n (f (getD (m .pairs) (from + j) noPair)) (omega arith) (x .octets)
-            (x .count ∙ sym (native.Mathlib.Nat.zero-add (length (each f (take j l))))) (z .octets) g;
-        count = ap (λ (t : ℕ). t + r) (x .count) ∙ ap (λ (t : ℕ). length (each f (take j l)) + t) (z .count)
-            ∙ sym (length-append (each f (take j l)) (f (getD (m .pairs) (from + j) noPair)))
-            ∙ ap (λ (t : List ℕ). length t) g;
-      }
-
-  pub starts-end : (out : List ℕ) (j : ℕ) {o : List ℕ} {n : ℕ} → count ≤ j
-      → Wrote out 0 (each (startEvent (m .prefix)) (take j (drop from (m .pairs)))) o n
-      → Wrote out 0 (each (startEvent (m .prefix)) (drop from (m .pairs))) o n
-  starts-end out j {o} {n} b x =
-      let k : length (drop from (m .pairs)) ≡ length (m .pairs) - from = length-drop from (m .pairs) in
-      let e : take j (drop from (m .pairs)) ≡ drop from (m .pairs) =
-      take-all j (drop from (m .pairs)) (omega (arith, w .count)) in
-      record {
-        octets = x .octets ∙ ap (λ (l : List Pair). put out 0 (each (startEvent (m .prefix)) l)) e;
-        count = x .count ∙ ap (λ (l : List Pair). length (each (startEvent (m .prefix)) l)) e;
-      }
 
 -- a report of a packet's device, with the packet's RSSI
 report-wrote : (out : List ℕ) (at : ℕ) (l : List ℕ) (e : ℕ) (dev adv : List ℕ) {o : List ℕ} {r : ℕ} → 10 ≤ length l

@@ -24,8 +24,8 @@ use Rattle.steps.specs.Typed.{Sent}
 use Rattle.marks.specs.Marks.{mark, marks, getD-marks}
 use Rattle.packets.specs.Changes.{changed, move-changed}
 use Rattle.packets.specs.Keys.{deviceNumber, same-true, same-false, key-pairs}
-use Rattle.packets.specs.Writes.{same-row}
-use Rattle.packets.specs.Moves.{noPair, pairAt, withPair, AtPair, pair-fits, moved-fits}
+use Rattle.packets.specs.Writes.{noPair, same-row}
+use Rattle.packets.specs.Moves.{pairAt, withPair, AtPair, pair-fits, moved-fits}
 use Rattle.model.specs.Layout.{mostMonitors, pairSize, pairsAt}
 
 -- what the loops are given of the packet: its fields in range, the octets of the handles, the number of its device

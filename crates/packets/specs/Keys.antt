@@ -1,5 +1,5 @@
 -- Devices and keys as numbers: a pair's key, handle, address type and address, is one number of 8 octets, and a
--- device one of 7, so that a test of a row is one comparison. Document 01, The image (A2), Watching, by history.
+-- device one of 7, so that a test of a row is one comparison. Document 01, The image (A3), Watching, by history.
 -- Assumes nothing.
 use Prim.Native.Nat.{ℕ, _+_, _*_, _/_, _≤_, _<_}
 use mathlib.Core.Path.{_≡_, refl, sym, ap, _∙_}

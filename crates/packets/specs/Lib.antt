@@ -2,9 +2,12 @@
 pub mod Changes
 pub mod Keys
 pub mod Writes
+pub mod News
+pub mod Weakest
 pub mod Moves
 pub mod Held
 pub mod Starts
+pub mod Handles
 pub mod Reports
 pub mod Answers
 pub mod Whole

@@ -1,36 +1,31 @@
 -- The held pairs over a packet, one row after another: what one row's turn leaves, and the turn of the loop over them.
 -- Document 01, Watching, by history. Assumes nothing.
-use Prim.Native.Nat.{ℕ, zero, suc, _+_, _*_, _/_, _%_, _<_}
+use Prim.Native.Nat.{ℕ, zero, suc, _+_, _*_, _/_, _%_, _≤_, _<_}
 use mathlib.Core.Path.{_≡_, refl, sym, ap, _∙_, subst}
 use mathlib.Core.List.{List, [], _∷_}
 use native.Mathlib.Omega.{arith}
 use lib.ListN.{length, getD, set, length-set}
 use lib.Seq.{getD-set-same, set-set}
-use borrow.Author.Tests.{eq-eqb, ne-eqb}
+use borrow.Author.Tests.{eq-eqb, ne-eqb, le-leb, lt-leb}
 use Rattle.laws.specs.Tests.{pick-true, pick-false, sames}
-use Rattle.laws.specs.Put.{put}
+use Rattle.laws.specs.Put.{put, set-put}
 use Rattle.octets.specs.Little.{little, octetsOf}
 use Rattle.rule.specs.Base.{All}
 use Rattle.rule.specs.Engine.{find}
 use Rattle.model.specs.Types.{Model, Monitor, Packet, Pair, deviceOf, watched, withLists}
 use Rattle.model.specs.Level.{addRssi}
-use Rattle.model.specs.Watch.{withSilent, gathered, packetMove}
+use Rattle.model.specs.Watch.{withSilent, withKept, gathered, packetMove}
 use Rattle.model.specs.Block.{padded}
 use Rattle.blocks.specs.Bounds.{Fits}
-use Rattle.blocks.specs.Block.{Measured}
+use Rattle.blocks.specs.Block.{Measured, length-padded}
 use Rattle.blocks.specs.Updates.{measured-pairs}
 use Rattle.blocks.specs.Ends.{all-set}
 use Rattle.blocks.specs.Fields.{windowOf}
 use Rattle.steps.specs.Typed.{pick-both, Sent}
-use Rattle.marks.specs.Marks.{refreshes, takes, mark}
-use Rattle.packets.specs.Changes.{freshened, collected, changed, move-changed}
-use Rattle.packets.specs.Writes.{same-row, fits-silent, fits-gathered, row-silent, row-gathered}
-use Rattle.model.specs.Layout.{pairSize, pairsAt}
-
--- the pair read past the end
-unfoldable pub noPair : Pair
-noPair =
-    record { handle = 0; kind = 0; address = []; silent = 0; ticks = 0; packets = 0; sum = 0; event = 0; adv = [] }
+use Rattle.marks.specs.Marks.{matched, refreshes, takes, keeps, mark}
+use Rattle.packets.specs.Changes.{freshened, collected, strengthened, counted, changed, move-changed}
+use Rattle.packets.specs.Writes.{noPair, same-row, fits-silent, fits-kept, fits-gathered, row-silent, row-kept, row-gathered}
+use Rattle.model.specs.Layout.{blockSize, pairSize, pairsAt, rssiAt}
 
 -- pair i of a state, and the state with another in its place
 unfoldable pub pairAt : Model → ℕ → Pair
@@ -72,16 +67,36 @@ module _ (m : Model) (s : List ℕ) (i a : ℕ) (w : AtPair m s i) where
       ∙ ap (λ (q : Pair). padded (withLists m (m .mons) (set (m .pairs) i q)))
       (sym (pick-false (withSilent (getD (m .pairs) i noPair) 0) (getD (m .pairs) i noPair) (ne-eqb (a % 2) 1 h)))
 
+-- the RSSI is kept, or is left
+module _ (m : Model) (s : List ℕ) (i a o : ℕ) (w : AtPair m s i) where
+  pub keep-done : {t : List ℕ} → o < 256 → matched ≤ a → t ≡ set s (pairsAt + pairSize * i + rssiAt) o
+      → t ≡ padded (withPair m i (strengthened a o (pairAt m i)))
+  unfolding withPair strengthened keeps pairAt
+  keep-done b h e =
+      let n : length s ≡ blockSize = ap length (w .block) ∙ length-padded m (w .measured) in
+      e ∙ set-put s (pairsAt + pairSize * i + rssiAt) o (omega (arith, w .within, w .measured .pairs-most))
+      ∙ ap (λ (l : List ℕ). put l (pairsAt + pairSize * i + rssiAt) (o ∷ [])) (w .block)
+      ∙ row-kept m (w .measured) i noPair (w .within) (pair-fits w) o b
+      ∙ ap (λ (q : Pair). padded (withLists m (m .mons) (set (m .pairs) i q)))
+      (sym (pick-true (withKept (getD (m .pairs) i noPair) o) (getD (m .pairs) i noPair) (le-leb matched a h)))
+
+  pub keep-left : a < matched → s ≡ padded (withPair m i (strengthened a o (pairAt m i)))
+  unfolding withPair strengthened keeps pairAt
+  keep-left h =
+      w .block ∙ same-row m (w .measured) i noPair
+      ∙ ap (λ (q : Pair). padded (withLists m (m .mons) (set (m .pairs) i q)))
+      (sym (pick-false (withKept (getD (m .pairs) i noPair) o) (getD (m .pairs) i noPair) (lt-leb matched a h)))
+
 -- the window takes the packet, or is left
 module _ (m : Model) (s : List ℕ) (i a : ℕ) (p : Packet) (w : AtPair m s i) where
   pub gather-done : {t : List ℕ} → Sent p → pairAt m i .packets < 4294967295 → a / 2 % 2 ≡ 1
       → t ≡ put s (pairsAt + pairSize * i + 11) (windowOf (little 4 s (pairsAt + pairSize * i + 11) + 1)
-      (addRssi (little 8 s (pairsAt + pairSize * i + 15)) (p .rssi)) (p .event) (p .adv))
+      (addRssi (little 8 s (pairsAt + pairSize * i + 15)) (p .rssi)) (p .rssi) (p .event) (p .adv))
       → t ≡ padded (withPair m i (collected a p (pairAt m i)))
   unfolding withPair collected takes pairAt
   gather-done x r h e =
       e ∙ ap (λ (l : List ℕ). put l (pairsAt + pairSize * i + 11) (windowOf (little 4 l (pairsAt + pairSize * i + 11) + 1)
-      (addRssi (little 8 l (pairsAt + pairSize * i + 15)) (p .rssi)) (p .event) (p .adv))) (w .block)
+      (addRssi (little 8 l (pairsAt + pairSize * i + 15)) (p .rssi)) (p .rssi) (p .event) (p .adv))) (w .block)
       ∙ row-gathered m (w .measured) i noPair (w .within) (pair-fits w) p x r
       ∙ ap (λ (q : Pair). padded (withLists m (m .mons) (set (m .pairs) i q)))
       (sym (pick-true (gathered p (getD (m .pairs) i noPair)) (getD (m .pairs) i noPair) (eq-eqb (a / 2 % 2) 1 h)))
@@ -107,36 +122,66 @@ unfolding collected
 collected-fits a p q t f h =
     pick-both Fits (takes a) (gathered p q) q (λ e. fits-gathered p q t f h) (λ e. f)
 
+strengthened-packets : (a o : ℕ) (q : Pair) → strengthened a o q .packets ≡ q .packets
+unfolding strengthened withKept
+strengthened-packets a o q = pick-both (λ (r : Pair). r .packets ≡ q .packets) (keeps a) _ _ (λ e. refl) (λ e. refl)
+
+strengthened-fits : (a o : ℕ) (q : Pair) → o < 256 → Fits q → Fits (strengthened a o q)
+unfolding strengthened
+strengthened-fits a o q b f = pick-both Fits (keeps a) (withKept q o) q (λ e. fits-kept o q b f) (λ e. f)
+
+counted-fits : (a : ℕ) (p : Packet) (q : Pair) → Sent p → Fits q → q .packets < 4294967295 → Fits (counted a p q)
+unfolding counted
+counted-fits a p q t f h = collected-fits a p (freshened a q) t (freshened-fits a q f) (rw (freshened-packets a q) h)
+
 pub moved-fits : (mons : List (ℕ × Monitor)) (p : Packet) (q : Pair) → Sent p → Fits q → q .packets < 4294967295
     → Fits (packetMove mons p q)
 unfolding changed
 moved-fits mons p q t f h =
     let a : ℕ = mark (find mons (q .handle)) p in
+    let k : Pair = strengthened a (p .rssi) q in
     subst Fits (sym (move-changed mons p q))
-    (pick-both Fits (sames (deviceOf p) (watched q)) (collected a p (freshened a q)) q
-    (λ e. collected-fits a p (freshened a q) t (freshened-fits a q f) (rw (freshened-packets a q) h))
+    (pick-both Fits (sames (deviceOf p) (watched q)) (counted a p k) q
+    (λ e. counted-fits a p k t (strengthened-fits a (p .rssi) q (t .rssi-octet) f) (rw (strengthened-packets a (p .rssi) q) h))
     (λ e. f))
 
--- both, one after the other
+-- a change of pair i and then another, one after the other
+module _ (m : Model) (s : List ℕ) (i : ℕ) (w : AtPair m s i) (q : Pair) (k : Fits q) (l : q .packets ≡ pairAt m i .packets) where
+  then : (g : Pair → Pair) {u t : List ℕ} → pairAt m i .packets < 4294967295 → u ≡ padded (withPair m i q)
+      → ((n : Model) → AtPair n u i → pairAt n i .packets < 4294967295 → t ≡ padded (withPair n i (g (pairAt n i))))
+      → t ≡ padded (withPair m i (g q))
+  unfolding withPair withLists pairAt
+  then g {u} {t} r e f =
+      let qs : List Pair = set (m .pairs) i q in
+      let n : Model = withLists m (m .mons) qs in
+      let c : length qs ≡ length (m .pairs) = length-set (m .pairs) i q in
+      let y : getD qs i noPair ≡ q = getD-set-same (m .pairs) i q noPair (w .within) in
+      let x : Measured n =
+      measured-pairs m (w .measured) qs (all-set (m .pairs) (w .measured .fit) i q k) (omega (arith, w .measured .pairs-most)) in
+      let v : AtPair n u i = record { measured = x; block = e; within = omega (arith, w .within) } in
+      f n v (rw (y, l) r)
+      ∙ ap (λ (z : Pair). padded (withLists m (m .mons) (set qs i (g z)))) y
+      ∙ ap (λ (z : List Pair). padded (withLists m (m .mons) z)) (set-set (m .pairs) i q (g q))
+
+-- the count of ticks, and then the window
 pub change-both : (m : Model) (s : List ℕ) (i a : ℕ) (p : Packet) {u t : List ℕ} → AtPair m s i → Sent p
     → pairAt m i .packets < 4294967295
     → u ≡ padded (withPair m i (freshened a (pairAt m i)))
     → ((n : Model) → AtPair n u i → pairAt n i .packets < 4294967295
     → t ≡ padded (withPair n i (collected a p (pairAt n i))))
+    → t ≡ padded (withPair m i (counted a p (pairAt m i)))
+unfolding counted
+change-both m s i a p w x r e f =
+    then m s i w (freshened a (pairAt m i)) (freshened-fits a (pairAt m i) (pair-fits w)) (freshened-packets a (pairAt m i)) (collected a p) r e f
+
+-- the RSSI, and then both
+pub change-all : (m : Model) (s : List ℕ) (i a : ℕ) (p : Packet) {u t : List ℕ} → AtPair m s i → Sent p
+    → pairAt m i .packets < 4294967295
+    → u ≡ padded (withPair m i (strengthened a (p .rssi) (pairAt m i)))
+    → ((n : Model) → AtPair n u i → pairAt n i .packets < 4294967295
+    → t ≡ padded (withPair n i (counted a p (pairAt n i))))
     → t ≡ padded (withPair m i (changed a p (pairAt m i)))
-unfolding withPair withLists changed pairAt
-change-both m s i a p {u} {t} w x r e f =
-    let q : Pair = getD (m .pairs) i noPair in
-    let qs : List Pair = set (m .pairs) i (freshened a q) in
-    let n : Model = withLists m (m .mons) qs in
-    let l : length qs ≡ length (m .pairs) = length-set (m .pairs) i (freshened a q) in
-    let g : getD qs i noPair ≡ freshened a q = getD-set-same (m .pairs) i (freshened a q) noPair (w .within) in
-    let k : Measured n =
-    measured-pairs m (w .measured) qs
-    (all-set (m .pairs) (w .measured .fit) i (freshened a q) (freshened-fits a q (pair-fits w)))
-    (omega (arith, w .measured .pairs-most)) in
-    let v : AtPair n u i = record { measured = k; block = e; within = omega (arith, w .within) } in
-    f n v (rw (g, freshened-packets a q) r)
-    ∙ ap (λ (y : Pair). padded (withLists m (m .mons) (set qs i (collected a p y)))) g
-    ∙ ap (λ (y : List Pair). padded (withLists m (m .mons) y)) (set-set (m .pairs) i (freshened a q) (collected a p
-    (freshened a q)))
+unfolding changed
+change-all m s i a p w x r e f =
+    then m s i w (strengthened a (p .rssi) (pairAt m i)) (strengthened-fits a (p .rssi) (pairAt m i) (x .rssi-octet) (pair-fits w))
+    (strengthened-packets a (p .rssi) (pairAt m i)) (counted a p) r e f

@@ -4,19 +4,22 @@
 use Prim.Native.Nat.{ℕ, zero, suc, _+_, _-_, _/_, _%_, _≤_, _<_}
 use mathlib.Core.Path.{_≡_, refl, sym, ap, _∙_}
 use mathlib.Core.Bool.{Bool, true, false, _&&_, _||_}
-use mathlib.Core.List.{List, [], _∷_}
-use mathlib.Core.Option.{none, some}
+use mathlib.Core.List.{List, [], _∷_, _++_, map}
+use mathlib.Core.Logic.{_⊎_, inl, inr}
+use mathlib.Core.Option.{Option, none, some}
 use native.Mathlib.Omega.{arith}
 use lib.Dec.{eqb}
-use lib.ListN.{length, getD}
+use lib.ListN.{length, getD, length-append}
 use borrow.Author.Tests.{eq-eqb, ne-eqb, le-leb, lt-leb}
 use Rattle.laws.specs.Tests.{cases-le, and-not-left}
-use Rattle.laws.specs.Loops.{some as someOf}
+use Rattle.laws.specs.Loops.{some as someOf, each, when}
 use Rattle.rule.specs.Engine.{find}
 use Rattle.rule.specs.Finds.{find-above}
 use Rattle.model.specs.Types.{Model, Monitor, Packet, Pair, deviceOf}
-use Rattle.model.specs.Watch.{holds, wants, packetPairs, startsOf, reported}
-use Rattle.steps.specs.Starts.{starts-count}
+use Rattle.model.specs.Level.{level}
+use Rattle.model.specs.Events.{event, startEvent, stopEvent}
+use Rattle.model.specs.Watch.{holds, packetMove, begins, goesFor, startPair, startOf, stopOf, turns, turnAnswer, turnsAnswer, startsBelow}
+use Rattle.model.specs.Watch.{wants, packetPairs, startsOf, reported}
 use Rattle.blocks.specs.Facts.{SoundMonitors, SoundModel, monitors-tail, monitors-from, monitors-over}
 use Rattle.marks.specs.Marks.{tells, mark, marks, getD-marks}
 use Rattle.packets.specs.Changes.{wants-tells}
@@ -116,31 +119,86 @@ module _ (qs : List Pair) (p : Packet) (l : List (ℕ × Monitor)) where
       ap (λ (n : ℕ). tells n && holds qs h (deviceOf p))
       (sym (ap (λ (x : List ℕ). getD x h 0) e ∙ getD-marks l p h (omega arith))))
 
+-- a turn writes where it starts a pair, and only there
+Both : ℕ → ℕ → Type 0
+Both a b = ((a ≡ 0) × (b ≡ 0)) ⊎ ((0 < a) × (0 < b))
+
+turn-both : (prefix : List ℕ) (o : Option Monitor) (p : Packet) (h : ℕ) (qs : List Pair)
+    → Both (length (turnAnswer prefix o p h qs)) (length (startOf o p h qs))
+unfolding turnAnswer stopOf startOf when each startEvent event Both
+turn-both prefix none p h qs = inl (refl, refl)
+turn-both prefix (some m) p h qs = go (begins m p h qs)
+  where
+    go : (t : Bool) → Both (length (each (stopEvent prefix) (when t (goesFor (level (p .rssi)) qs)) ++ each (startEvent prefix) (when t (startPair h p ∷ []))))
+        (length (when t (startPair h p ∷ [])))
+    go true =
+        let a : List ℕ = each (stopEvent prefix) (goesFor (level (p .rssi)) qs) in
+        inr (rw (length-append a (each (startEvent prefix) (startPair h p ∷ []))) (omega arith), omega arith)
+    go false = inl (refl, refl)
+
+both-add : (a b c d : ℕ) → Both a b → Both c d → Both (a + c) (b + d)
+unfolding Both
+both-add a b c d (inl x) (inl y) = inl (omega (arith, x .0, y .0), omega (arith, x .1, y .1))
+both-add a b c d (inl x) (inr y) = inr (omega (arith, y .0), omega (arith, y .1))
+both-add a b c d (inr x) y = inr (omega (arith, x .0), omega (arith, x .1))
+
+turns-both : (prefix : List ℕ) (mons : List (ℕ × Monitor)) (p : Packet) (n : ℕ) (qs : List Pair)
+    → Both (length (turnsAnswer prefix mons p n qs)) (length (startsBelow mons p n qs))
+unfolding turnsAnswer startsBelow Both
+turns-both prefix mons p zero qs = inl (refl, refl)
+turns-both prefix mons p (suc n) qs =
+    let l : List Pair = turns mons p n qs in
+    let a : List ℕ = turnsAnswer prefix mons p n qs in
+    let b : List ℕ = turnAnswer prefix (find mons n) p n l in
+    rw (length-append a b, length-append (startsBelow mons p n qs) (startOf (find mons n) p n l))
+    (both-add (length a) (length (startsBelow mons p n qs)) (length b) (length (startOf (find mons n) p n l)) (turns-both prefix mons p n qs)
+    (turn-both prefix (find mons n) p n l))
+
+positive : (a b : ℕ) → 0 < a → Both a b → 1 ≤ b
+unfolding Both
+positive a b h (inl x) = absurd (omega (arith, x .0))
+positive a b h (inr x) = x .1
+
+none-left : (a b : ℕ) → a ≡ 0 → Both a b → b < 1
+unfolding Both
+none-left a b h (inl x) = omega (arith, x .1)
+none-left a b h (inr x) = absurd (omega (arith, x .0))
+
 -- the packet is reported
 module _ (m : Model) (p : Packet) where
+  -- what its turns write
+  abbrev pub turnsOf : List ℕ
+  turnsOf = turnsAnswer (m .prefix) (m .mons) p mostMonitors (map (packetMove (m .mons) p) (m .pairs))
+
   pub reported-off : m .filter ≡ 0 → true ≡ reported m p
   unfolding reported
   reported-off e = rw (eq-eqb (m .filter) 0 e)
 
-  pub reported-start : length (m .pairs) < length (packetPairs m p) → true ≡ reported m p
+  starts-both : Both (length turnsOf) (length (startsOf m p))
+  unfolding startsOf
+  starts-both = turns-both (m .prefix) (m .mons) p mostMonitors (map (packetMove (m .mons) p) (m .pairs))
+
+  pub reported-start : 0 < length turnsOf → true ≡ reported m p
   unfolding reported
   reported-start h =
-      go (eqb (m .filter) 0) (someOf (wants (packetPairs m p) p) (m .mons)) _
-      (le-leb 1 (length (startsOf m p)) (omega (arith, starts-count m p)))
+      go (eqb (m .filter) 0) (someOf (wants (packetPairs m p) p) (m .mons)) _ (le-leb 1 (length (startsOf m p)) (some-start starts-both))
     where
+      some-start : Both (length turnsOf) (length (startsOf m p)) → 1 ≤ length (startsOf m p)
+      some-start x = positive (length turnsOf) (length (startsOf m p)) h x
+
       go : (a b c : Bool) → c ≡ true → true ≡ (a || (b || c))
       go true b c e = refl
       go false true c e = refl
       go false false c e = sym e
 
   pub reported-wants : {r : Bool} (acts : List ℕ) → SoundModel m → acts ≡ marks (m .mons) p → (m .filter ≡ 0 → ⊥)
-      → length (packetPairs m p) ≤ length (m .pairs) → r ≡ anyFrom (wantsAt acts (packetPairs m p) p) 0 mostMonitors
+      → length turnsOf ≡ 0 → r ≡ anyFrom (wantsAt acts (packetPairs m p) p) 0 mostMonitors
       → r ≡ reported m p
   unfolding reported
   reported-wants {r} acts f e n h q =
       q ∙ sym (wants-handles (packetPairs m p) p (m .mons) acts (f .mons-sound) e)
       ∙ sym (go (eqb (m .filter) 0) (someOf (wants (packetPairs m p) p) (m .mons)) _ (ne-eqb (m .filter) 0 n)
-      (lt-leb 1 (length (startsOf m p)) (omega (arith, starts-count m p))))
+      (lt-leb 1 (length (startsOf m p)) (none-left (length turnsOf) (length (startsOf m p)) h starts-both)))
     where
       go : (a b c : Bool) → a ≡ false → c ≡ false → (a || (b || c)) ≡ b
       go a true c e f = rw e

@@ -1,35 +1,38 @@
--- The starts of a packet: the search for a pair among the rows, one handle's turn and the loop over the handles.
+-- The starts of a packet: the search for a pair among the rows, and one handle's turn.
 -- Document 01, Watching, by history ("monitors take one packet in handle order, and a start takes its room at once").
 -- Assumes nothing.
-use Prim.Native.Nat.{ℕ, zero, suc, _+_, _*_, _/_, _%_, _≤_, _<_}
-use mathlib.Core.Path.{_≡_, sym, ap, _∙_, subst}
-use mathlib.Core.Bool.{true, false, _&&_, not}
-use mathlib.Core.List.{List, [], _∷_, _++_}
+use Prim.Native.Nat.{ℕ, zero, suc, _+_, _-_, _*_, _/_, _%_, _≤_, _<_}
+use mathlib.Core.Path.{_≡_, refl, sym, ap, _∙_, subst}
+use mathlib.Core.Bool.{Bool, true, false, _&&_, not}
+use mathlib.Core.List.{List, [], _∷_, _++_, append-nil}
 use native.Mathlib.Omega.{arith}
 use native.Mathlib.Numerals.{add-one}
-use lib.Dec.{ltb}
-use lib.ListN.{length, drop, getD, length-append, drop-of-length-le}
-use lib.Seq.{drop-cons}
-use borrow.Author.Tests.{eq-eqb, ne-eqb, lt-ltb, le-ltb, ltb-true}
-use Rattle.laws.specs.Tests.{pick, pick-true, pick-false, and-both, and-right, and-not-left, and-not-right}
-use Rattle.laws.specs.Loops.{some as someOf, some-step, some-stop, some-nil}
-use Rattle.laws.specs.Put.{put}
+use lib.ListN.{length, take, drop, getD, length-append, length-drop, drop-of-length-le}
+use lib.Seq.{drop-cons, getD-at, length-take-le}
+use borrow.Author.Tests.{ne-eqb, lt-ltb, le-ltb}
+use Rattle.laws.specs.Tests.{pick, pick-false, and-both, and-right, and-not-left, and-not-right}
+use Rattle.laws.specs.Loops.{some as someOf, some-step, some-stop, some-nil, each, when, when-false}
+use Rattle.laws.specs.Put.{put, put-nil, put-then}
 use Rattle.octets.specs.Little.{little, octetsOf, value}
 use Rattle.rule.specs.Base.{All, all-append}
-use Rattle.rule.specs.Engine.{find}
-use Rattle.model.specs.Types.{Model, Monitor, Packet, Pair, deviceOf, watched, withLists}
-use Rattle.model.specs.Watch.{isPair, holds, startPair, turn, turns}
+use Rattle.model.specs.Types.{Model, Packet, Pair, deviceOf, watched, withLists}
+use Rattle.model.specs.Watch.{isPair, holds, least, firstKeeping, without, hasRoom, fits, goesFor, staysFor, startPair}
+use Rattle.model.specs.Level.{level}
+use Rattle.model.specs.Events.{event, startEvent, stopEvent}
 use Rattle.model.specs.Block.{padded}
 use Rattle.blocks.specs.Bounds.{Fits}
 use Rattle.blocks.specs.Block.{Measured}
 use Rattle.blocks.specs.Updates.{measured-pairs}
-use Rattle.steps.specs.Typed.{pick-both, Sent}
-use Rattle.marks.specs.Marks.{opens, mark, marks, getD-marks}
-use Rattle.packets.specs.Changes.{starts, turn-starts}
+use Rattle.steps.specs.Typed.{Sent}
+use Rattle.steps.specs.Drops.{without-all}
+use Rattle.marks.specs.Marks.{opens}
+use Rattle.packets.specs.Changes.{starts, after, told}
 use Rattle.packets.specs.Keys.{deviceNumber, pair-true, pair-false, key-pairs}
-use Rattle.packets.specs.Writes.{fits-start, row-start}
-use Rattle.packets.specs.Moves.{noPair, pairAt, AtPair, pair-fits}
-use Rattle.model.specs.Layout.{countAt, mostMonitors, mostPairs, pairSize, pairsAt}
+use Rattle.packets.specs.Writes.{noPair, Wrote, fits-start, read-kept}
+use Rattle.packets.specs.News.{startRow, row-start, row-replaced}
+use Rattle.packets.specs.Weakest.{levelAt, levelIn, weakestBelow, Weakest, weakest-is, weakest-low, least-is, least-none, goes-is, stays-is}
+use Rattle.packets.specs.Moves.{pairAt, AtPair, pair-fits}
+use Rattle.model.specs.Layout.{countAt, mostMonitors, mostPairs, pairSize, pairsAt, rssiAt}
 
 -- s is the block of the state m, with n pairs
 pub record Holding (m : Model) (s : List ℕ) (n : ℕ) : Type 0 where
@@ -84,123 +87,214 @@ module _ (m : Model) (s : List ℕ) (n : ℕ) (p : Packet) (h key i : ℕ) (w : 
       (drop-of-length-le (m .pairs) {i = i} (omega (arith, w .count)))
       ∙ some-nil (isPair h (deviceOf p)))
 
--- the pairs after one handle's turn
-unfoldable pub after : ℕ → ℕ → Packet → List Pair → List Pair
-after a h p qs = pick (starts a h p qs) (qs ++ (startPair h p ∷ [])) qs
-
 -- what a turn leaves: the block of the state with these pairs, and their number
 pub record Turned (m : Model) (qs : List Pair) (s : List ℕ) (n : ℕ) : Type 0 where
   pub block : s ≡ padded (withLists m (m .mons) qs)
   pub count : n ≡ length qs
 
-module _ (m : Model) (s : List ℕ) (n : ℕ) (p : Packet) (a h : ℕ) (w : Holding m s n) where
-  left-out : starts a h p (m .pairs) ≡ false → Turned m (after a h p (m .pairs)) s n
-  unfolding after withLists
+-- and what it writes
+pub record Told (m : Model) (a h : ℕ) (p : Packet) (s : List ℕ) (n : ℕ) (out : List ℕ) (at : ℕ) (wrote : List ℕ) (r : ℕ) : Type 0 where
+  pub turned : Turned m (after a h p (m .pairs)) s n
+  pub answer : Wrote out at (told (m .prefix) a h p (m .pairs)) wrote r
+
+-- what a start is given: the key of its pair, which is not held, the packet's RSSI, an octet that says so
+pub record Asked (m : Model) (p : Packet) (a h key o : ℕ) : Type 0 where
+  pub sought : Sought p h key
+  pub rssi : o ≡ p .rssi
+  pub strong : opens a ≡ true
+  pub free : holds (m .pairs) h (deviceOf p) ≡ false
+
+-- an event of pair i, written into out at an index
+abbrev pub Event : Model → List ℕ → ℕ → ℕ → List ℕ → ℕ → List ℕ → ℕ → Type 0
+Event m s i state out at wrote r = AtPair m s i → Wrote out at (event (m .prefix) (pairAt m i) state) wrote r
+
+-- one write behind another
+pub wrote-both : (out : List ℕ) (at : ℕ) (ys zs : List ℕ) {o v : List ℕ} {r k : ℕ} → at ≤ length out → Wrote out at ys o r
+    → Wrote o (at + r) zs v k → Wrote out at (ys ++ zs) v (r + k)
+wrote-both out at ys zs {o} {v} {r} {k} h x y =
+    record {
+      octets = put-then out at ys (at + r) zs h (x .octets) (ap (λ (j : ℕ). at + j) (x .count)) (y .octets) refl;
+      count = ap (λ (j : ℕ). j + k) (x .count) ∙ ap (λ (j : ℕ). length ys + j) (y .count) ∙ sym (length-append ys zs);
+    }
+
+pub wrote-is : (out : List ℕ) (at : ℕ) (ys zs : List ℕ) {o : List ℕ} {r : ℕ} → ys ≡ zs → Wrote out at ys o r → Wrote out at zs o r
+wrote-is out at ys zs e x =
+    record { octets = x .octets ∙ ap (put out at) e; count = x .count ∙ ap (λ (l : List ℕ). length l) e }
+
+-- the levels that rows keep are those of the pairs, and the weakest row is the weakest pair's
+module _ (m : Model) (s : List ℕ) (n : ℕ) (w : Holding m s n) where
+  level-is : (j : ℕ) → j < length (m .pairs) → levelAt s j ≡ levelIn (m .pairs) j
+  unfolding levelAt levelIn pairAt
+  level-is j b =
+      let x : AtPair m s j = record { measured = w .measured; block = w .block; within = b } in
+      ap (λ (l : List ℕ). level (getD l (pairsAt + pairSize * j + rssiAt) 0)) (w .block)
+      ∙ ap level (read-kept m (w .measured) j noPair b (pair-fits x))
+
+  full-pairs : mostPairs ≤ n → length (m .pairs) ≡ mostPairs
+  full-pairs f = omega (arith, w .count, w .measured .pairs-most)
+
+  weakest-pair : mostPairs ≤ n → (i : ℕ) → i ≡ weakestBelow s mostPairs
+      → (i < length (m .pairs)) × Weakest (levelIn (m .pairs)) (length (m .pairs)) i
+  weakest-pair f i e =
+      let l : length (m .pairs) ≡ mostPairs = full-pairs f in
+      let k : i < length (m .pairs) = omega (arith, weakest-low s 63) in
+      let x : Weakest (levelAt s) mostPairs i = rw e (weakest-is s mostPairs) in (
+        k,
+        record {
+          most = λ j b. rw (← level-is i k, ← level-is j b) (x .most j (omega arith));
+          first = λ j b. rw (← level-is i k, ← level-is j (omega arith)) (x .first j b);
+        },
+      )
+
+-- no start
+module _ (m : Model) (s : List ℕ) (n : ℕ) (p : Packet) (a h : ℕ) (w : Holding m s n) (out : List ℕ) (at : ℕ) where
+  left-out : starts a h p (m .pairs) ≡ false → Told m a h p s n out at out 0
+  unfolding after told withLists
   left-out e =
-      let g : m .pairs ≡ pick (starts a h p (m .pairs)) (m .pairs ++ (startPair h p ∷ [])) (m .pairs) =
-      sym (pick-false (m .pairs ++ (startPair h p ∷ [])) (m .pairs) e) in
-      record { block = w .block ∙ same g; count = w .count ∙ ap length g }
+      let g : m .pairs ≡ pick (starts a h p (m .pairs)) (staysFor (level (p .rssi)) (m .pairs) ++ (startPair h p ∷ [])) (m .pairs) =
+      sym (pick-false (staysFor (level (p .rssi)) (m .pairs) ++ (startPair h p ∷ [])) (m .pairs) e) in
+      record {
+        turned = record { block = w .block ∙ same g; count = w .count ∙ ap length g };
+        answer = wrote-is out at [] _ (sym (when-false _ e)) (record { octets = sym (put-nil out at); count = refl });
+      }
     where
       same : {qs : List Pair} → m .pairs ≡ qs → padded m ≡ padded (withLists m (m .mons) qs)
       same {qs} e = ap (λ (x : List Pair). padded (withLists m (m .mons) x)) e
 
-  pub start-weak : (a / 4 % 2 ≡ 1 → ⊥) → Turned m (after a h p (m .pairs)) s n
+  pub start-weak : (a / 4 % 2 ≡ 1 → ⊥) → Told m a h p s n out at out 0
   unfolding starts opens
   start-weak e = left-out (and-not-left _ _ (ne-eqb (a / 4 % 2) 1 e))
 
-  pub start-full : mostPairs ≤ n → Turned m (after a h p (m .pairs)) s n
-  unfolding starts
-  start-full e =
-      left-out (and-not-right (opens a) _ (and-not-right (not (holds (m .pairs) h (deviceOf p))) _
-      (le-ltb (length (m .pairs)) mostPairs (omega (arith, w .count)))))
-
-  pub start-held : true ≡ holds (m .pairs) h (deviceOf p) → Turned m (after a h p (m .pairs)) s n
+  pub start-held : true ≡ holds (m .pairs) h (deviceOf p) → Told m a h p s n out at out 0
   unfolding starts
   start-held e =
       left-out (and-not-right (opens a) _ (and-not-left (not (holds (m .pairs) h (deviceOf p))) _ (ap not (sym e))))
 
-  pub start-done : {t : List ℕ} (key : ℕ) → Sought p h key → a / 4 % 2 ≡ 1 → n < mostPairs
-      → false ≡ holds (m .pairs) h (deviceOf p)
-      → t ≡ put (put s (pairsAt + pairSize * n) (octetsOf 8 key)) countAt ((n + 1) ∷ [])
-      → Turned m (after a h p (m .pairs)) t (n + 1)
-  unfolding after starts opens
-  start-done {t} key x o b f e =
+  pub start-low : mostPairs ≤ n → (i : ℕ) → i ≡ weakestBelow s mostPairs → level (p .rssi) ≤ levelAt s i → Told m a h p s n out at out 0
+  unfolding starts fits hasRoom
+  start-low f i e b =
+      let x = weakest-pair m s n w f i e in
+      let l : length (m .pairs) ≡ mostPairs = full-pairs m s n w f in
+      let y : level (p .rssi) ≤ levelIn (m .pairs) i = rw (← level-is m s n w i (x .0)) b in
+      left-out (and-not-right (opens a) _ (and-not-right (not (holds (m .pairs) h (deviceOf p))) _
+      (rw (le-ltb (length (m .pairs)) mostPairs (omega arith))
+      (le-ltb (least (level (p .rssi)) (m .pairs)) (level (p .rssi)) (least-none (m .pairs) i (x .0) (x .1) (level (p .rssi)) y)))))
+
+-- the pairs and the answer of a start, with room and without
+module _ (a h : ℕ) (p : Packet) (qs : List Pair) (y : starts a h p qs ≡ true) where
+  after-free : hasRoom qs ≡ true → qs ++ (startPair h p ∷ []) ≡ after a h p qs
+  unfolding after staysFor pick
+  after-free r = rw (y, r)
+
+  told-free : (prefix : List ℕ) → hasRoom qs ≡ true → event prefix (startPair h p) 1 ≡ told prefix a h p qs
+  unfolding told goesFor pick when each startEvent
+  told-free prefix r = rw (y, r)
+
+  after-full : hasRoom qs ≡ false → without (least (level (p .rssi)) qs) qs ++ (startPair h p ∷ []) ≡ after a h p qs
+  unfolding after staysFor pick
+  after-full r = rw (y, r)
+
+  told-full : (prefix : List ℕ) (q : Pair) → hasRoom qs ≡ false → firstKeeping (least (level (p .rssi)) qs) qs ≡ q ∷ []
+      → event prefix q 0 ++ event prefix (startPair h p) 1 ≡ told prefix a h p qs
+  unfolding told goesFor pick when each startEvent stopEvent
+  told-full prefix q r g = rw (y, r, g) (ap (λ (l : List ℕ). l ++ event prefix (startPair h p) 1) (sym (append-nil (event prefix q 0))))
+
+-- a start
+module _ (m : Model) (s : List ℕ) (n : ℕ) (p : Packet) (a h key o : ℕ) (w : Holding m s n) (x : Asked m p a h key o) where
+  begun : fits (level (p .rssi)) (m .pairs) ≡ true → starts a h p (m .pairs) ≡ true
+  unfolding starts
+  begun f = and-both (x .strong) (and-both (ap not (x .free)) f)
+
+  -- the state with these pairs and the pair at its start behind them, and the event that is written of it
+  last-told : (qs : List Pair) (k : ℕ) {t out wrote : List ℕ} {at r : ℕ} → All Fits qs → k ≡ length qs → k < mostPairs
+      → t ≡ padded (withLists m (m .mons) (qs ++ (startPair h p ∷ []))) → ((g : Model) → Event g t k 1 out at wrote r)
+      → Wrote out at (event (m .prefix) (startPair h p) 1) wrote r
+  unfolding withLists pairAt
+  last-told qs k {t} {out} {wrote} {at} {r} f c b e y =
+      let g : Model = withLists m (m .mons) (qs ++ (startPair h p ∷ [])) in
+      let l : length (qs ++ (startPair h p ∷ [])) ≡ length qs + 1 = length-append qs (startPair h p ∷ []) in
+      let v : AtPair g t k = record {
+        measured = measured-pairs m (w .measured) (qs ++ (startPair h p ∷ []))
+            (all-append Fits qs (startPair h p ∷ []) f (fits-start h p (x .sought .low) (x .sought .sent), tt)) (omega arith);
+        block = e;
+        within = omega arith;
+      } in
+      wrote-is out at (event (m .prefix) (getD (qs ++ (startPair h p ∷ [])) k noPair) 1) (event (m .prefix) (startPair h p) 1)
+      (ap (λ (q : Pair). event (m .prefix) q 1) (getD-at qs (startPair h p) [] noPair k (sym c)))
+      (y g v)
+
+  pub start-free : {t out wrote : List ℕ} {at r : ℕ} → n < mostPairs
+      → t ≡ put (put s (pairsAt + pairSize * n) (startRow key o)) countAt ((n + 1) ∷ [])
+      → ((g : Model) → Event g t n 1 out at wrote r) → Told m a h p t (n + 1) out at wrote r
+  unfolding fits hasRoom
+  start-free {t} {out} {wrote} {at} {r} b e f =
       let qs : List Pair = m .pairs ++ (startPair h p ∷ []) in
-      let y : starts a h p (m .pairs) ≡ true =
-      and-both (eq-eqb (a / 4 % 2) 1 o)
-      (and-both (ap not (sym f)) (lt-ltb (length (m .pairs)) mostPairs (omega (arith, w .count)))) in
-      let g : qs ≡ pick (starts a h p (m .pairs)) qs (m .pairs) = sym (pick-true qs (m .pairs) y) in
+      let room : hasRoom (m .pairs) ≡ true = lt-ltb (length (m .pairs)) mostPairs (omega (arith, w .count)) in
+      let y : starts a h p (m .pairs) ≡ true = begun (rw room) in
       let l : length qs ≡ length (m .pairs) + 1 = length-append (m .pairs) (startPair h p ∷ []) in
+      let z : t ≡ padded (withLists m (m .mons) qs) =
+      e ∙ ap (λ (v : List ℕ). put (put v (pairsAt + pairSize * n) (startRow key o)) countAt ((n + 1) ∷ [])) (w .block)
+      ∙ ap (λ (j : ℕ). put (put (padded m) (pairsAt + pairSize * j) (startRow key o)) countAt ((j + 1) ∷ [])) (w .count)
+      ∙ ap (λ (j : ℕ). put (put (padded m) (pairsAt + pairSize * length (m .pairs)) (startRow j o)) countAt ((length (m .pairs) + 1) ∷ []))
+      (x .sought .number)
+      ∙ ap (λ (j : ℕ). put (put (padded m) (pairsAt + pairSize * length (m .pairs)) (startRow (h + 256 * deviceNumber p) j)) countAt
+      ((length (m .pairs) + 1) ∷ [])) (x .rssi)
+      ∙ row-start m (w .measured) h p (x .sought .low) (x .sought .sent) (omega (arith, w .count)) in
+      let g : qs ≡ after a h p (m .pairs) = after-free a h p (m .pairs) y room in
       record {
-        block = e
-            ∙ ap (λ (z : List ℕ). put (put z (pairsAt + pairSize * n) (octetsOf 8 key)) countAt ((n + 1) ∷ [])) (w .block)
-            ∙ ap (λ (j : ℕ). put (put (padded m) (pairsAt + pairSize * j) (octetsOf 8 key)) countAt ((j + 1) ∷ [])) (w .count)
-            ∙ ap (λ (j : ℕ). put (put (padded m) (pairsAt + pairSize * length (m .pairs)) (octetsOf 8 j)) countAt
-            ((length (m .pairs) + 1) ∷ [])) (x .number)
-            ∙ row-start m (w .measured) h p (x .low) (x .sent) (omega (arith, w .count))
-            ∙ ap (λ (z : List Pair). padded (withLists m (m .mons) z)) g;
-        count = ap (λ (j : ℕ). j + 1) (w .count) ∙ sym l ∙ ap length g;
+        turned = record {
+          block = z ∙ ap (λ (v : List Pair). padded (withLists m (m .mons) v)) g;
+          count = ap (λ (j : ℕ). j + 1) (w .count) ∙ sym l ∙ ap length g;
+        };
+        answer = wrote-is out at (event (m .prefix) (startPair h p) 1) _ (told-free a h p (m .pairs) y (m .prefix) room)
+            (last-told (m .pairs) n (w .measured .fit) (w .count) b z f);
       }
 
--- the pairs stay ones that fit, at most 64
-turns-fit : (mons : List (ℕ × Monitor)) (p : Packet) (n : ℕ) (qs : List Pair) → n ≤ mostMonitors → Sent p → All Fits qs
-    → length qs ≤ mostPairs
-    → All Fits (turns mons p n qs) × (length (turns mons p n qs) ≤ mostPairs)
-unfolding turns starts
-turns-fit mons p zero qs b t a h = (a, h)
-turns-fit mons p (suc n) qs b t a h = go (turns mons p n qs) (turns-fit mons p n qs (omega arith) t a h)
-  where
-    go : (l : List Pair) → All Fits l × (length l ≤ mostPairs) → All Fits (turn (find mons n) p n l) × (length (turn
-        (find mons n) p n l) ≤ mostPairs)
-    go l r =
-        let m : ℕ = mark (find mons n) p in
-        subst (λ (x : List Pair). All Fits x × (length x ≤ mostPairs)) (sym (turn-starts (find mons n) p n l))
-        (pick-both (λ (x : List Pair). All Fits x × (length x ≤ mostPairs)) (starts m n p l) (l ++ (startPair n p ∷ [])) l
-        (λ e.
-        let u : (not (holds l n (deviceOf p)) && ltb (length l) mostPairs) ≡ true =
-        and-right (opens m) (not (holds l n (deviceOf p)) && ltb (length l) mostPairs) e in
-        let v : length l < mostPairs = ltb-true (length l) mostPairs (and-right (not (holds l n (deviceOf p))) (ltb
-        (length l) mostPairs) u) in (
-          all-append Fits l (startPair n p ∷ []) (r .0) (fits-start n p (omega arith) t, tt),
-          rw (length-append l (startPair n p ∷ [])) (omega arith),
-        ))
-        (λ e. r))
-
-module _ (m : Model) (p : Packet) (f : Measured m) (t : Sent p) where
-  pub turns-measured : (h : ℕ) → h ≤ mostMonitors → Measured (withLists m (m .mons) (turns (m .mons) p h (m .pairs)))
-  turns-measured h b =
-      let r = turns-fit (m .mons) p h (m .pairs) b t (f .fit) (f .pairs-most) in
-      measured-pairs m f (turns (m .mons) p h (m .pairs)) (r .0) (r .1)
-
-  pub turns-none : (s : List ℕ) (n : ℕ) → s ≡ padded m → n ≡ length (m .pairs)
-      → Turned m (turns (m .mons) p 0 (m .pairs)) s n
-  unfolding turns withLists
-  turns-none s n e c = record { block = e; count = c }
-
-  -- a turn of the loop over the handles
-  pub turns-turn : (acts : List ℕ) (h a : ℕ) {s u : List ℕ} {n k : ℕ} → h < mostMonitors → acts ≡ marks (m .mons) p
-      → a ≡ getD acts h 0
-      → Turned m (turns (m .mons) p h (m .pairs)) s n
-      → ((g : Model) → Holding g s n → Turned g (after a h p (g .pairs)) u k)
-      → Turned m (turns (m .mons) p (h + 1) (m .pairs)) u k
-  unfolding after withLists turns
-  turns-turn acts h a {s} {u} {n} {k} b e r w y =
-      let qs : List Pair = turns (m .mons) p h (m .pairs) in
-      let g : Model = withLists m (m .mons) qs in
-      let z : Holding g s n = record {
-        measured = turns-measured h
-            (omega arith);
-        block = w .block;
-        count = w .count;
-      } in
-      let o : a ≡ mark (find (m .mons) h) p =
-      r ∙ ap (λ (l : List ℕ). getD l h 0) e ∙ getD-marks (m .mons) p h b in
-      let c : pick (starts a h p qs) (qs ++ (startPair h p ∷ [])) qs ≡ turns (m .mons) p (h + 1) (m .pairs) =
-      ap (λ (x : ℕ). pick (starts x h p qs) (qs ++ (startPair h p ∷ [])) qs) o
-      ∙ sym (turn-starts (find (m .mons) h) p h qs) ∙ ap (λ (j : ℕ). turns (m .mons) p j (m .pairs)) (sym
-      (add-one h)) in
-      let v : Turned g (after a h p qs) u k = y g z in
+  pub start-full : (i : ℕ) {t out o1 wrote : List ℕ} {at r1 r2 : ℕ} → mostPairs ≤ n → i ≡ weakestBelow s mostPairs
+      → levelAt s i < level (p .rssi) → at ≤ length out
+      → Event m s i 0 out at o1 r1
+      → t ≡ put (put s (pairsAt + pairSize * i) (take (pairSize * (mostPairs - 1 - i)) (drop (pairsAt + pairSize * (i + 1)) s)))
+      (pairsAt + pairSize * (mostPairs - 1)) (startRow key o)
+      → ((g : Model) → Event g t (mostPairs - 1) 1 o1 (at + r1) wrote r2) → Told m a h p t n out at wrote (r1 + r2)
+  unfolding fits hasRoom pairAt
+  start-full i {t} {out} {o1} {wrote} {at} {r1} {r2} full e b c f q k =
+      let d = weakest-pair m s n w full i e in
+      let l : length (m .pairs) ≡ mostPairs = full-pairs m s n w full in
+      let lv : ℕ = level (p .rssi) in
+      let ab : levelIn (m .pairs) i < lv = rw (← level-is m s n w i (d .0)) b in
+      let room : hasRoom (m .pairs) ≡ false = le-ltb (length (m .pairs)) mostPairs (omega arith) in
+      let li : least lv (m .pairs) ≡ levelIn (m .pairs) i = least-is (m .pairs) i (d .0) (d .1) lv ab in
+      let y : starts a h p (m .pairs) ≡ true = begun (rw (room, li) (lt-ltb (levelIn (m .pairs) i) lv ab)) in
+      let rest : List Pair = take i (m .pairs) ++ drop (i + 1) (m .pairs) in
+      let st : without (least lv (m .pairs)) (m .pairs) ≡ rest =
+      ap (λ (j : ℕ). without j (m .pairs)) li ∙ stays-is (m .pairs) i (d .0) (d .1) in
+      let go : firstKeeping (least lv (m .pairs)) (m .pairs) ≡ getD (m .pairs) i noPair ∷ [] =
+      ap (λ (j : ℕ). firstKeeping j (m .pairs)) li ∙ goes-is (m .pairs) i (d .0) (d .1) in
+      let lt : length (take i (m .pairs)) ≡ i = length-take-le i (m .pairs) (omega (arith, d .0)) in
+      let ld : length (drop (i + 1) (m .pairs)) ≡ length (m .pairs) - (i + 1) = length-drop (i + 1) (m .pairs) in
+      let lr : length rest ≡ mostPairs - 1 = length-append (take i (m .pairs)) (drop (i + 1) (m .pairs)) ∙ omega (arith, d .0) in
+      let z : t ≡ padded (withLists m (m .mons) (rest ++ (startPair h p ∷ []))) =
+      q ∙ ap (λ (v : List ℕ). put (put v (pairsAt + pairSize * i) (take (pairSize * (mostPairs - 1 - i)) (drop (pairsAt + pairSize * (i + 1)) v)))
+      (pairsAt + pairSize * (mostPairs - 1)) (startRow key o)) (w .block)
+      ∙ ap (λ (j : ℕ). put (put (padded m) (pairsAt + pairSize * i)
+      (take (pairSize * (mostPairs - 1 - i)) (drop (pairsAt + pairSize * (i + 1)) (padded m))))
+      (pairsAt + pairSize * (mostPairs - 1)) (startRow j o)) (x .sought .number)
+      ∙ ap (λ (j : ℕ). put (put (padded m) (pairsAt + pairSize * i)
+      (take (pairSize * (mostPairs - 1 - i)) (drop (pairsAt + pairSize * (i + 1)) (padded m))))
+      (pairsAt + pairSize * (mostPairs - 1)) (startRow (h + 256 * deviceNumber p) j)) (x .rssi)
+      ∙ row-replaced m (w .measured) h p (x .sought .low) (x .sought .sent) i l (omega (arith, d .0)) in
+      let g : rest ++ (startPair h p ∷ []) ≡ after a h p (m .pairs) =
+      ap (λ (v : List Pair). v ++ (startPair h p ∷ [])) (sym st) ∙ after-full a h p (m .pairs) y room in
+      let ln : length (rest ++ (startPair h p ∷ [])) ≡ mostPairs = length-append rest (startPair h p ∷ []) ∙ omega arith in
+      let fit : All Fits rest = subst (All Fits) st (without-all Fits (least lv (m .pairs)) (m .pairs) (w .measured .fit)) in
+      let v : Wrote out at (event (m .prefix) (getD (m .pairs) i noPair) 0) o1 r1 =
+      f (record { measured = w .measured; block = w .block; within = d .0 }) in
       record {
-        block = v .block ∙ ap (λ (x : List Pair). padded (withLists m (m .mons) x)) c;
-        count = v .count ∙ ap length c;
+        turned = record {
+          block = z ∙ ap (λ (j : List Pair). padded (withLists m (m .mons) j)) g;
+          count = w .count ∙ l ∙ sym ln ∙ ap length g;
+        };
+        answer = wrote-is out at _ _ (told-full a h p (m .pairs) y (m .prefix) (getD (m .pairs) i noPair) room go)
+            (wrote-both out at (event (m .prefix) (getD (m .pairs) i noPair) 0) (event (m .prefix) (startPair h p) 1) c v
+            (last-told rest (mostPairs - 1) fit (sym lr) (omega arith) z k));
       }

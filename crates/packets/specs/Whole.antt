@@ -10,13 +10,13 @@ use lib.Dec.{leb, eqb}
 use lib.ListN.{length, drop, getD, length-append}
 use borrow.Author.Tests.{leb-true, eqb-true, lt-ltb, le-leb, eq-eqb, lt-leb, ne-eqb}
 use Rattle.laws.specs.Tests.{and-left, and-right, and-both, and-not-left, and-not-right}
-use Rattle.laws.specs.Loops.{every, each, when}
-use Rattle.laws.specs.Put.{put, put-then}
+use Rattle.laws.specs.Loops.{every, when}
+use Rattle.laws.specs.Put.{put}
 use Rattle.octets.specs.Little.{little, octetsOf, isOctet, octets-mod}
 use Rattle.model.specs.Types.{Model, Packet, Pair, withLists}
 use Rattle.model.specs.Frames.{packet, hasPacket, packetOf}
-use Rattle.model.specs.Events.{startEvent, packetReports}
-use Rattle.model.specs.Watch.{packetMove, turns, packetPairs, startsOf, reported, packetAnswer}
+use Rattle.model.specs.Events.{packetReports}
+use Rattle.model.specs.Watch.{packetMove, packetPairs, reported, packetAnswer}
 use Rattle.model.specs.Step.{stepTyped, answerTyped}
 use Rattle.model.specs.Sound.{soundPair, soundModel}
 use Rattle.model.specs.Block.{padded, advanced}
@@ -24,15 +24,15 @@ use Rattle.blocks.specs.Facts.{SoundModel, SoundPair, sound-facts, pair-facts}
 use Rattle.blocks.specs.Bounds.{Window, window-facts}
 use Rattle.blocks.specs.Block.{Measured, sound-measured, getD-count, read-filter, padded-length, length-padded}
 use Rattle.blocks.specs.Updates.{advanced-moved}
-use Rattle.steps.specs.Starts.{starts-behind}
 use Rattle.steps.specs.Typed.{packet-sent}
 use Rattle.steps.specs.Stepped.{Stepped, Within, rest-put, rest-further}
 use Rattle.marks.specs.Marks.{marksAt, marks-padded}
 use Rattle.packets.specs.Keys.{payload-device}
 use Rattle.packets.specs.Held.{Given, Roomy}
-use Rattle.packets.specs.Starts.{Holding, Turned, turns-measured}
-use Rattle.packets.specs.Reports.{anyFrom, wantsAt, reported-off, reported-start, reported-wants}
-use Rattle.packets.specs.Answers.{Wrote}
+use Rattle.packets.specs.Writes.{Wrote}
+use Rattle.packets.specs.Starts.{Holding, wrote-both}
+use Rattle.packets.specs.Handles.{Turns, turns-measured}
+use Rattle.packets.specs.Reports.{anyFrom, wantsAt, turnsOf, reported-off, reported-start, reported-wants}
 use Rattle.marks.specs.Fields.{Clamped, Framed, packet-framed}
 use Rattle.model.specs.Layout.{blockSize, countAt, filterAt, mostData, mostMonitors, mostPairs, positionAt}
 
@@ -41,6 +41,11 @@ pub octets-known : (l : List ℕ) → ((i : ℕ) → getD l i 0 < 256) → every
 unfolding every
 octets-known [] f = refl
 octets-known (x ∷ l) f = and-both (lt-ltb x 256 (f 0)) (octets-known l (λ i. f (suc i)))
+
+-- a packet's RSSI stands last in its payload
+pub packet-rssi : (l : List ℕ) → getD l (length l - 1) 0 ≡ packetOf l .rssi
+unfolding packetOf
+packet-rssi l = refl
 
 -- no window of a sound state is full before the last number
 roomy-all : (m : Model) → m .position < 4294967295 → (qs : List Pair) → every (soundPair m) qs ≡ true → Roomy qs
@@ -113,29 +118,24 @@ module _ (m : Model) (s l acts : List ℕ) (dev n : ℕ) (b : Begun m s l acts d
   moves-given = b .given
 
   -- what the writers of the answer are given
-  pub starts-holding : {t : List ℕ} {k : ℕ}
-      → Turned (afterMoves m (packetOf l)) (turns (afterMoves m (packetOf l) .mons) (packetOf l) mostMonitors (afterMoves m
-      (packetOf l) .pairs)) t k
+  pub starts-holding : {t out o : List ℕ} {k w : ℕ} → Turns (afterMoves m (packetOf l)) (packetOf l) mostMonitors t k out o w
       → Holding (afterStarts m (packetOf l)) t k
   unfolding afterMoves afterStarts withLists packetPairs
-  starts-holding {t} {k} w =
+  starts-holding {t} {out} {o} {k} {w} x =
       record {
         measured = turns-measured (afterMoves m (packetOf l)) (packetOf l)
             (Rattle.packets.specs.Held.all-measured m (packetOf l) (b .measured) (b .given .sent) (b .roomy))
             (b .given .sent) mostMonitors
             (omega arith);
-        block = w .block;
-        count = w .count;
+        block = x .turned .block;
+        count = x .turned .count;
       }
 
-  -- the start events, written from the block
-  pub starts-written : {t out o : List ℕ} {k w : ℕ} → Holding (afterStarts m (packetOf l)) t k → n ≤ k
-      → ((g : Model) → Holding g t (n + (k - n)) → Wrote out 0 (each (startEvent (g .prefix)) (drop n (g .pairs))) o w)
-      → Wrote out 0 (each (startEvent (m .prefix)) (drop n (packetPairs m (packetOf l)))) o w
-  unfolding afterStarts withLists
-  starts-written {t} {out} {o} {k} {w} h y f =
-      let e : n + (k - n) ≡ k = omega arith in
-      f (afterStarts m (packetOf l)) (record { measured = h .measured; block = h .block; count = e ∙ h .count })
+  -- what the turns wrote
+  pub turns-wrote : {t out o : List ℕ} {k w : ℕ} → Turns (afterMoves m (packetOf l)) (packetOf l) mostMonitors t k out o w
+      → Wrote out 0 (turnsOf m (packetOf l)) o w
+  unfolding afterMoves withLists
+  turns-wrote x = x .answer
 
   -- whether the packet is reported
   pub told-off : {t : List ℕ} {k : ℕ} → Holding (afterStarts m (packetOf l)) t k → getD t filterAt 0 ≡ 0
@@ -145,25 +145,23 @@ module _ (m : Model) (s l acts : List ℕ) (dev n : ℕ) (b : Begun m s l acts d
       reported-off m (packetOf l)
       (sym (ap (λ (x : List ℕ). getD x filterAt 0) (h .block) ∙ read-filter (afterStarts m (packetOf l))) ∙ e)
 
-  pub told-start : {t : List ℕ} {k : ℕ} → Holding (afterStarts m (packetOf l)) t k → n < k
-      → true ≡ reported m (packetOf l)
-  unfolding afterStarts withLists
-  told-start {t} {k} h y = reported-start m (packetOf l) (omega (arith, h .count, b .count))
+  pub told-start : {k : ℕ} → k ≡ length (turnsOf m (packetOf l)) → 0 < k → true ≡ reported m (packetOf l)
+  told-start e y = reported-start m (packetOf l) (omega arith)
 
-  pub told-wants : {t : List ℕ} {k : ℕ} {r : Bool} → Holding (afterStarts m (packetOf l)) t k → (getD t filterAt 0 ≡ 0
-      → ⊥) → k ≤ n
+  pub told-wants : {t : List ℕ} {k w : ℕ} {r : Bool} → Holding (afterStarts m (packetOf l)) t k → (getD t filterAt 0 ≡ 0 → ⊥)
+      → w ≡ length (turnsOf m (packetOf l)) → w ≤ 0
       → r ≡ anyFrom (wantsAt acts (afterStarts m (packetOf l) .pairs) (packetOf l)) 0 mostMonitors → r ≡ reported m (packetOf l)
   unfolding afterStarts withLists
-  told-wants {t} {k} {r} h e y q =
+  told-wants {t} {k} {w} {r} h e c y q =
       reported-wants m (packetOf l) acts (b .facts) (b .given .octets)
       (λ z. e (ap (λ (x : List ℕ). getD x filterAt 0) (h .block) ∙ read-filter (afterStarts m (packetOf l)) ∙ z))
-      (omega (arith, h .count, b .count)) q
+      (omega arith) q
 
   -- the whole
   pub packet-stepped : {t u out o v : List ℕ} {k w r : ℕ} {told : Bool}
       → Holding (afterStarts m (packetOf l)) t k
       → told ≡ reported m (packetOf l)
-      → Wrote out 0 (each (startEvent (m .prefix)) (drop n (packetPairs m (packetOf l)))) o w
+      → Wrote out 0 (turnsOf m (packetOf l)) o w
       → Wrote o w (when told (packetReports (packetOf l))) v r
       → u ≡ advanced t
       → Stepped m (packet (packetOf l)) u out v (w + r)
@@ -171,18 +169,15 @@ module _ (m : Model) (s l acts : List ℕ) (dev n : ℕ) (b : Begun m s l acts d
   packet-stepped {t} {u} {out} {o} {v} {k} {w} {r} {told} h e x y q =
       let p : Packet = packetOf l in
       let g : Model = withLists m (m .mons) (packetPairs m p) in
-      let a : List ℕ = each (startEvent (m .prefix)) (drop n (packetPairs m p)) in
+      let a : List ℕ = turnsOf m p in
       let c : List ℕ = when told (packetReports p) in
-      let ans : a ++ c ≡ each (startEvent (m .prefix)) (startsOf m p) ++ when (reported m p) (packetReports p) =
-      ap (λ (j : ℕ). each (startEvent (m .prefix)) (drop j (packetPairs m p)) ++ c) (b .count)
-      ∙ ap (λ (x : List Pair). each (startEvent (m .prefix)) x ++ c) (starts-behind m p)
-      ∙ ap (λ (j : Bool). each (startEvent (m .prefix)) (startsOf m p) ++ when j (packetReports p)) e in
+      let ans : a ++ c ≡ a ++ when (reported m p) (packetReports p) = ap (λ (j : Bool). a ++ when j (packetReports p)) e in
       let n : length t ≡ blockSize = ap length (h .block) ∙ length-padded g (h .measured) in
+      let z : Wrote out 0 (a ++ c) v (w + r) = wrote-both out 0 a c (omega arith) x (rw (zero-add w) y) in
       record {
         block = q ∙ advanced-moved g t (h .block) (omega arith) (omega (arith, b .below));
-        octets = put-then out 0 a w c (omega arith) (x .octets) (x .count ∙ sym (zero-add (length a))) (y .octets) ans;
-        count = ap (λ (j : ℕ). j + r) (x .count) ∙ ap (λ (j : ℕ). length a + j) (y .count) ∙ sym (length-append a c)
-            ∙ ap (λ (z : List ℕ). length z) ans;
+        octets = z .octets ∙ ap (put out 0) ans;
+        count = z .count ∙ ap (λ (j : List ℕ). length j) ans;
       }
 
 -- octets past the start events and the report are as they were

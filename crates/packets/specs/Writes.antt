@@ -1,4 +1,4 @@
--- Writes inside the pair rows of a block: a pair changed, a pair at its start. Document 01, The image (A2), Watching,
+-- Writes inside the pair rows of a block: a pair changed, a pair at its start. Document 01, The image (A3), Watching,
 -- by history. Assumes nothing.
 use Prim.Native.Nat.{ℕ, _+_, _-_, _*_, _/_, _%_, _≤_, _<_}
 use mathlib.Core.Path.{_≡_, refl, sym, ap, _∙_}
@@ -6,24 +6,34 @@ use mathlib.Core.List.{List, [], _∷_, _++_}
 use native.Mathlib.Omega.{arith}
 use native.Mathlib.Nat.{add-zero}
 use lib.ListN.{length, take, drop, getD, set, length-drop, take-append-drop}
-use lib.Seq.{length-take-le, drop-drop, set-getD}
+use lib.Seq.{length-take-le, drop-drop, getD-drop, set-getD}
 use Rattle.laws.specs.Loops.{every-nil}
 use Rattle.laws.specs.Put.{put, put-left, put-right, length-put}
-use Rattle.laws.specs.Rows.{row, put-whole}
+use Rattle.laws.specs.Rows.{row, getD-row, put-whole}
 use Rattle.octets.specs.Little.{little, octetsOf, value, length-octets, octets-value}
 use Rattle.model.specs.Types.{Model, Packet, Pair, device, deviceOf, withLists}
 use Rattle.model.specs.Level.{addRssi}
-use Rattle.model.specs.Watch.{withSilent, gathered, startPair}
+use Rattle.model.specs.Watch.{withSilent, withKept, gathered, startPair}
 use Rattle.model.specs.Image.{pairRow, pairIn}
 use Rattle.model.specs.Block.{padTo, padded}
 use Rattle.blocks.specs.Bounds.{Fits}
 use Rattle.blocks.specs.Places.{pairIn-place}
-use Rattle.blocks.specs.Block.{Measured, length-padded, row-pairs, row-pairs-zero}
-use Rattle.blocks.specs.Ends.{change-pair, add-pair}
-use Rattle.blocks.specs.Fields.{windowOf, length-window, put-silent, put-gathered, put-start}
+use Rattle.blocks.specs.Block.{Measured, length-padded, row-pairs}
+use Rattle.blocks.specs.Ends.{change-pair}
+use Rattle.blocks.specs.Fields.{windowOf, length-window, put-silent, put-kept, put-gathered}
 use Rattle.steps.specs.Typed.{Sent}
 use Rattle.packets.specs.Keys.{deviceNumber, device-octets, device-seven, little-pairs}
-use Rattle.model.specs.Layout.{blockSize, countAt, mostMonitors, mostPairs, pairSize, pairsAt, windowSize}
+use Rattle.model.specs.Layout.{blockSize, mostMonitors, mostPairs, pairSize, pairsAt, rssiAt, windowSize}
+
+-- the pair read past the end
+unfoldable pub noPair : Pair
+noPair =
+    record { handle = 0; kind = 0; address = []; silent = 0; ticks = 0; packets = 0; sum = 0; kept = 0; event = 0; adv = [] }
+
+-- ys written into out at an index, and how many
+pub record Wrote (out : List ℕ) (at : ℕ) (ys after : List ℕ) (n : ℕ) : Type 0 where
+  pub octets : after ≡ put out at ys
+  pub count : n ≡ length ys
 
 -- a write inside a part is that part, with the write in it, written whole
 pub put-inside : {A : Type 0} (t : List A) (at n off : ℕ) (ys : List A) → at + n ≤ length t → off + length ys ≤ n
@@ -88,6 +98,25 @@ fits-silent q f =
       ticks-most = f .ticks-most;
       packets-most = f .packets-most;
       sum-most = f .sum-most;
+      kept-octet = f .kept-octet;
+      event-most = f .event-most;
+      adv-most = f .adv-most;
+      adv-octets = f .adv-octets;
+    }
+
+pub fits-kept : (o : ℕ) (q : Pair) → o < 256 → Fits q → Fits (withKept q o)
+unfolding withKept
+fits-kept o q b f =
+    record {
+      handle-most = f .handle-most;
+      kind-most = f .kind-most;
+      address-length = f .address-length;
+      address-octets = f .address-octets;
+      silent-most = f .silent-most;
+      ticks-most = f .ticks-most;
+      packets-most = f .packets-most;
+      sum-most = f .sum-most;
+      kept-octet = b;
       event-most = f .event-most;
       adv-most = f .adv-most;
       adv-octets = f .adv-octets;
@@ -105,6 +134,7 @@ fits-gathered p q t f h =
       ticks-most = f .ticks-most;
       packets-most = omega arith;
       sum-most = native.Mathlib.Nat.mod-lt _ (omega arith);
+      kept-octet = t .rssi-octet;
       event-most = t .event-most;
       adv-most = t .adv-short;
       adv-octets = t .adv-octets;
@@ -122,6 +152,7 @@ fits-start h p b t =
       ticks-most = omega arith;
       packets-most = omega arith;
       sum-most = omega arith;
+      kept-octet = t .rssi-octet;
       event-most = omega arith;
       adv-most = omega arith;
       adv-octets = every-nil Rattle.octets.specs.Little.isOctet;
@@ -137,6 +168,21 @@ module _ (m : Model) (f : Measured m) (i : ℕ) (d : Pair) (b : i < length (m .p
       (rw (length-octets 2 0) (omega arith))
       (put-silent (getD (m .pairs) i d) (g .address-length) 0)
 
+  pub row-kept : (o : ℕ) → o < 256 → put (padded m) (pairsAt + pairSize * i + rssiAt) (o ∷ [])
+      ≡ padded (withLists m (m .mons) (set (m .pairs) i (withKept (getD (m .pairs) i d) o)))
+  row-kept o h =
+      put-row m f i d (withKept (getD (m .pairs) i d) o) (fits-kept o (getD (m .pairs) i d) h g) b rssiAt (o ∷ []) (omega arith)
+      (put-kept (getD (m .pairs) i d) (g .address-length) o)
+
+  pub read-kept : getD (padded m) (pairsAt + pairSize * i + rssiAt) 0 ≡ getD (m .pairs) i d .kept
+  unfolding pairIn
+  read-kept =
+      let e : pairsAt + pairSize * i + rssiAt ≡ pairsAt + (pairSize * i + rssiAt) = omega arith in
+      ap (λ (k : ℕ). getD (padded m) k 0) e ∙ sym (getD-drop pairsAt (padded m) (pairSize * i + rssiAt) 0)
+      ∙ sym (getD-row pairSize i rssiAt (drop pairsAt (padded m)) 0 (omega arith))
+      ∙ ap (λ (r : List ℕ). getD r rssiAt 0) (row-pairs m f i d b)
+      ∙ ap (λ (q : Pair). q .kept) (pairIn-place (getD (m .pairs) i d) g)
+
   pub read-packets : little 4 (padded m) (pairsAt + pairSize * i + 11) ≡ getD (m .pairs) i d .packets
   unfolding pairIn
   read-packets =
@@ -151,22 +197,22 @@ module _ (m : Model) (f : Measured m) (i : ℕ) (d : Pair) (b : i < length (m .p
       → put (padded m) (pairsAt + pairSize * i + 11)
       (windowOf (little 4 (padded m) (pairsAt + pairSize * i + 11) + 1) (addRssi (little 8 (padded m) (pairsAt + pairSize * i + 15))
       (p .rssi))
-      (p .event) (p .adv))
+      (p .rssi) (p .event) (p .adv))
       ≡ padded (withLists m (m .mons) (set (m .pairs) i (gathered p (getD (m .pairs) i d))))
   row-gathered p t h =
       let q : Pair = getD (m .pairs) i d in
-      let w : List ℕ = windowOf (q .packets + 1) (addRssi (q .sum) (p .rssi)) (p .event) (p .adv) in
-      let n : length w ≡ windowSize = length-window (q .packets + 1) (addRssi (q .sum) (p .rssi)) (p .event) (p .adv)
+      let w : List ℕ = windowOf (q .packets + 1) (addRssi (q .sum) (p .rssi)) (p .rssi) (p .event) (p .adv) in
+      let n : length w ≡ windowSize = length-window (q .packets + 1) (addRssi (q .sum) (p .rssi)) (p .rssi) (p .event) (p .adv)
       (t .adv-short) in
       ap (λ (k : ℕ). put (padded m) (pairsAt + pairSize * i + 11) (windowOf (k + 1)
-      (addRssi (little 8 (padded m) (pairsAt + pairSize * i + 15)) (p .rssi)) (p .event) (p .adv))) read-packets
+      (addRssi (little 8 (padded m) (pairsAt + pairSize * i + 15)) (p .rssi)) (p .rssi) (p .event) (p .adv))) read-packets
       ∙ ap (λ (k : ℕ). put (padded m) (pairsAt + pairSize * i + 11) (windowOf (q .packets + 1) (addRssi k (p .rssi))
-      (p .event) (p .adv)))
+      (p .rssi) (p .event) (p .adv)))
       read-sum
       ∙ put-row m f i d (gathered p q) (fits-gathered p q t g h) b 11 w (omega arith)
       (put-gathered q (g .address-length) p (g .adv-most) (t .adv-short))
 
--- a start: its key written over the empty row behind the pairs, and the number of pairs
+-- the octets of a key
 pub key-octets : (h : ℕ) (p : Packet) → h < mostMonitors → Sent p → octetsOf 8 (h + 256 * deviceNumber p)
     ≡ h ∷ p .kind ∷ p .address
 unfolding deviceNumber deviceOf device octetsOf
@@ -178,22 +224,3 @@ key-octets h p b t =
     ap (λ (k : ℕ). octetsOf k (value (p .kind ∷ p .address))) (sym n)
     ∙ octets-value (p .kind ∷ p .address) (device-octets p t) in
     rw (m, d) (ap (λ (l : List ℕ). h ∷ l) o)
-
-pub row-start : (m : Model) → Measured m → (h : ℕ) (p : Packet) → h < mostMonitors → Sent p → length (m .pairs) < mostPairs
-    → put (put (padded m) (pairsAt + pairSize * length (m .pairs)) (octetsOf 8 (h + 256 * deviceNumber p))) countAt
-    ((length (m .pairs) + 1) ∷ [])
-    ≡ padded (withLists m (m .mons) (m .pairs ++ (startPair h p ∷ [])))
-row-start m f h p b t k =
-    let c : ℕ = length (m .pairs) in
-    let n : length (padded m) ≡ blockSize = length-padded m f in
-    let z : pairsAt + pairSize * c ≡ pairsAt + pairSize * c + 0 = omega arith in
-    let ks : List ℕ = h ∷ p .kind ∷ p .address in
-    let e : put (padded m) (pairsAt + pairSize * c) (octetsOf 8 (h + 256 * deviceNumber p))
-    ≡ put (padded m) (pairsAt + pairSize * c) (padTo pairSize (pairRow (startPair h p))) =
-    ap (λ (l : List ℕ). put (padded m) (pairsAt + pairSize * c) l) (key-octets h p b t)
-    ∙ ap (λ (j : ℕ). put (padded m) j ks) z
-    ∙ put-inside (padded m) (pairsAt + pairSize * c) pairSize 0 ks (omega arith) (omega (arith, t .address-six))
-    ∙ ap (λ (r : List ℕ). put (padded m) (pairsAt + pairSize * c) (put r 0 ks))
-    (part-row (padded m) c ∙ row-pairs-zero m f c (omega arith) k)
-    ∙ ap (λ (r : List ℕ). put (padded m) (pairsAt + pairSize * c) r) (put-start h p (t .address-six)) in
-    ap (λ (s : List ℕ). put s countAt ((c + 1) ∷ [])) e ∙ add-pair m f (startPair h p) (fits-start h p b t) k

@@ -1,39 +1,34 @@
 // A packet: what it does to the pairs held, the watches that it starts, and what it writes (document 01, Watching, by history). The
 // crate marks asks the monitors, and keeps what each says of the packet as one octet a handle. Then the rows of the pairs held are
-// changed in place, the starts appended behind them, and the answer written.
+// changed in place, the handles take their turns, which start pairs behind them, and the reports are written.
 mod reports;
+mod starts;
 mod windows;
 
 use state::State;
 ghost use Prim.Native.Nat.{ℕ, _+_, _*_, _/_, _≤_, _<_};
 ghost use mathlib.Core.Path.{_≡_};
 ghost use mathlib.Core.Bool.{true, false, _&&_};
-ghost use mathlib.Core.List.{List, [], _∷_};
+ghost use mathlib.Core.List.{List};
 ghost use lib.ListN.{length, drop};
-ghost use Rattle.laws.specs.Put.{put};
-ghost use Rattle.laws.specs.Loops.{each};
-ghost use Rattle.octets.specs.Little.{octetsOf};
 ghost use Rattle.octets.specs.Numbers.{numberAt};
 ghost use Rattle.model.specs.Types.{Model, Packet, deviceOf};
 ghost use Rattle.sessions.specs.Machine.{answerRoom};
 ghost use Rattle.model.specs.Frames.{hasPacket, packetOf, packet as packetFrame};
-ghost use Rattle.model.specs.Watch.{packetMove, holds, turns, reported};
-ghost use Rattle.model.specs.Events.{startEvent};
+ghost use Rattle.model.specs.Watch.{packetMove, holds, reported};
 ghost use Rattle.model.specs.Block.{padded};
 ghost use Rattle.steps.specs.Typed.{Sent};
 ghost use Rattle.steps.specs.Stepped.{Steps, Within, Taken};
 ghost use Rattle.marks.specs.Marks.{tells};
 ghost use Rattle.marks.specs.Fields.{Framed};
-ghost use Rattle.packets.specs.Changes.{freshened, collected, changed};
+ghost use Rattle.packets.specs.Changes.{freshened, collected, counted, strengthened, changed};
 ghost use Rattle.packets.specs.Keys.{deviceNumber};
 ghost use Rattle.packets.specs.Moves.{AtPair, pairAt, withPair};
 ghost use Rattle.packets.specs.Held.{Given};
-ghost use Rattle.packets.specs.Starts.{Holding, Sought, Turned, after};
+ghost use Rattle.packets.specs.Starts.{Holding, Sought};
 ghost use Rattle.packets.specs.Whole.{Begun, afterMoves, afterStarts};
-ghost use Rattle.packets.specs.Reports.{anyFrom, wantsAt};
-ghost use Rattle.packets.specs.Answers.{Wrote};
-ghost use Rattle.model.specs.Layout.{eventMost, startsMost};
-ghost use Rattle.model.specs.Layout.{blockSize, countAt, mostMonitors, mostPairs, pairSize, pairsAt};
+ghost use Rattle.packets.specs.Reports.{anyFrom, wantsAt, turnsOf};
+ghost use Rattle.model.specs.Layout.{blockSize, mostMonitors, mostPairs, pairSize, pairsAt};
 
 // The count of ticks of pair i starts anew, where its handle's octet says so.
 fn refresh(s: &mut [u8], i: usize, a: u8)
@@ -63,12 +58,32 @@ fn gather(s: &mut [u8], i: usize, a: u8, payload: &[u8])
     }
 }
 
+// The count of ticks and the window of pair i.
+fn count_row(s: &mut [u8], i: usize, a: u8, payload: &[u8])
+    requires { ⌜ (length (now s) ≡ blockSize) × (i < mostPairs) × Framed (now payload) ⌝ }
+    ensures { λ _. ⌜ ((m : Model) → AtPair m (now (s .entry)) i → Sent (packetOf (now (payload .entry))) → pairAt m i .packets < 4294967295 → now (s .exit) ≡ padded (withPair m i (counted a (packetOf (now (payload .entry))) (pairAt m i)))) ⌝ }
+{
+    refresh(s, i, a);
+    gather(s, i, a, payload);
+}
+
+// The RSSI that pair i keeps, where its handle's octet says that the packet matches.
+fn keep(s: &mut [u8], i: usize, a: u8, rssi: u8)
+    requires { ⌜ (length (now s) ≡ blockSize) × (i < mostPairs) ⌝ }
+    ensures { λ _. ⌜ ((m : Model) → AtPair m (now (s .entry)) i → now (s .exit) ≡ padded (withPair m i (strengthened a rssi (pairAt m i)))) ⌝ }
+{
+    if a < marks::MATCHED {
+        return;
+    }
+    s[State::PAIRS_AT + State::PAIR_ROW * i + State::RSSI_AT] = rssi;
+}
+
 fn change_row(s: &mut [u8], i: usize, a: u8, payload: &[u8])
     requires { ⌜ (length (now s) ≡ blockSize) × (i < mostPairs) × Framed (now payload) ⌝ }
     ensures { λ _. ⌜ ((m : Model) → AtPair m (now (s .entry)) i → Sent (packetOf (now (payload .entry))) → pairAt m i .packets < 4294967295 → now (s .exit) ≡ padded (withPair m i (changed a (packetOf (now (payload .entry))) (pairAt m i)))) ⌝ }
 {
-    refresh(s, i, a);
-    gather(s, i, a, payload);
+    keep(s, i, a, payload[payload.len() - 1]);
+    count_row(s, i, a, payload);
 }
 
 // The key of pair i. It is read from its own part, so that its end need not be asked for.
@@ -123,48 +138,6 @@ fn is_held(s: &[u8], n: usize, key: u64) -> bool
     false
 }
 
-// A pair at its start behind the n pairs held: its key over an empty row, and the number of pairs.
-fn push_row(s: &mut [u8], n: usize, key: u64)
-    requires { ⌜ (length (now s) ≡ blockSize) × (n < mostPairs) ⌝ }
-    ensures { λ _. ⌜ now (s .exit) ≡ put (put (now (s .entry)) (pairsAt + pairSize * n) (octetsOf 8 key)) countAt ((n + 1) ∷ []) ⌝ }
-{
-    octets::put64(s, State::PAIRS_AT + State::PAIR_ROW * n, key);
-    s[State::COUNT_AT] = (n + 1) as u8;
-}
-
-// One handle's turn: a start takes its room at once. Answers the number of pairs held.
-fn start_at(s: &mut [u8], n: usize, h: usize, a: u8, dev: u64) -> usize
-    requires { ⌜ (length (now s) ≡ blockSize) × (n ≤ mostPairs) × (h < mostMonitors) × (dev < 72057594037927936) ⌝ }
-    ensures { λ r. ⌜ (n ≤ r) × (r ≤ mostPairs) × (r ≤ n + 1) × ((m : Model) (p : Packet) → Holding m (now (s .entry)) n → Sent p → dev ≡ deviceNumber p → Turned m (after a h p (m .pairs)) (now (s .exit)) r) ⌝ }
-{
-    if a / 4 % 2 != 1 {
-        return n;
-    }
-    if n >= State::PAIRS {
-        return n;
-    }
-    let key = h as u64 + 256 * dev;
-    if is_held(s, n, key) {
-        return n;
-    }
-    push_row(s, n, key);
-    n + 1
-}
-
-// The turns of the handles 0 to 15.
-fn start_all(s: &mut [u8], n: usize, acts: &[u8], dev: u64) -> usize
-    requires { ⌜ (length (now s) ≡ blockSize) × (n ≤ mostPairs) × (length (now acts) ≡ mostMonitors) × (dev < 72057594037927936) ⌝ }
-    ensures { λ r. ⌜ (n ≤ r) × (r ≤ mostPairs) × (r ≤ n + mostMonitors) × ((m : Model) (p : Packet) → Holding m (now (s .entry)) n → Given (m .mons) p (now (acts .entry)) dev → Turned m (turns (m .mons) p mostMonitors (m .pairs)) (now (s .exit)) r) ⌝ }
-{
-    let mut k = n;
-    let mut h = 0;
-    while h < State::MONITORS {
-        k = start_at(s, k, h, acts[h], dev);
-        h += 1;
-    }
-    k
-}
-
 // Whether the monitor of a handle has the packet reported at once: sampling 0 and the pair under watch.
 fn is_wanted_at(s: &[u8], n: usize, h: usize, a: u8, dev: u64) -> bool
     requires { ⌜ (length (now s) ≡ blockSize) × (n ≤ mostPairs) × (h < mostMonitors) × (dev < 72057594037927936) ⌝ }
@@ -190,44 +163,18 @@ fn is_wanted(s: &[u8], n: usize, acts: &[u8], dev: u64) -> bool
     false
 }
 
-// Whether the packet is reported: n pairs were held before it, and k are now.
-fn is_told(s: &[u8], n: usize, k: usize, acts: &[u8], dev: u64) -> bool
+// Whether the packet is reported: its turns wrote so many octets, some where it is a start, and k pairs are held.
+fn is_told(s: &[u8], wrote: usize, k: usize, acts: &[u8], dev: u64) -> bool
     requires { ⌜ (length (now s) ≡ blockSize) × (k ≤ mostPairs) × (length (now acts) ≡ mostMonitors) × (dev < 72057594037927936) ⌝ }
-    ensures { λ r. ⌜ ((m : Model) (e l : List ℕ) → Begun m e l (now (acts .entry)) dev n → Holding (afterStarts m (packetOf l)) (now (s .entry)) k → r ≡ reported m (packetOf l)) ⌝ }
+    ensures { λ r. ⌜ ((m : Model) (e l : List ℕ) (n : ℕ) → Begun m e l (now (acts .entry)) dev n → Holding (afterStarts m (packetOf l)) (now (s .entry)) k → wrote ≡ length (turnsOf m (packetOf l)) → r ≡ reported m (packetOf l)) ⌝ }
 {
     if s[State::FILTER_AT] == 0 {
         return true;
     }
-    if n < k {
+    if 0 < wrote {
         return true;
     }
     is_wanted(s, k, acts, dev)
-}
-
-// The start event of pair i, written into out at an index. Answers how many octets that is.
-fn put_start(s: &[u8], i: usize, out: &mut [u8], at: usize) -> usize
-    requires { ⌜ (length (now s) ≡ blockSize) × (i < mostPairs) ⌝ }
-    ensures { λ r. ⌜ (r ≤ eventMost) × (at ≤ length (now (out .entry)) → drop (at + r) (now (out .exit)) ≡ drop (at + r) (now (out .entry))) × ((m : Model) → AtPair m (now (s .entry)) i → at + eventMost ≤ length (now (out .entry)) → Wrote (now (out .entry)) at (startEvent (m .prefix) (pairAt m i)) (now (out .exit)) r) ⌝ }
-{
-    let end = State::PREFIX_AT + octets::at_most(s[State::PREFIX_LENGTH_AT], State::PREFIX);
-    let from = State::PAIRS_AT + State::PAIR_ROW * i;
-    let to = from + State::KEY;
-    events::put_event(out, at, &s[State::PREFIX_AT..end], &s[from..to], 1)
-}
-
-// The start events of the pairs from an index on.
-fn put_starts(s: &[u8], from: usize, count: usize, out: &mut [u8]) -> usize
-    requires { ⌜ (length (now s) ≡ blockSize) × (from + count ≤ mostPairs) × (answerRoom ≤ length (now out)) × (count ≤ mostMonitors) ⌝ }
-    ensures { λ r. ⌜ (r ≤ startsMost) × (drop r (now (out .exit)) ≡ drop r (now (out .entry))) × ((m : Model) → Holding m (now (s .entry)) (from + count) → Wrote (now (out .entry)) 0 (each (startEvent (m .prefix)) (drop from (m .pairs))) (now (out .exit)) r) ⌝ }
-{
-    let mut w = 0;
-    let mut j = 0;
-    while j < count {
-        let r = put_start(s, from + j, out, w);
-        w += r;
-        j += 1;
-    }
-    w
 }
 
 // A packet frame on a block of the right length.
@@ -238,20 +185,20 @@ fn step(s: &mut [u8], payload: &[u8], out: &mut [u8]) -> usize
     let mut acts = [0u8; State::MONITORS];
     marks::mark_all(&mut acts, s, payload);
     let dev = octets::get64(payload, 0) / 256;
+    let rssi = payload[payload.len() - 1];
     let n = octets::at_most(s[State::COUNT_AT], State::PAIRS);
     move_rows(s, n, &acts, payload, dev);
-    let k = start_all(s, n, &acts, dev);
-    let told = is_told(s, n, k, &acts, dev);
-    let w = put_starts(s, n, k - n, out);
-    let r = reports::put_told(out, w, told, payload);
+    let turn = starts::start_all(s, n, &acts, dev, rssi, out);
+    let told = is_told(s, turn.wrote, turn.held, &acts, dev);
+    let r = reports::put_told(out, turn.wrote, told, payload);
     state::advance(s);
-    w + r
+    turn.wrote + r
 }
 
-// A packet frame, executed: the pairs of its device refreshed and their windows given the packet, the starts appended by handle,
-// the position moved; the start events and the reports written into out. The payload is event type, address type, address (6),
+// A packet frame, executed: the pairs of its device refreshed and their windows given the packet, the turns of the handles taken, the
+// position moved; the stop and start events and the reports written into out. The payload is event type, address type, address (6),
 // data length n, n octets, with kind 04 scan response length k and k octets, and RSSI. Answers how many octets were written.
-// Where the block is not of 4,761 octets or at the last frame number, out has under 2,880 octets, or the payload is of no packet
+// Where the block is not of 4,825 octets or at the last frame number, out has under 2,880 octets, or the payload is of no packet
 // frame, nothing is changed and the answer is 0. Of a block that is of no sound state the contents, what is written and how much are
 // free; the lengths stay, the answer is at most the length of out, and the octets past it are as they were.
 // No window of a sound state is full before the last number (crate steps, Counts).

@@ -7,7 +7,7 @@ ghost use Rattle.model.specs.Frames.{packetOf};
 ghost use Rattle.model.specs.Events.{packetReport, scanReport, packetReports};
 ghost use Rattle.model.specs.Layout.{reportMost};
 ghost use Rattle.marks.specs.Fields.{Framed};
-ghost use Rattle.packets.specs.Answers.{Wrote};
+ghost use Rattle.packets.specs.Writes.{Wrote};
 
 // The event type of a scan response in a report.
 const SCAN_RESPONSE: u8 = 4;

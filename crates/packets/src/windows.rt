@@ -21,7 +21,8 @@ fn extend(o: u8) -> u64
     x + 18446744073709551360
 }
 
-// A window that begins at an index takes the packet: one packet more, its RSSI in the sum, its event type and data.
+// A window that begins at an index takes the packet: one packet more, its RSSI in the sum and kept, its event
+// type and data.
 pub(super) fn gather_at(s: &mut [u8], at: usize, payload: &[u8])
     requires { ⌜ (at + windowSize ≤ length (now s)) × Framed (now payload) ⌝ }
     ensures { λ _. ⌜ now (s .exit) ≡ put (now (s .entry)) at (takenBy (packetOf (now (payload .entry))) (now (s .entry)) at) ⌝ }
@@ -37,8 +38,9 @@ pub(super) fn gather_at(s: &mut [u8], at: usize, payload: &[u8])
         at + 4,
         std::num::wrapping_add_u64(sum, extend(payload[last])),
     );
-    s[at + 12] = payload[0];
-    s[at + 13] = payload[8];
-    parts::copy(s, at + 14, &payload[9..end]);
-    parts::fill(s, at + 14 + n, State::DATA - n, 0);
+    s[at + 12] = payload[last];
+    s[at + 13] = payload[0];
+    s[at + 14] = payload[8];
+    parts::copy(s, at + 15, &payload[9..end]);
+    parts::fill(s, at + 15 + n, State::DATA - n, 0);
 }

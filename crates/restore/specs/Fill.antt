@@ -155,7 +155,7 @@ module _ (m : Model) where
   -- pairs in start order, one more behind the others
   pair-stored : (l : List (ℕ × Monitor)) (ps : List Pair) (q : Pair) → Measured (withLists m l ps) → Fits q
       → length ps < mostPairs
-      → stored (padded (withLists m l ps)) (padTo lineRow (0xA2 ∷ pairRow q)) ≡ padded (withLists m l (ps ++ (q ∷ [])))
+      → stored (padded (withLists m l ps)) (padTo lineRow (0xA3 ∷ pairRow q)) ≡ padded (withLists m l (ps ++ (q ∷ [])))
   unfolding withLists
   pair-stored l ps q f g b =
       let w : Model = withLists m l ps in
@@ -164,16 +164,16 @@ module _ (m : Model) where
       let n : length (pairRow q) ≡ dataAt + length (q .adv) = length-pairRow q (g .address-length) in
       let c : getD s countAt 0 ≡ length ps = getD-count w f in
       let k : length (q .adv) ≤ mostData = g .adv-most in
-      let e : take pairSize (drop 1 (padTo lineRow (0xA2 ∷ pairRow q))) ≡ r =
-      behind-name 0xA2 pairSize (pairRow q) (omega arith) (omega arith) in
-      sym (name-pair s (padTo lineRow (0xA2 ∷ pairRow q)) (name-of 0xA2 (pairRow q)) refl)
+      let e : take pairSize (drop 1 (padTo lineRow (0xA3 ∷ pairRow q))) ≡ r =
+      behind-name 0xA3 pairSize (pairRow q) (omega arith) (omega arith) in
+      sym (name-pair s (padTo lineRow (0xA3 ∷ pairRow q)) (name-of 0xA3 (pairRow q)) refl)
       ∙ ap (storedPair s) e
       ∙ pair-behind s r (length ps) c b
       ∙ add-pair w f q g b
 
   pairs-stored : (l : List (ℕ × Monitor)) (ps qs : List Pair) → Measured (withLists m l ps) → All Fits qs
       → length ps + length qs ≤ mostPairs
-      → storedAll (padded (withLists m l ps)) (map (λ (q : Pair). 0xA2 ∷ pairRow q) qs)
+      → storedAll (padded (withLists m l ps)) (map (λ (q : Pair). 0xA3 ∷ pairRow q) qs)
       ≡ padded (withLists m l (ps ++ qs))
   unfolding storedAll withLists
   pairs-stored l ps [] f a b = ap (λ (x : List Pair). padded (withLists m l x)) (sym (append-nil ps))
@@ -186,7 +186,7 @@ module _ (m : Model) where
         fit = all-append Fits ps (q ∷ []) (f .fit) (a .0, tt);
         pairs-most = omega arith;
       } in
-      ap (λ (t : List ℕ). storedAll t (map (λ (p : Pair). 0xA2 ∷ pairRow p) qs))
+      ap (λ (t : List ℕ). storedAll t (map (λ (p : Pair). 0xA3 ∷ pairRow p) qs))
       (pair-stored l ps q f (a .0) (omega arith))
       ∙ pairs-stored l (ps ++ (q ∷ [])) qs g (a .1) (omega arith)
       ∙ ap (λ (x : List Pair). padded (withLists m l x)) (append-assoc ps (q ∷ []) qs)
@@ -202,7 +202,7 @@ end-stored s r =
     let e : getD (padTo lineRow (0xAF ∷ r)) 0 0 ≡ 0xAF = name-of 0xAF r in
     sym (name-other s (padTo lineRow (0xAF ∷ r)) (λ (x : getD (padTo lineRow (0xAF ∷ r)) 0 0 ≡ 0xA0). omega arith)
     (λ (x : getD (padTo lineRow (0xAF ∷ r)) 0 0 ≡ 0xA1). omega arith)
-    (λ (x : getD (padTo lineRow (0xAF ∷ r)) 0 0 ≡ 0xA2). omega arith))
+    (λ (x : getD (padTo lineRow (0xAF ∷ r)) 0 0 ≡ 0xA3). omega arith))
 
 -- The rows of a sound state, stored in an empty block one after another, give its block.
 pub records-stored : (m : Model) → soundModel m ≡ true → storedAll (replicate blockSize 0) (records m) ≡ padded m
@@ -211,7 +211,7 @@ records-stored m e =
     let f : SoundModel m = sound-facts m e in
     let g : Measured m = measured m e in
     let ms : List (List ℕ) = map (λ (x : ℕ × Monitor). 0xA1 ∷ monitorRow x) (m .mons) in
-    let qs : List (List ℕ) = map (λ (q : Pair). 0xA2 ∷ pairRow q) (m .pairs) in
+    let qs : List (List ℕ) = map (λ (q : Pair). 0xA3 ∷ pairRow q) (m .pairs) in
     let z : List (List ℕ) = (0xAF ∷ endRow m) ∷ [] in
     let a : Measured (withLists m [] []) = record {
       prefix-most = g .prefix-most;
@@ -250,10 +250,10 @@ monitor-row x p =
       most = omega (arith, length-monitorRow x);
     }
 
-pair-row : (q : Pair) → Fits q → Row (0xA2 ∷ pairRow q)
+pair-row : (q : Pair) → Fits q → Row (0xA3 ∷ pairRow q)
 pair-row q f =
     record {
-      octets = octets-cons 0xA2 (pairRow q) (omega arith) (fits-pairRow q f);
+      octets = octets-cons 0xA3 (pairRow q) (omega arith) (fits-pairRow q f);
       most = omega (arith, length-pairRow q (f .address-length), f .adv-most);
     }
 
@@ -262,7 +262,7 @@ unfolding records endRow
 records-rows m e =
     let f : SoundModel m = sound-facts m e in
     let ms : List (List ℕ) = map (λ (x : ℕ × Monitor). 0xA1 ∷ monitorRow x) (m .mons) in
-    let qs : List (List ℕ) = map (λ (q : Pair). 0xA2 ∷ pairRow q) (m .pairs) in
+    let qs : List (List ℕ) = map (λ (q : Pair). 0xA3 ∷ pairRow q) (m .pairs) in
     let n : length (m .mons) ≤ mostMonitors = sound-fits m e .most-mons in
     let z : Row (0xAF ∷ endRow m) =
     record {
@@ -279,7 +279,7 @@ records-rows m e =
           (all-and (λ x. (0 ≤ x .0) × (x .0 < mostMonitors)) (λ x. SoundMonitor (x .1)) (m .mons) (f .mons-sound .handles)
           (f .mons-sound .monitors)) monitor-row)
           (all-append Row qs ((0xAF ∷ endRow m) ∷ [])
-          (all-map Fits (λ (q : Pair). 0xA2 ∷ pairRow q) (m .pairs) (pairs-fit m f) pair-row)
+          (all-map Fits (λ (q : Pair). 0xA3 ∷ pairRow q) (m .pairs) (pairs-fit m f) pair-row)
           (z, tt)),
     )
 

@@ -1,4 +1,4 @@
--- What restore stores of one line, whatever the line holds, in a block of 4,761 octets; and of the lines of a text
+-- What restore stores of one line, whatever the line holds, in a block of 4,825 octets; and of the lines of a text
 -- one after another. Document 01, The image. Nothing is tested here but that each row lies within the block: what was
 -- stored is tested afterwards, by the block's soundness and by saving it again. Assumes nothing.
 use Prim.Native.Nat.{ℕ, suc, _+_, _-_, _*_, _≤_, _<_}
@@ -18,17 +18,17 @@ use Rattle.model.specs.Layout.{blockSize, countAt, handleAt, headSize, lineRow,
 unfoldable pub storedMonitor : List ℕ → List ℕ → List ℕ
 storedMonitor s r = pick (ltb (getD r handleAt 0) mostMonitors) (put s (monitorsAt + monitorSize * getD r handleAt 0) r) s
 
--- A2: the row behind the pairs, and one pair more, where there is room
+-- A3: the row behind the pairs, and one pair more, where there is room
 unfoldable pub storedPair : List ℕ → List ℕ → List ℕ
 storedPair s r =
     pick (ltb (getD s countAt 0) mostPairs) (put (put s (pairsAt + pairSize * getD s countAt 0) r) countAt ((getD s countAt 0 + 1) ∷ [])) s
 
--- a line by its name: A0 the head, A1 a monitor, A2 a pair, of every other nothing
+-- a line by its name: A0 the head, A1 a monitor, A3 a pair, of every other nothing
 unfoldable pub stored : List ℕ → List ℕ → List ℕ
 stored s l =
     pick (eqb (getD l 0 0) 0xA0) (put s 0 (take headSize (drop 1 l))) (
     pick (eqb (getD l 0 0) 0xA1) (storedMonitor s (take monitorSize (drop 1 l))) (
-    pick (eqb (getD l 0 0) 0xA2) (storedPair s (take pairSize (drop 1 l))) s))
+    pick (eqb (getD l 0 0) 0xA3) (storedPair s (take pairSize (drop 1 l))) s))
 
 -- lines one after another
 unfoldable pub storedAll : List ℕ → List (List ℕ) → List ℕ
@@ -69,17 +69,17 @@ module _ (s l : List ℕ) {t : List ℕ} where
   name-monitor h e =
       rw (ne-eqb (getD l 0 0) 0xA0 (λ (x : getD l 0 0 ≡ 0xA0). omega arith), eq-eqb (getD l 0 0) 0xA1 h) e
 
-  pub name-pair : getD l 0 0 ≡ 0xA2 → t ≡ storedPair s (take pairSize (drop 1 l)) → t ≡ stored s l
+  pub name-pair : getD l 0 0 ≡ 0xA3 → t ≡ storedPair s (take pairSize (drop 1 l)) → t ≡ stored s l
   unfolding stored pick
   name-pair h e =
       rw (
         ne-eqb (getD l 0 0) 0xA0 (λ (x : getD l 0 0 ≡ 0xA0). omega arith),
         ne-eqb (getD l 0 0) 0xA1 (λ (x : getD l 0 0 ≡ 0xA1). omega arith),
-        eq-eqb (getD l 0 0) 0xA2 h,
+        eq-eqb (getD l 0 0) 0xA3 h,
       )
       e
 
-pub name-other : (s l : List ℕ) → (getD l 0 0 ≡ 0xA0 → ⊥) → (getD l 0 0 ≡ 0xA1 → ⊥) → (getD l 0 0 ≡ 0xA2 → ⊥)
+pub name-other : (s l : List ℕ) → (getD l 0 0 ≡ 0xA0 → ⊥) → (getD l 0 0 ≡ 0xA1 → ⊥) → (getD l 0 0 ≡ 0xA3 → ⊥)
     → s ≡ stored s l
 unfolding stored pick
-name-other s l a b c = rw (ne-eqb (getD l 0 0) 0xA0 a, ne-eqb (getD l 0 0) 0xA1 b, ne-eqb (getD l 0 0) 0xA2 c)
+name-other s l a b c = rw (ne-eqb (getD l 0 0) 0xA0 a, ne-eqb (getD l 0 0) 0xA1 b, ne-eqb (getD l 0 0) 0xA3 c)

@@ -18,7 +18,7 @@ use Rattle.model.specs.Layout.{blockSize}
 unfoldable pub minusSixty : List String
 minusSixty =
     "A002000000001EFC024D53\n" ∷ "A100C4B00302040700060504030201\n" ∷
-    "A2000006050403020100000101000000C4FFFFFFFFFFFFFF0303020106\n" ∷ "AF0101\n" ∷ []
+    "A3000006050403020100000101000000C4FFFFFFFFFFFFFFC40303020106\n" ∷ "AF0101\n" ∷ []
 
 -- It is restored; its sum is −60 in two's complement, and 67 above −127.
 pub sum-signed : (restores (each codes minusSixty) blockSize ≡ true)

@@ -1,5 +1,5 @@
-// Restore: the state that an image's text holds, read into a block of 4,761 octets (document 01, The image; refusal
-// 10). The lines are stored in one pass, whatever they hold: A0 at the start, A1 in the row of its handle, A2 behind
+// Restore: the state that an image's text holds, read into a block of 4,825 octets (document 01, The image; refusal
+// 10). The lines are stored in one pass, whatever they hold: A0 at the start, A1 in the row of its handle, A3 behind
 // the pairs; the first piece that is no line of at most 72 octets ends it. Then the block is tested: the text is an
 // image exactly if the block is sound and save writes this text of it.
 use state::State;
@@ -35,7 +35,7 @@ fn store_monitor(s: &mut [u8], row: &[u8])
     parts::copy(s, State::MONITORS_AT + State::MONITOR_ROW * h, row);
 }
 
-// An A2 row behind the pairs, and one pair more.
+// An A3 row behind the pairs, and one pair more.
 fn store_pair(s: &mut [u8], row: &[u8])
     requires { ⌜ (length (now s) ≡ blockSize) × (length (now row) ≡ pairSize) ⌝ }
     ensures { λ _. ⌜ now (s .exit) ≡ storedPair (now (s .entry)) (now (row .entry)) ⌝ }
@@ -63,7 +63,7 @@ fn store_line(s: &mut [u8], line: &[u8])
         store_monitor(s, &line[1..State::LINE_ROW]);
         return;
     }
-    if name == 0xA2 {
+    if name == 0xA3 {
         store_pair(s, &line[1..State::PAIR_LINE]);
         return;
     }
@@ -137,7 +137,7 @@ fn take_image(text: &[u8], s: &mut [u8]) -> bool
     false
 }
 
-// Restores an image into s: the answer is whether s has 4,761 octets and the text is an image of a sound state. Where it
+// Restores an image into s: the answer is whether s has 4,825 octets and the text is an image of a sound state. Where it
 // is, s is then the block of the state that the text holds; where the text is refused, the blank state's. A block of
 // another length stays as it is.
 pub fn read_image(text: &[u8], s: &mut [u8]) -> bool

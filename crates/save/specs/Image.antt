@@ -184,20 +184,20 @@ module _ (m : Model) (e : soundModel m ≡ true) where
       (λ x. only (inUse (monitorPlace (x .0) (some (x .1)))) (x .0))
       (m .mons) (f .mons-sound .monitors) count-some
 
--- A2: the line of a pair
+-- A3: the line of a pair
 
 pair-count : (q : Pair) → length (q .address) ≡ 6 → getD (padTo pairSize (pairRow q)) lengthAt 0 ≡ length (q .adv)
 unfolding padTo pairRow octetsOf
 pair-count q h =
     let w : List ℕ = q .handle ∷ q .kind ∷ q .address in
-    ap (λ (l : List ℕ). getD (q .handle ∷ q .kind ∷ l) 24 0) (append-assoc (q .address) _ _)
-    ∙ getD-past w _ 8 (omega arith) 16
+    ap (λ (l : List ℕ). getD (q .handle ∷ q .kind ∷ l) lengthAt 0) (append-assoc (q .address) _ _)
+    ∙ getD-past w _ 8 (omega arith) 17
 
-pair-line : (q : Pair) → Fits q → pairText (padTo pairSize (pairRow q)) ≡ textOf (0xA2 ∷ pairRow q)
+pair-line : (q : Pair) → Fits q → pairText (padTo pairSize (pairRow q)) ≡ textOf (0xA3 ∷ pairRow q)
 unfolding pairText padTo
 pair-line q f =
     rw (pair-count q (f .address-length), at-most-is (length (q .adv)) mostData (f .adv-most))
-    (ap (λ (r : List ℕ). textOf (0xA2 ∷ r))
+    (ap (λ (r : List ℕ). textOf (0xA3 ∷ r))
     (take-at (pairRow q) (replicate (pairSize - length (pairRow q)) 0) (dataAt + length (q .adv))
     (length-pairRow q (f .address-length))))
 
@@ -208,7 +208,7 @@ all-at (q ∷ l) a (suc i) d h = all-at l (a .1) i d (omega arith)
 
 module _ (m : Model) (f : Measured m) where
   pairs-each : (n : ℕ) → n ≤ length (m .pairs)
-      → pairsText (padded m) n ≡ each (λ (q : Pair). textOf (0xA2 ∷ pairRow q)) (take n (m .pairs))
+      → pairsText (padded m) n ≡ each (λ (q : Pair). textOf (0xA3 ∷ pairRow q)) (take n (m .pairs))
   unfolding pairsText pairAt upTo each
   pairs-each zero h = refl
   pairs-each (suc n) h =
@@ -220,19 +220,19 @@ module _ (m : Model) (f : Measured m) where
         pair-line q
             (all-at (m .pairs) (f .fit) n d (omega arith)),
       )
-      (sym (rw (add-one n) at (each-take (λ (q : Pair). textOf (0xA2 ∷ pairRow q)) (m .pairs) n d (omega arith))))
+      (sym (rw (add-one n) at (each-take (λ (q : Pair). textOf (0xA3 ∷ pairRow q)) (m .pairs) n d (omega arith))))
 
   pairs-in : pairsIn (padded m) ≡ length (m .pairs)
   unfolding pairsIn
   pairs-in = rw (getD-count m f) (at-most-is (length (m .pairs)) mostPairs (f .pairs-most))
 
   pairs-image : pairsText (padded m) (pairsIn (padded m))
-      ≡ each textOf (map (λ (q : Pair). 0xA2 ∷ pairRow q) (m .pairs))
+      ≡ each textOf (map (λ (q : Pair). 0xA3 ∷ pairRow q) (m .pairs))
   pairs-image =
       rw (pairs-in) (pairs-each (length (m .pairs)) (omega arith)
-      ∙ ap (λ (l : List Pair). each (λ (q : Pair). textOf (0xA2 ∷ pairRow q)) l)
+      ∙ ap (λ (l : List Pair). each (λ (q : Pair). textOf (0xA3 ∷ pairRow q)) l)
       (take-all (length (m .pairs)) (m .pairs) (omega arith))
-      ∙ sym (each-map textOf (λ (q : Pair). 0xA2 ∷ pairRow q) (m .pairs)))
+      ∙ sym (each-map textOf (λ (q : Pair). 0xA3 ∷ pairRow q) (m .pairs)))
 
 -- The text of the block of a sound state is the image's text.
 pub saved-image : (m : Model) → soundModel m ≡ true → savedText (padded m) ≡ imageText m
@@ -240,7 +240,7 @@ unfolding savedText imageText records each endText endRow
 saved-image m e =
     let f : Measured m = measured m e in
     let ms : List (List ℕ) = map (λ (x : ℕ × Monitor). 0xA1 ∷ monitorRow x) (m .mons) in
-    let qs : List (List ℕ) = map (λ (q : Pair). 0xA2 ∷ pairRow q) (m .pairs) in
+    let qs : List (List ℕ) = map (λ (q : Pair). 0xA3 ∷ pairRow q) (m .pairs) in
     let z : List ℕ = 0xAF ∷ endRow m in
     rw (
       head-image m (f .prefix-most),

@@ -22,7 +22,7 @@ use Rattle.save.specs.Text.{monitorText, monitorAt, pairAt, pairText}
 use Rattle.save.specs.Text.{liveBelow, monitorsText, pairsText, headText, endText}
 use Rattle.save.specs.Text.{savedText, saves, pairsIn}
 use Rattle.sessions.specs.Machine.{saveRoom}
-use Rattle.model.specs.Layout.{blockSize, conditionAt, conditionLengthAt, countAt, headSize, intervalAt, lengthAt, monitorSize, monitorsAt, mostCondition, mostData, mostMonitors, mostPairs, mostPrefix, pairSize, pairsAt, prefixLengthAt}
+use Rattle.model.specs.Layout.{blockSize, conditionAt, conditionLengthAt, countAt, dataAt, headSize, intervalAt, lengthAt, monitorSize, monitorsAt, mostCondition, mostData, mostMonitors, mostPairs, mostPrefix, pairSize, pairsAt, prefixLengthAt}
 
 -- what is put over a shorter part that was put there stands alone
 pub put-again : (xs : List ℕ) (at : ℕ) (ys zs : List ℕ) → at ≤ length xs → length ys ≤ length zs
@@ -82,7 +82,7 @@ module _ (xs r : List ℕ) (at : ℕ) {n k : ℕ} {l : List ℕ} where
   )
 
   pub pair-put : n ≡ atMost (getD r lengthAt 0) mostData
-      → (k ≡ at + length (textOf (0xA2 ∷ take (25 + n) r))) × (l ≡ put xs at (textOf (0xA2 ∷ take (25 + n) r)))
+      → (k ≡ at + length (textOf (0xA3 ∷ take (dataAt + n) r))) × (l ≡ put xs at (textOf (0xA3 ∷ take (dataAt + n) r)))
       → (k ≡ at + length (pairText r)) × (l ≡ put xs at (pairText r))
   unfolding pairText
   pair-put e p = rw e at p

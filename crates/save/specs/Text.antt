@@ -1,6 +1,6 @@
--- The text that save writes of a block of 4,761 octets, whatever its octets, line by line. Document 01, The image.
+-- The text that save writes of a block of 4,825 octets, whatever its octets, line by line. Document 01, The image.
 -- Lengths that stand in rows are cut to what the row has, so no octet outside a row is read and the text is never
--- over 9,770 characters. That it is the image's text where the block is that of a sound state is the law of Image.
+-- over 9,898 characters. That it is the image's text where the block is that of a sound state is the law of Image.
 -- Assumes nothing.
 use Prim.Native.Nat.{ℕ, _+_, _*_, _≤_, _<_}
 use mathlib.Core.Path.{_≡_}
@@ -29,9 +29,9 @@ headText s = textOf (0xA0 ∷ take (prefixAt + atMost (getD s prefixLengthAt 0) 
 unfoldable pub monitorText : List ℕ → List ℕ
 monitorText r = when (inUse r) (textOf (0xA1 ∷ take (conditionAt + atMost (getD r conditionLengthAt 0) mostCondition) r))
 
--- "A2 per pair": the line of a pair row
+-- "A3 per pair": the line of a pair row
 unfoldable pub pairText : List ℕ → List ℕ
-pairText r = textOf (0xA2 ∷ take (dataAt + atMost (getD r lengthAt 0) mostData) r)
+pairText r = textOf (0xA3 ∷ take (dataAt + atMost (getD r lengthAt 0) mostData) r)
 
 -- "AF: number of monitors, number of pairs"
 unfoldable pub endText : ℕ → ℕ → List ℕ
@@ -64,7 +64,7 @@ unfoldable pub savedText : List ℕ → List ℕ
 savedText s =
     headText s ++ monitorsText s mostMonitors ++ pairsText s (pairsIn s) ++ endText (length (liveBelow s mostMonitors)) (pairsIn s)
 
--- whether save writes: the block has its size, and 9,770 octets are lent
+-- whether save writes: the block has its size, and 9,898 octets are lent
 unfoldable pub saves : List ℕ → ℕ → Bool
 saves s room = eqb (length s) blockSize && leb saveRoom room
 
@@ -93,7 +93,7 @@ length-monitorText r =
 pub length-pairText : (r : List ℕ) → length (pairText r) ≤ pairLine
 unfolding pairText
 length-pairText r =
-    length-line 0xA2 (dataAt + mostData) (dataAt + atMost (getD r lengthAt 0) mostData) r (omega (arith, at-most (getD r lengthAt 0) mostData))
+    length-line 0xA3 (dataAt + mostData) (dataAt + atMost (getD r lengthAt 0) mostData) r (omega (arith, at-most (getD r lengthAt 0) mostData))
 
 pub length-endText : (u c : ℕ) → length (endText u c) ≡ 7
 unfolding endText
@@ -117,7 +117,7 @@ pub pairs-most : (s : List ℕ) → pairsIn s ≤ mostPairs
 unfolding pairsIn
 pairs-most s = at-most (getD s countAt 0) mostPairs
 
--- "image 9,770": no block has a longer text
+-- "image 9,898": no block has a longer text
 pub length-savedText : (s : List ℕ) → length (savedText s) ≤ saveRoom
 unfolding savedText
 length-savedText s =

@@ -1,5 +1,5 @@
-// Save: the image's text of the state in a block of 4,761 octets (document 01, The image). The rows of the block are
-// the lines before hexadecimal: A0 from its start, A1 of each monitor row in use by handle, A2 of each pair held in
+// Save: the image's text of the state in a block of 4,825 octets (document 01, The image). The rows of the block are
+// the lines before hexadecimal: A0 from its start, A1 of each monitor row in use by handle, A3 of each pair held in
 // start order, AF with their numbers. Lengths that stand in rows are cut to what the row has, so any block whatever
 // can be given.
 use state::State;
@@ -75,7 +75,7 @@ fn put_pair(out: &mut [u8], at: usize, row: &[u8]) -> usize
 {
     let n = octets::at_most(row[State::LENGTH_AT], State::DATA);
     let end = State::DATA_AT + n;
-    put_line(out, at, 0xA2, &row[..end])
+    put_line(out, at, 0xA3, &row[..end])
 }
 
 fn put_pairs(s: &[u8], out: &mut [u8], at: usize, n: usize) -> usize
@@ -138,8 +138,8 @@ fn put_image(s: &[u8], out: &mut [u8]) -> usize
     put_end(out, c, u, n)
 }
 
-// The image's text of the state in s, written from the start of out; its length. Where s is not 4,761 octets or out
-// is under 9,770, nothing is written and the answer is 0. Of the block of a sound state that is its image; of any
+// The image's text of the state in s, written from the start of out; its length. Where s is not 4,825 octets or out
+// is under 9,898, nothing is written and the answer is 0. Of the block of a sound state that is its image; of any
 // other block it is savedText, the lines of what stands in its rows.
 pub fn save_image(s: &[u8], out: &mut [u8]) -> usize
     ensures { λ r. ⌜ (r ≡ pick (saves (now (s .entry)) (length (now (out .entry)))) (length (savedText (now (s .entry)))) 0) × (now (out .exit) ≡ putIf (saves (now (s .entry)) (length (now (out .entry)))) (now (out .entry)) 0 (savedText (now (s .entry)))) ⌝ }

@@ -75,7 +75,7 @@ row-count : (q : Pair) → length (q .address) ≡ 6 → getD (padTo pairSize (p
 unfolding octetsOf
 row-count q h =
     let l : length (keyOf q) ≡ 8 = omega arith in
-    ap (λ (x : List ℕ). getD x 24 0) (place-split q h) ∙ getD-past (keyOf q) (timesOf q) 8 l 16
+    ap (λ (x : List ℕ). getD x lengthAt 0) (place-split q h) ∙ getD-past (keyOf q) (timesOf q) 8 l 17
 
 row-pair : (q : Pair) → Fits q → pairIn (padTo pairSize (pairRow q)) ≡ q
 unfolding padTo
@@ -101,7 +101,7 @@ row-passes position o q g e =
       e,
       le-leb (getD r lengthAt 0) mostData b,
     )
-    (ap (λ (j : ℕ). every isZero (drop (25 + j) r)) n ∙ row-behind q g)
+    (ap (λ (j : ℕ). every isZero (drop (dataAt + j) r)) n ∙ row-behind q g)
 
 row-handle : (q : Pair) → getD (padTo pairSize (pairRow q)) handleAt 0 ≡ q .handle
 unfolding padTo pairRow

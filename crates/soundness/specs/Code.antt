@@ -16,7 +16,7 @@ use Rattle.octets.specs.Little.{little, little-take}
 use Rattle.octets.specs.Numbers.{numberAt, number-of}
 use Rattle.parts.specs.Parts.{isZero}
 use Rattle.model.specs.Types.{ticksOf}
-use Rattle.model.specs.Level.{levels}
+use Rattle.model.specs.Level.{levels, inRange}
 use Rattle.model.specs.Image.{monitorIn}
 use Rattle.model.specs.Monitors.{accepts, settingsGood}
 use Rattle.advert.specs.Condition.{formOf, formStatus}
@@ -24,7 +24,7 @@ use Rattle.soundness.specs.Below.{allBelow, below-more, below-fails}
 use Rattle.soundness.specs.Clauses.{monitorRowAt, headTest, heldTest, monitorTest}
 use Rattle.soundness.specs.Clauses.{monitorsTest}
 use Rattle.soundness.specs.Fields.{windowTest, emptyTest, fieldsTest, accepts-tests}
-use Rattle.model.specs.Layout.{blockSize, conditionAt, conditionLengthAt, eventAt, filterAt, headSize, highAt, intervalAt, lengthAt, lowAt, monitorSize, monitorsAt, mostCondition, mostData, mostMonitors, mostPrefix, opcodeAt, packetsAt, pairSize, prefixAt, prefixLengthAt, sumAt, ticksAt, typeAt}
+use Rattle.model.specs.Layout.{blockSize, conditionAt, conditionLengthAt, dataAt, eventAt, filterAt, headSize, highAt, intervalAt, lengthAt, lowAt, monitorSize, monitorsAt, mostCondition, mostData, mostMonitors, mostPrefix, opcodeAt, packetsAt, pairSize, prefixAt, prefixLengthAt, rssiAt, sumAt, ticksAt, typeAt}
 
 -- parts of a slice: the rest, and a part before an end
 pub rest-of : {A : Type 0} (a : ℕ) (l : List A) → take (length l - a) (drop a l) ≡ drop a l
@@ -166,14 +166,15 @@ module _ (position interval sampling : ℕ) (r : List ℕ) where
   unfolding fieldsTest
   fields-long h = rw (lt-leb (getD r lengthAt 0) mostData h)
 
-  pub fields-short : (n : ℕ) {z w e : Bool} {v t p u : ℕ} → length r ≡ pairSize → n ≡ getD r lengthAt 0 → n ≤ mostData
-      → z ≡ every isZero (take (length r - (25 + n)) (drop (25 + n) r))
+  pub fields-short : (n : ℕ) {z w e i : Bool} {v t p u : ℕ} → length r ≡ pairSize → n ≡ getD r lengthAt 0 → n ≤ mostData
+      → z ≡ every isZero (take (length r - (dataAt + n)) (drop (dataAt + n) r))
       → v ≡ numberAt 2 r 8 → t ≡ ticksOf interval → p ≡ numberAt 4 r packetsAt → u ≡ numberAt 8 r sumAt
       → w ≡ windowTest position sampling (getD r ticksAt 0) p u → e ≡ emptyTest p u (getD r eventAt 0) (getD r lengthAt 0)
-      → (leb (getD r highAt 0) 1 && leb (getD r eventAt 0) 3 && ltb v t && w && e && z) ≡ fieldsTest position interval sampling r
+      → i ≡ inRange (getD r rssiAt 0)
+      → (leb (getD r highAt 0) 1 && leb (getD r eventAt 0) 3 && i && ltb v t && w && e && z) ≡ fieldsTest position interval sampling r
   unfolding fieldsTest
-  fields-short n {z} {w} {e} {v} {t} {p} {u} l k b dz dv dt dp du dw de =
+  fields-short n {z} {w} {e} {i} {v} {t} {p} {u} l k b dz dv dt dp du dw de di =
       let ev : v ≡ little 2 r 8 = number-of 2 r 8 dv (omega arith) in
       let ep : p ≡ little 4 r packetsAt = number-of 4 r 11 dp (omega arith) in
       let eu : u ≡ little 8 r sumAt = number-of 8 r 15 du (omega arith) in
-      rw (dz, dw, de, ev, ep, eu, dt, rest-of (25 + n) r, k, le-leb (getD r lengthAt 0) mostData (rw (← k) b))
+      rw (dz, dw, de, di, ev, ep, eu, dt, rest-of (dataAt + n) r, k, le-leb (getD r lengthAt 0) mostData (rw (← k) b))

@@ -11,18 +11,18 @@ use lib.ListN.{length, take, drop, getD, length-drop}
 use lib.Seq.{length-take-le}
 use borrow.Author.Tests.{le-leb, lt-leb, lt-ltb, le-ltb, eq-eqb}
 use Rattle.laws.specs.Tests.{pick, and-not-left, and-not-right, cases-le}
-use Rattle.laws.specs.Loops.{every, every-take, every-drop}
+use Rattle.laws.specs.Loops.{every, every-at, every-take, every-drop}
 use Rattle.octets.specs.Little.{little, isOctet}
 use Rattle.parts.specs.Parts.{isZero}
 use Rattle.advert.specs.Condition.{formOf, formStatus}
 use Rattle.model.specs.Types.{Monitor, Pair, ticksOf}
-use Rattle.model.specs.Level.{levels}
+use Rattle.model.specs.Level.{levels, inRange}
 use Rattle.model.specs.Monitors.{settingsGood, conditionFault, faultOf, accepts, runOf, windowed, invalid}
 use Rattle.model.specs.Image.{pairIn}
 use Rattle.model.specs.Sound.{octetsUpTo, soundWindow, soundEmpty, soundFields, soundOf}
 use Rattle.soundness.specs.Clauses.{pairTest}
 use Rattle.soundness.specs.Head.{little-lt}
-use Rattle.model.specs.Layout.{kindAt, addressAt, dataAt, eventAt, lengthAt, mostCondition, mostData, packetsAt, pairSize, silentAt, sumAt, ticksAt}
+use Rattle.model.specs.Layout.{kindAt, addressAt, dataAt, eventAt, lengthAt, mostCondition, mostData, packetsAt, pairSize, rssiAt, silentAt, sumAt, ticksAt}
 
 -- "for P in 1 to 0xFE window ticks below P, packets at most the position, sum from −127 × packets to 20 × packets;
 -- with other sampling window ticks and packets 0"
@@ -40,7 +40,7 @@ emptyTest packets sum event n = leb 1 packets || (eqb sum 0 && eqb event 0 && eq
 unfoldable pub fieldsTest : ℕ → ℕ → ℕ → List ℕ → Bool
 fieldsTest position interval sampling r =
     leb (getD r lengthAt 0) mostData
-    && (leb (getD r kindAt 0) 1 && leb (getD r eventAt 0) 3 && ltb (little 2 r silentAt) (ticksOf interval)
+    && (leb (getD r kindAt 0) 1 && leb (getD r eventAt 0) 3 && inRange (getD r rssiAt 0) && ltb (little 2 r silentAt) (ticksOf interval)
     && windowTest position sampling (getD r ticksAt 0) (little 4 r packetsAt) (little 8 r sumAt)
     && emptyTest (little 4 r packetsAt) (little 8 r sumAt) (getD r eventAt 0) (getD r lengthAt 0)
     && every isZero (drop (dataAt + getD r lengthAt 0) r))
@@ -80,16 +80,17 @@ empty-tests q n e = rw e
 
 -- a pair's fields: the address is 6 octets and the data are octets whatever stands there
 fields-tests : (q : Pair) → length (q .address) ≡ 6 → every isOctet (q .address) ≡ true → length (q .adv) ≤ mostData
-    → every isOctet (q .adv) ≡ true → soundFields q ≡ (leb (q .kind) 1 && leb (q .event) 3)
+    → every isOctet (q .adv) ≡ true → isOctet (q .kept) ≡ true
+    → soundFields q ≡ (leb (q .kind) 1 && leb (q .event) 3 && inRange (q .kept))
 unfolding soundFields octetsUpTo
-fields-tests q a b c d =
-    rw (eq-eqb (length (q .address)) 6 a, b, le-leb (length (q .adv)) mostData c, d)
-    (go (leb (q .kind) 1) (leb (q .event) 3))
+fields-tests q a b c d k =
+    rw (eq-eqb (length (q .address)) 6 a, b, le-leb (length (q .adv)) mostData c, d, k)
+    (go (leb (q .kind) 1) (leb (q .event) 3) (inRange (q .kept)))
   where
-    go : (a b : Bool) → (a && true && true && b && true) ≡ (a && b)
-    go false b = refl
-    go true false = refl
-    go true true = refl
+    go : (a b c : Bool) → (a && true && true && b && true && (true && c)) ≡ (a && b && c)
+    go false b c = refl
+    go true false c = refl
+    go true true c = refl
 
 -- a pair's row passes where its numbers do
 module _ (position : ℕ) (m : Monitor) (r : List ℕ) (l : length r ≡ pairSize) (o : every isOctet r ≡ true) where
@@ -99,28 +100,29 @@ module _ (position : ℕ) (m : Monitor) (r : List ℕ) (l : length r ≡ pairSiz
       let q : Pair = pairIn r in
       let n : ℕ = getD r lengthAt 0 in
       let la : length (take 6 (drop addressAt r)) ≡ 6 = length-take-le 6 (drop addressAt r) (rw (length-drop 2 r) (omega arith)) in
-      let ld : length (take n (drop dataAt r)) ≡ n = length-take-le n (drop dataAt r) (rw (length-drop 25 r) (omega arith)) in
+      let ld : length (take n (drop dataAt r)) ≡ n = length-take-le n (drop dataAt r) (rw (length-drop dataAt r) (omega arith)) in
       let oa : every isOctet (take 6 (drop addressAt r)) ≡ true =
       every-take isOctet 6 (drop addressAt r) (every-drop isOctet 2 r o) in
       let od : every isOctet (take n (drop dataAt r)) ≡ true =
-      every-take isOctet n (drop dataAt r) (every-drop isOctet 25 r o) in
+      every-take isOctet n (drop dataAt r) (every-drop isOctet dataAt r o) in
       rw (
-        fields-tests q la oa (omega arith) od,
+        fields-tests q la oa (omega arith) od (every-at isOctet r rssiAt 0 o (omega arith)),
         window-tests position m q (little-lt 8 r 15 o),
         empty-tests q n ld,
         le-leb n mostData h,
       )
-      (go (leb (getD r kindAt 0) 1) (leb (getD r eventAt 0) 3) (ltb (little 2 r silentAt) (ticksOf (m .interval)))
+      (go (leb (getD r kindAt 0) 1) (leb (getD r eventAt 0) 3) (inRange (getD r rssiAt 0)) (ltb (little 2 r silentAt) (ticksOf (m .interval)))
       (windowTest position (m .sampling) (getD r ticksAt 0) (little 4 r packetsAt) (little 8 r sumAt))
-      (emptyTest (little 4 r packetsAt) (little 8 r sumAt) (getD r eventAt 0) n) (every isZero (drop (25 + n) r)))
+      (emptyTest (little 4 r packetsAt) (little 8 r sumAt) (getD r eventAt 0) n) (every isZero (drop (dataAt + n) r)))
     where
-      go : (a b c d e f : Bool) → (a && b && c && d && e && true && f) ≡ (a && b && c && d && e && f)
-      go false b c d e f = refl
-      go true false c d e f = refl
-      go true true false d e f = refl
-      go true true true false e f = refl
-      go true true true true false f = refl
-      go true true true true true f = refl
+      go : (a b k c d e f : Bool) → (a && b && k && c && d && e && true && f) ≡ (a && b && k && c && d && e && f)
+      go false b k c d e f = refl
+      go true false k c d e f = refl
+      go true true false c d e f = refl
+      go true true true false d e f = refl
+      go true true true true false e f = refl
+      go true true true true true false f = refl
+      go true true true true true true f = refl
 
   many-tests : mostData < getD r lengthAt 0 → pairTest position (some m) r ≡ false
   unfolding pairTest

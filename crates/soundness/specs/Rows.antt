@@ -13,7 +13,7 @@ use Rattle.parts.specs.Parts.{isZero}
 use Rattle.model.specs.Image.{monitorRow, pairRow, monitorIn, pairIn}
 use Rattle.model.specs.Block.{padTo}
 use Rattle.soundness.specs.Below.{zeros-run}
-use Rattle.model.specs.Layout.{addressAt, conditionAt, conditionLengthAt, dataAt, eventAt, handleAt, highAt, intervalAt, lengthAt, lowAt, monitorSize, mostCondition, mostData, packetsAt, pairSize, samplingAt, silentAt, sumAt, ticksAt, typeAt}
+use Rattle.model.specs.Layout.{addressAt, conditionAt, conditionLengthAt, dataAt, eventAt, handleAt, highAt, intervalAt, lengthAt, lowAt, monitorSize, mostCondition, mostData, packetsAt, pairSize, rssiAt, samplingAt, silentAt, sumAt, ticksAt, typeAt}
 
 -- what is left at index i, with the octet, the octets or the number that stands there first
 pub one-cut : (r : List ℕ) (i : ℕ) → i < length r → getD r i 0 ∷ drop (suc i) r ≡ drop i r
@@ -78,21 +78,23 @@ pair-row r l o h z =
     let p : List ℕ = octetsOf 4 (little 4 r packetsAt) in
     let u : List ℕ = octetsOf 8 (little 8 r sumAt) in
     let d : List ℕ = take n (drop dataAt r) in
-    let y : List ℕ = drop (25 + n) r in
+    let y : List ℕ = drop (dataAt + n) r in
     let la : length a ≡ 6 = length-take-le 6 (drop addressAt r) (rw (length-drop 2 r) (omega arith)) in
-    let k : length d ≡ n = length-take-le n (drop dataAt r) (rw (length-drop 25 r) (omega arith)) in
+    let k : length d ≡ n = length-take-le n (drop dataAt r) (rw (length-drop dataAt r) (omega arith)) in
     let f : List ℕ = pairRow (pairIn r) in
-    let lf : length f ≡ 25 + n = Rattle.blocks.specs.Rows.length-pairRow (pairIn r) la ∙ ap (λ (j : ℕ). 25 + j) k in
-    pad-zeros pairSize (25 + n) f r l lf (omega arith) (
-    spread (getD r handleAt 0) (getD r highAt 0) a s (getD r ticksAt 0) p u (getD r eventAt 0) (length d) d y
+    let lf : length f ≡ dataAt + n = Rattle.blocks.specs.Rows.length-pairRow (pairIn r) la ∙ ap (λ (j : ℕ). dataAt + j) k in
+    pad-zeros pairSize (dataAt + n) f r l lf (omega arith) (
+    spread (getD r handleAt 0) (getD r highAt 0) a s (getD r ticksAt 0) p u (getD r rssiAt 0) (getD r eventAt 0) (length d) d y
     ∙ ap (λ (j : ℕ). getD r handleAt 0 ∷ getD r highAt 0 ∷
-    (a ++ (s ++ (getD r ticksAt 0 ∷ (p ++ (u ++ (getD r eventAt 0 ∷ j ∷ (d ++ y)))))))) k
+    (a ++ (s ++ (getD r ticksAt 0 ∷ (p ++ (u ++ (getD r rssiAt 0 ∷ getD r eventAt 0 ∷ j ∷ (d ++ y)))))))) k
     ∙ ap (λ (x : List ℕ). getD r handleAt 0 ∷ getD r highAt 0 ∷
-    (a ++ (s ++ (getD r ticksAt 0 ∷ (p ++ (u ++ (getD r eventAt 0 ∷ n ∷ x))))))) (part-cut r 25 n)
-    ∙ ap (λ (x : List ℕ). getD r handleAt 0 ∷ getD r highAt 0 ∷ (a ++ (s ++ (getD r ticksAt 0 ∷ (p ++ (u ++ (getD r eventAt 0 ∷ x)))))))
-    (one-cut r 24 (omega arith))
+    (a ++ (s ++ (getD r ticksAt 0 ∷ (p ++ (u ++ (getD r rssiAt 0 ∷ getD r eventAt 0 ∷ n ∷ x))))))) (part-cut r dataAt n)
+    ∙ ap (λ (x : List ℕ). getD r handleAt 0 ∷ getD r highAt 0 ∷ (a ++ (s ++ (getD r ticksAt 0 ∷ (p ++ (u ++ (getD r rssiAt 0 ∷ getD r eventAt 0 ∷ x)))))))
+    (one-cut r lengthAt (omega arith))
+    ∙ ap (λ (x : List ℕ). getD r handleAt 0 ∷ getD r highAt 0 ∷ (a ++ (s ++ (getD r ticksAt 0 ∷ (p ++ (u ++ (getD r rssiAt 0 ∷ x)))))))
+    (one-cut r eventAt (omega arith))
     ∙ ap (λ (x : List ℕ). getD r handleAt 0 ∷ getD r highAt 0 ∷ (a ++ (s ++ (getD r ticksAt 0 ∷ (p ++ (u ++ x))))))
-    (one-cut r 23 (omega arith))
+    (one-cut r rssiAt (omega arith))
     ∙ ap (λ (x : List ℕ). getD r handleAt 0 ∷ getD r highAt 0 ∷ (a ++ (s ++ (getD r ticksAt 0 ∷ (p ++ x)))))
     (number-cut 8 r 15 o (omega arith))
     ∙ ap (λ (x : List ℕ). getD r handleAt 0 ∷ getD r highAt 0 ∷ (a ++ (s ++ (getD r ticksAt 0 ∷ x))))
@@ -103,7 +105,7 @@ pair-row r l o h z =
     ∙ ap (λ (x : List ℕ). getD r handleAt 0 ∷ x) (one-cut r 1 (omega arith))
     ∙ one-cut r 0 (omega arith)) z
   where
-    spread : (h k : ℕ) (a s : List ℕ) (t : ℕ) (p u : List ℕ) (e n : ℕ) (d y : List ℕ)
-        → h ∷ k ∷ (a ++ (s ++ (t ∷ (p ++ (u ++ (e ∷ n ∷ d)))))) ++ y
-        ≡ h ∷ k ∷ (a ++ (s ++ (t ∷ (p ++ (u ++ (e ∷ n ∷ (d ++ y)))))))
-    spread h k a s t p u e n d y = simp append-assoc
+    spread : (h k : ℕ) (a s : List ℕ) (t : ℕ) (p u : List ℕ) (o e n : ℕ) (d y : List ℕ)
+        → h ∷ k ∷ (a ++ (s ++ (t ∷ (p ++ (u ++ (o ∷ e ∷ n ∷ d)))))) ++ y
+        ≡ h ∷ k ∷ (a ++ (s ++ (t ∷ (p ++ (u ++ (o ∷ e ∷ n ∷ (d ++ y)))))))
+    spread h k a s t p u o e n d y = simp append-assoc

@@ -140,7 +140,8 @@ fn fields_sound(r: &[u8], position: u32, interval: u8, sampling: u8) -> bool
     let window = window_sound(position, sampling, r[State::TICKS_AT], packets, sum);
     let empty = empty_sound(packets, sum, r[State::EVENT_AT], r[State::LENGTH_AT]);
     let short = silent.below(Seconds(interval).ticks());
-    (r[State::KIND_AT] <= 1) & (r[State::EVENT_AT] <= 3) & short & window & empty & behind
+    let kept = state::in_range(r[State::RSSI_AT]);
+    (r[State::KIND_AT] <= 1) & (r[State::EVENT_AT] <= 3) & kept & short & window & empty & behind
 }
 
 // Whether the pair at a place is of a live monitor and holds what it may.

@@ -136,7 +136,7 @@ impl State {
     // The longest answer, image and line.
     pub const ANSWER: usize = 2880;
 
-    pub const IMAGE: usize = 9770;
+    pub const IMAGE: usize = 9898;
 
     pub const LINE: usize = lines::LINE_ROOM;
     // The head: position (4), filter, opcode (2), prefix length, prefix.
@@ -168,7 +168,7 @@ impl State {
 
     pub const MONITOR_ROW: usize = State::CONDITION_AT + State::CONDITION;
     // A pair's row: its key (handle, and the device: address type and address), ticks since a good packet (2), ticks in the
-    // window, packets (4), sum (8), event type, n, data.
+    // window, packets (4), sum (8), kept RSSI, event type, n, data.
     pub const KIND_AT: usize = 1;
 
     pub const ADDRESS_AT: usize = State::KIND_AT + 1;
@@ -181,19 +181,23 @@ impl State {
 
     pub const SUM_AT: usize = State::PACKETS_AT + 4;
 
-    pub const EVENT_AT: usize = State::SUM_AT + 8;
+    pub const RSSI_AT: usize = State::SUM_AT + 8;
+
+    pub const EVENT_AT: usize = State::RSSI_AT + 1;
 
     pub const LENGTH_AT: usize = State::EVENT_AT + 1;
 
     pub const DATA_AT: usize = State::LENGTH_AT + 1;
 
     pub const PAIR_ROW: usize = State::DATA_AT + State::DATA;
-    // A pair's key and its device; its window from the ticks on.
+    // A pair's key and its device; of its window what stands before the kept RSSI, and what stands behind it.
     pub const KEY: usize = State::SILENT_AT;
 
     pub const DEVICE: usize = State::SILENT_AT - State::KIND_AT;
 
-    pub const WINDOW: usize = State::PAIR_ROW - State::TICKS_AT;
+    pub const COUNTS: usize = State::RSSI_AT - State::TICKS_AT;
+
+    pub const LATEST: usize = State::PAIR_ROW - State::EVENT_AT;
     // The block: the head, the monitors' rows by handle, the pairs' rows in start order, the number of pairs.
     pub const MONITORS_AT: usize = State::HEAD;
 

@@ -1,12 +1,13 @@
--- Every answer of a sound state is at most 2,880 octets: a command's at most 48, a packet's 794 (16 start events of 44 and two reports of 45), a tick's 2,880.
+-- Every answer of a sound state is at most 2,880 octets: a command's at most 48, a packet's 1,498 (16 stop
+-- and 16 start events of 44, and two reports of 45), a tick's 2,880.
 -- Document 01, Sizes of the gateway. Assumes nothing.
 use Prim.Native.Nat.{ℕ, _*_, _≤_, _<_}
 use native.Mathlib.Omega.{arith}
 use mathlib.Core.Path.{_≡_, sym, subst}
 use mathlib.Core.Bool.{true}
-use mathlib.Core.List.{List}
+use mathlib.Core.List.{List, map}
 use lib.ListN.{length}
-use Rattle.laws.specs.Loops.{every, each, when}
+use Rattle.laws.specs.Loops.{every, when}
 use Rattle.octets.specs.Little.{isOctet}
 use Rattle.rule.specs.Base.{All}
 use Rattle.rule.specs.Engine.{find}
@@ -15,8 +16,8 @@ use Rattle.sessions.specs.Machine.{done, answerRoom}
 use Rattle.model.specs.Types.{Model, Packet, Pair}
 use Rattle.model.specs.Frames.{Body, Typed, command, packet, tick, bad, typed}
 use Rattle.model.specs.Commands.{returned}
-use Rattle.model.specs.Events.{complete, startEvent, stopEvent, packetReports, windowReport}
-use Rattle.model.specs.Watch.{startPair, startsOf, reported, packetAnswer, goesOn, windowSays, tickOctets, tickAnswer}
+use Rattle.model.specs.Events.{complete, stopEvent, packetReports, windowReport}
+use Rattle.model.specs.Watch.{packetMove, turnsAnswer, reported, packetAnswer, goesOn, windowSays, tickOctets, tickAnswer}
 use Rattle.model.specs.Step.{answerTyped, act}
 use Rattle.model.specs.Sound.{soundModel}
 use Rattle.steps.specs.Lists.{short-nil, short-append, short-more, short-when, short-pick, short-each}
@@ -25,10 +26,10 @@ use Rattle.steps.specs.Facts.{Settings, settings-of, Fields, fields-of}
 use Rattle.steps.specs.Whole.{Row, Held, Sound, sound-of}
 use Rattle.steps.specs.Typed.{Params, Sent, Formed, typed-formed}
 use Rattle.steps.specs.Executed.{Executed, executed}
-use Rattle.steps.specs.Starts.{Started, Below, packet-starts}
+use Rattle.steps.specs.Named.{Named, held-named, named-moved, turns-short}
 use Rattle.steps.specs.Sizes.{Octets, returned-short, complete-short, event-short, packet-reports-short}
 use Rattle.steps.specs.Sizes.{window-report-short}
-use Rattle.model.specs.Layout.{commandMost, eventMost, packetMost, reportMost, startsMost}
+use Rattle.model.specs.Layout.{commandMost, eventMost, packetMost, reportMost, turnsMost}
 use Rattle.model.specs.Layout.{mostMonitors}
 
 module _ (m : Model) (s : Sound m) where
@@ -38,30 +39,16 @@ module _ (m : Model) (s : Sound m) where
   pub command-short : (l : List ℕ) → Params l → Octets commandMost (complete (m .opcode) (returned m l))
   command-short l t = complete-short (m .opcode) (returned m l) (returned-short m l settings t)
 
-  -- a start event
-  start-short : (p : Packet) (q : Pair) → Sent p → Started p mostMonitors q → Octets eventMost (startEvent (m .prefix) q)
-  unfolding startEvent startPair
-  start-short p q t w = go (w .of) (w .below) q (w .is)
-    where
-      go : (h : ℕ) → h < mostMonitors → (r : Pair) → r ≡ startPair h p → Octets eventMost (startEvent (m .prefix) r)
-      go h b r e =
-          subst (λ x. Octets eventMost (startEvent (m .prefix) x)) (sym e)
-          (event-short (m .opcode) (m .prefix) (startPair h p) 1 settings (t .kind-most) (t .address-six)
-          (t .address-octets) (omega arith) (omega arith))
-
-  -- a packet: at most 16 start events and two reports
+  -- a packet: at most 16 stop events, 16 start events and two reports
   pub packet-short : (p : Packet) → Sent p → Octets packetMost (packetAnswer m p)
   unfolding packetAnswer
   packet-short p t =
-      let w : Below p mostMonitors (startsOf m p) = packet-starts m p in
-      let all : All (λ q. Octets eventMost (startEvent (m .prefix) q)) (startsOf m p) =
-      all-weaken (Started p mostMonitors) (λ q. Octets eventMost (startEvent (m .prefix) q)) (λ q u. start-short p q t u)
-      (startsOf m p) (w .starts) in
-      let events : Octets (eventMost * length (startsOf m p)) (each (startEvent (m .prefix)) (startsOf m p)) =
-      short-each isOctet eventMost (startEvent (m .prefix)) (startsOf m p) all in
-      short-append isOctet startsMost (2 * reportMost) (each (startEvent (m .prefix)) (startsOf m p))
+      let qs : List Pair = map (packetMove (m .mons) p) (m .pairs) in
+      let all : All Named qs = named-moved (m .mons) p (m .pairs) (
+      all-weaken (Held (m .position) (m .mons)) Named (λ q h. held-named m s q h) (m .pairs) (s .pairs .held)) in
+      short-append isOctet turnsMost (2 * reportMost) (turnsAnswer (m .prefix) (m .mons) p mostMonitors qs)
       (when (reported m p) (packetReports p))
-      (short-more isOctet (eventMost * length (startsOf m p)) startsMost _ (omega (arith, w .few)) events)
+      (turns-short (m .opcode) (m .prefix) (m .mons) p settings t mostMonitors qs (omega arith) all)
       (short-when isOctet (reported m p) (2 * reportMost) (packetReports p) (packet-reports-short p t))
 
   -- a tick, for one pair held: a stop event or a report

@@ -12,7 +12,7 @@ use Rattle.laws.specs.Tests.{and-left, and-right, and-both, pick-true, pick-fal
 use Rattle.laws.specs.Loops.{every}
 use Rattle.octets.specs.Little.{isOctet}
 use Rattle.model.specs.Types.{Monitor, Pair}
-use Rattle.model.specs.Level.{levels}
+use Rattle.model.specs.Level.{levels, inRange}
 use Rattle.model.specs.Monitors.{accepts, windowed}
 use Rattle.model.specs.Sound.{octetsUpTo, soundSettings, soundMonitor, soundWindow, soundEmpty, soundFields}
 use Rattle.model.specs.Layout.{mostData, mostPrefix}
@@ -91,7 +91,7 @@ stored-holds m s =
     and-both (and-both (and-both (and-both (s .accepted) (s .high-octet)) (s .low-octet)) (s .sampling-octet))
     (s .condition-octets)
 
--- "with valid address type and event type, n at most 31"
+-- "with valid address type and event type, n at most 31"; T-05: the kept RSSI "between −127 and 20"
 pub record Fields (q : Pair) : Type 0 where
   pub kind-most : q .kind ≤ 1
   pub address-six : length (q .address) ≡ 6
@@ -99,13 +99,20 @@ pub record Fields (q : Pair) : Type 0 where
   pub event-most : q .event ≤ 3
   pub adv-short : length (q .adv) ≤ mostData
   pub adv-octets : every isOctet (q .adv) ≡ true
+  pub kept-octet : q .kept < 256
+  pub kept-in : inRange (q .kept) ≡ true
 
 pub fields-of : (q : Pair) → soundFields q ≡ true → Fields q
 unfolding soundFields
 fields-of q e =
+    let a : Bool = leb (q .kind) 1 && eqb (length (q .address)) 6 && every isOctet (q .address) && leb (q .event) 3
+    && octetsUpTo mostData (q .adv) in
+    let o : Bool = isOctet (q .kept) in
+    let i : Bool = inRange (q .kept) in
+    let k : (o && i) ≡ true = and-right a (o && i) e in
     let r =
     and-five (leb (q .kind) 1) (eqb (length (q .address)) 6) (every isOctet (q .address)) (leb (q .event) 3)
-    (octetsUpTo mostData (q .adv)) e in
+    (octetsUpTo mostData (q .adv)) (and-left a (o && i) e) in
     let u = up-to mostData (q .adv) (r .4) in
     record {
       kind-most = leb-true (q .kind) 1 (r .0);
@@ -114,15 +121,18 @@ fields-of q e =
       event-most = leb-true (q .event) 3 (r .3);
       adv-short = u .0;
       adv-octets = u .1;
+      kept-octet = ltb-true (q .kept) 256 (and-left o i k);
+      kept-in = and-right o i k;
     }
 
 pub fields-hold : (q : Pair) → Fields q → soundFields q ≡ true
 unfolding soundFields
 fields-hold q f =
-    and-both (and-both (and-both (and-both
+    and-both (and-both (and-both (and-both (and-both
     (le-leb (q .kind) 1 (f .kind-most)) (eq-eqb (length (q .address)) 6 (f .address-six)))
     (f .address-octets)) (le-leb (q .event) 3 (f .event-most)))
-    (up-to-holds mostData (q .adv) (f .adv-short) (f .adv-octets))
+    (up-to-holds mostData (q .adv) (f .adv-short) (f .adv-octets)))
+    (and-both (lt-ltb (q .kept) 256 (f .kept-octet)) (f .kept-in))
 
 -- "for P in 1 to 0xFE window ticks below P, packets at most the position, sum from −127 × packets to 20 × packets"
 pub record Gathers (position : ℕ) (m : Monitor) (q : Pair) : Type 0 where

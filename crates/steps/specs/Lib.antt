@@ -6,6 +6,7 @@ pub mod Whole
 pub mod Typed
 pub mod Sums
 pub mod Moves
+pub mod Drops
 pub mod Turns
 pub mod Orders
 pub mod Executed
@@ -13,6 +14,7 @@ pub mod Keeps
 pub mod Counts
 pub mod Starts
 pub mod Sizes
+pub mod Named
 pub mod Answers
 pub mod Given
 pub mod Signed

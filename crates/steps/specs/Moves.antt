@@ -15,7 +15,7 @@ use Rattle.rule.specs.Engine.{find}
 use Rattle.model.specs.Types.{Monitor, Packet, Pair, watched}
 use Rattle.model.specs.Level.{level, levels, addRssi}
 use Rattle.model.specs.Monitors.{good, windowed, runOf}
-use Rattle.model.specs.Watch.{withSilent, gathered, withTicks, emptied, counts, refreshed, windowTakes, atPacket}
+use Rattle.model.specs.Watch.{withSilent, withKept, gathered, withTicks, emptied, counts, refreshed, windowTakes, atPacket}
 use Rattle.model.specs.Watch.{packetMove, goesOn, closes, windowTick, atTick, startPair}
 use Rattle.model.specs.Sound.{soundFields, soundWindow, soundEmpty}
 use Rattle.steps.specs.Lists.{picked}
@@ -35,6 +35,10 @@ pub refreshed-key : (m : Monitor) (p : Packet) (q : Pair) → key (refreshed m p
 unfolding refreshed withSilent watched
 refreshed-key m p q = pick-both (λ r. key r ≡ key q) (good m p) (withSilent q 0) q (λ e. refl) (λ e. refl)
 
+pub strength-key : (o : ℕ) (q : Pair) → key (withKept q o) ≡ key q
+unfolding withKept watched
+strength-key o q = refl
+
 pub takes-key : (m : Monitor) (p : Packet) (q : Pair) → key (windowTakes m p q) ≡ key q
 unfolding windowTakes gathered watched
 takes-key m p q = pick-both (λ r. key r ≡ key q) (windowed m) (gathered p q) q (λ e. refl) (λ e. refl)
@@ -46,8 +50,9 @@ packet-key mons p q = go (find mons (q .handle))
     go : (o : Option Monitor) → key (atPacket o p q) ≡ key q
     go none = refl
     go (some m) =
-        pick-both (λ r. key r ≡ key q) (counts m p q) (windowTakes m p (refreshed m p q)) q
-        (λ e. takes-key m p (refreshed m p q) ∙ refreshed-key m p q) (λ e. refl)
+        let k : Pair = withKept q (p .rssi) in
+        pick-both (λ r. key r ≡ key q) (counts m p q) (windowTakes m p (refreshed m p k)) q
+        (λ e. takes-key m p (refreshed m p k) ∙ refreshed-key m p k ∙ strength-key (p .rssi) q) (λ e. refl)
 
 pub window-key : (m : Monitor) (q : Pair) (n : ℕ) → key (windowTick m (withSilent q n)) ≡ key q
 unfolding windowTick withSilent withTicks emptied watched
@@ -110,6 +115,24 @@ module _ (m : Monitor) where
   unfolding refreshed
   kept-refreshed k p q h s = pick-both (Kept k m) (good m p) (withSilent q 0) q (λ e. kept-silent k 0 q h s) (λ e. s)
 
+  -- another kept RSSI
+  pub kept-strength : (k : ℕ) (p : Packet) (q : Pair) → Sent p → Kept k m q → Kept k m (withKept q (p .rssi))
+  unfolding withKept soundWindow soundEmpty
+  kept-strength k p q t s =
+      let f : Fields q = fields-of q (s .fields) in
+      let fs : Fields (withKept q (p .rssi)) =
+      record {
+        kind-most = f .kind-most;
+        address-six = f .address-six;
+        address-octets = f .address-octets;
+        event-most = f .event-most;
+        adv-short = f .adv-short;
+        adv-octets = f .adv-octets;
+        kept-octet = t .rssi-octet;
+        kept-in = t .rssi-in;
+      } in
+      record { fields = fields-hold (withKept q (p .rssi)) fs; silent-below = s .silent-below; window = s .window; empty = s .empty }
+
   -- a packet more in the window
   pub kept-gathered : (k : ℕ) (p : Packet) (q : Pair) → Sent p → windowed m ≡ true → k < 4294967295 → Kept k m q
       → Kept (k + 1) m (gathered p q)
@@ -130,6 +153,8 @@ module _ (m : Monitor) where
         event-most = t .event-most;
         adv-short = t .adv-short;
         adv-octets = t .adv-octets;
+        kept-octet = t .rssi-octet;
+        kept-in = t .rssi-in;
       } in
       let gs : Gathers (k + 1) m (gathered p q) =
       record {
@@ -157,8 +182,9 @@ module _ (m : Monitor) where
       → Kept (k + 1) m (atPacket (some m) p q)
   unfolding atPacket
   kept-packet k p q r t h s =
-      pick-both (Kept (k + 1) m) (counts m p q) (windowTakes m p (refreshed m p q)) q
-      (λ e. kept-takes k p (refreshed m p q) t h (kept-refreshed k p q r s))
+      let u : Pair = withKept q (p .rssi) in
+      pick-both (Kept (k + 1) m) (counts m p q) (windowTakes m p (refreshed m p u)) q
+      (λ e. kept-takes k p (refreshed m p u) t h (kept-refreshed k p u r (kept-strength k p q t s)))
       (λ e. kept-later k (k + 1) q (omega arith) s)
 
   -- a closed window is empty
@@ -175,6 +201,8 @@ module _ (m : Monitor) where
         event-most = omega arith;
         adv-short = omega arith;
         adv-octets = every-nil _;
+        kept-octet = f .kept-octet;
+        kept-in = f .kept-in;
       } in
       let gs : Gathers k m (emptied q) =
       record {
@@ -245,6 +273,8 @@ module _ (m : Monitor) where
         event-most = omega arith;
         adv-short = omega arith;
         adv-octets = every-nil _;
+        kept-octet = t .rssi-octet;
+        kept-in = t .rssi-in;
       } in
       record {
         fields = fields-hold (startPair h p) fs;

@@ -1,4 +1,4 @@
--- The starts of one packet: at most 16 pairs behind those that were held, each at its start. Document 01, Watching,
+-- The starts of one packet: at most 16 pairs, each at its start. Document 01, Watching,
 -- by history ("monitors take one packet in handle order"). Assumes nothing.
 use Prim.Native.Nat.{ℕ, zero, suc, _+_, _≤_, _<_}
 use native.Mathlib.Omega.{arith}
@@ -13,7 +13,8 @@ use Rattle.laws.specs.Loops.{when}
 use Rattle.rule.specs.Base.{All, all-append}
 use Rattle.rule.specs.Engine.{find}
 use Rattle.model.specs.Types.{Model, Monitor, Packet, Pair}
-use Rattle.model.specs.Watch.{packetMove, begins, startPair, startOf, turn, turns, startsBelow, packetPairs, startsOf}
+use Rattle.model.specs.Watch.{packetMove, begins, staysFor, startPair, startOf, turn, turns, startsBelow, startsOf}
+use Rattle.model.specs.Level.{level}
 use Rattle.steps.specs.Lists.{all-weaken}
 use Rattle.model.specs.Layout.{mostMonitors}
 
@@ -25,33 +26,20 @@ pub record Started (p : Packet) (n : ℕ) (q : Pair) : Type 0 where
 
 -- a turn, by its test
 pub turn-none : (p : Packet) (h : ℕ) (qs : List Pair) → turn none p h qs ≡ qs
-unfolding turn startOf
-turn-none p h qs = append-nil qs
+unfolding turn
+turn-none p h qs = refl
 
 pub turn-pick : (m : Monitor) (p : Packet) (h : ℕ) (qs : List Pair)
-    → turn (some m) p h qs ≡ pick (begins m p h qs) (qs ++ (startPair h p ∷ [])) qs
-unfolding turn startOf when pick
-turn-pick m p h qs = go (begins m p h qs)
-  where
-    go : (t : Bool) → qs ++ when t (startPair h p ∷ []) ≡ pick t (qs ++ (startPair h p ∷ [])) qs
-    go true = refl
-    go false = append-nil qs
-
--- the turns put their starts behind the pairs held
-pub turns-starts : (mons : List (ℕ × Monitor)) (p : Packet) (n : ℕ) (qs : List Pair)
-    → turns mons p n qs ≡ qs ++ startsBelow mons p n qs
-unfolding turns startsBelow turn
-turns-starts mons p zero qs = sym (append-nil qs)
-turns-starts mons p (suc n) qs =
-    let s : List Pair = startOf (find mons n) p n (turns mons p n qs) in
-    ap (λ (l : List Pair). l ++ s) (turns-starts mons p n qs) ∙ append-assoc qs (startsBelow mons p n qs) s
+    → turn (some m) p h qs ≡ pick (begins m p h qs) (staysFor (level (p .rssi)) qs ++ (startPair h p ∷ [])) qs
+unfolding turn
+turn-pick m p h qs = refl
 
 -- at most one start a handle, each at its start
 pub record Below (p : Packet) (n : ℕ) (qs : List Pair) : Type 0 where
   pub few : length qs ≤ n
   pub starts : All (Started p n) qs
 
-start-below : (o : Option Monitor) (p : Packet) (n : ℕ) (qs : List Pair) → (length (startOf o p n qs) ≤ 1)
+pub start-below : (o : Option Monitor) (p : Packet) (n : ℕ) (qs : List Pair) → (length (startOf o p n qs) ≤ 1)
     × All (Started p (suc n)) (startOf o p n qs)
 unfolding startOf when
 start-below none p n qs = (omega arith, tt)
@@ -77,23 +65,7 @@ starts-below mons p (suc n) qs =
     up : (q : Pair) → Started p n q → Started p (suc n) q
     up q s = record { of = s .of; below = omega (arith, s .below); is = s .is }
 
--- the starts of a packet: behind the pairs held, and so many more pairs
-module _ (m : Model) (p : Packet) where
-  pub packet-starts : Below p mostMonitors (startsOf m p)
-  unfolding startsOf
-  packet-starts = starts-below (m .mons) p mostMonitors (map (packetMove (m .mons) p) (m .pairs))
-
-  pub starts-behind : drop (length (m .pairs)) (packetPairs m p) ≡ startsOf m p
-  unfolding startsOf packetPairs
-  starts-behind =
-      let qs : List Pair = map (packetMove (m .mons) p) (m .pairs) in
-      ap (λ (l : List Pair). drop (length (m .pairs)) l) (turns-starts (m .mons) p mostMonitors qs)
-      ∙ drop-at qs (startsBelow (m .mons) p mostMonitors qs) (length (m .pairs)) (length-map (m .pairs) (packetMove (m .mons) p))
-
-  pub starts-count : length (packetPairs m p) ≡ length (m .pairs) + length (startsOf m p)
-  unfolding startsOf packetPairs
-  starts-count =
-      let qs : List Pair = map (packetMove (m .mons) p) (m .pairs) in
-      ap (λ (l : List Pair). length l) (turns-starts (m .mons) p mostMonitors qs)
-      ∙ length-append qs (startsBelow (m .mons) p mostMonitors qs)
-      ∙ ap (λ (k : ℕ). k + length (startsBelow (m .mons) p mostMonitors qs)) (length-map (m .pairs) (packetMove (m .mons) p))
+-- the starts of a packet
+pub packet-starts : (m : Model) (p : Packet) → Below p mostMonitors (startsOf m p)
+unfolding startsOf
+packet-starts m p = starts-below (m .mons) p mostMonitors (map (packetMove (m .mons) p) (m .pairs))

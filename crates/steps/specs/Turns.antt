@@ -3,30 +3,31 @@
 use Prim.Native.Nat.{ℕ, zero, suc, _+_, _≤_, _<_}
 use native.Mathlib.Omega.{arith}
 use mathlib.Core.Path.{_≡_, refl, sym, ap, _∙_, subst}
-use mathlib.Core.Bool.{true, false, _&&_, not, false≢true}
+use mathlib.Core.Bool.{Bool, true, false, _&&_, not, false≢true}
 use mathlib.Core.Option.{Option, none, some}
 use mathlib.Core.List.{List, [], _∷_, _++_, map}
-use lib.Dec.{ltb}
 use lib.ListN.{length, length-append}
-use borrow.Author.Tests.{ltb-true, not-true}
+use borrow.Author.Tests.{not-true}
 use Rattle.laws.specs.Tests.{and-left, and-right}
 use Rattle.rule.specs.Base.{In, From, each, all-in, in-all, all-append, each-in, each-length}
 use Rattle.rule.specs.Base.{each-distinct, distinct-snoc, map-append, some-inj}
 use Rattle.rule.specs.Engine.{find}
 use Rattle.rule.specs.Finds.{find-all}
 use Rattle.model.specs.Types.{Model, Monitor, Packet, Pair, deviceOf, watched}
+use Rattle.model.specs.Level.{level}
 use Rattle.model.specs.Accepted.{accepts-run}
 use Rattle.model.specs.Monitors.{runOf, matches, strong}
-use Rattle.model.specs.Watch.{atPacket, packetMove, atTick, holds, begins, startPair, turn, turns, packetPairs}
+use Rattle.model.specs.Watch.{atPacket, packetMove, atTick, holds, fits, staysFor, begins, startPair, turn, turns, packetPairs}
 use Rattle.model.specs.Watch.{tickPairs}
 use Rattle.steps.specs.Lists.{map-each, all-weaken}
 use Rattle.steps.specs.Facts.{stored-of}
 use Rattle.steps.specs.Whole.{Row, key, in-holds, Kept, Held, Pairs, Monitors}
 use Rattle.steps.specs.Typed.{pick-both, Sent}
 use Rattle.steps.specs.Starts.{turn-none, turn-pick}
+use Rattle.steps.specs.Drops.{stays-fewer, stays-all, stays-once, stays-in}
 use Rattle.steps.specs.Moves.{packet-key, Ticked, ticked, tick-key, kept-later, kept-packet, kept-tick}
 use Rattle.steps.specs.Moves.{kept-start}
-use Rattle.model.specs.Layout.{mostMonitors, mostPairs}
+use Rattle.model.specs.Layout.{mostMonitors}
 
 -- the run of a monitor that is held has ticks
 pub live-run : (mons : List (ℕ × Monitor)) (h : ℕ) (n : Monitor) → Monitors mons → find mons h ≡ some n → 0 < runOf n
@@ -94,23 +95,20 @@ held-packet k mons p q s t h w =
       kept = subst (λ o. Kept (k + 1) (w .mon) (atPacket o p q)) (sym (w .live)) new;
     }
 
--- What a start tells: the pair is not held, and there is room.
+-- What a start tells: the pair is not held, and there is room, or a pair that goes.
 pub record Begins (p : Packet) (h : ℕ) (qs : List Pair) : Type 0 where
   pub new : In (key (startPair h p)) (map key qs) → ⊥
-  pub room : length qs < mostPairs
+  pub fit : fits (level (p .rssi)) qs ≡ true
 
 pub begins-tells : (m : Monitor) (p : Packet) (h : ℕ) (qs : List Pair) → begins m p h qs ≡ true → Begins p h qs
 unfolding begins startPair watched deviceOf
 begins-tells m p h qs e =
     let d : List ℕ = deviceOf p in
-    let a = and-right (matches m p) (strong m p && (not (holds qs h d) && ltb (length qs) mostPairs)) e in
-    let b = and-right (strong m p) (not (holds qs h d) && ltb (length qs) mostPairs) a in
-    let free : holds qs h d ≡ false =
-    not-true (holds qs h d) (and-left (not (holds qs h d)) (ltb (length qs) mostPairs) b) in
-    record {
-      new = λ i. false≢true (sym free ∙ in-holds qs h d i);
-      room = ltb-true (length qs) mostPairs (and-right (not (holds qs h d)) (ltb (length qs) mostPairs) b);
-    }
+    let f : Bool = fits (level (p .rssi)) qs in
+    let a = and-right (matches m p) (strong m p && (not (holds qs h d) && f)) e in
+    let b = and-right (strong m p) (not (holds qs h d) && f) a in
+    let free : holds qs h d ≡ false = not-true (holds qs h d) (and-left (not (holds qs h d)) f b) in
+    record { new = λ i. false≢true (sym free ∙ in-holds qs h d i); fit = and-right (not (holds qs h d)) f b }
 
 -- one handle's turn
 pub turn-pairs : (k : ℕ) (mons : List (ℕ × Monitor)) (p : Packet) (h : ℕ) (qs : List Pair) → Monitors mons → Sent p
@@ -118,21 +116,25 @@ pub turn-pairs : (k : ℕ) (mons : List (ℕ × Monitor)) (p : Packet) (h : ℕ)
 unfolding startPair
 turn-pairs k mons p h qs s t w = go (find mons h) refl
   where
-    started : (n : Monitor) → find mons h ≡ some n → Begins p h qs → Pairs k mons (qs ++ (startPair h p ∷ []))
+    l : List Pair
+    l = staysFor (level (p .rssi)) qs
+
+    started : (n : Monitor) → find mons h ≡ some n → Begins p h qs → Pairs k mons (l ++ (startPair h p ∷ []))
     started n e b =
         let new : Held k mons (startPair h p) =
         record { mon = n; live = e; kept = kept-start n k h p (live-run mons h n s e) t } in
         record {
-          room = rw (length-append qs (startPair h p ∷ [])) (omega (arith, b .room));
-          once = rw (map-append key qs (startPair h p ∷ []))
-              (distinct-snoc (map key qs) (key (startPair h p)) (w .once) (b .new));
-          held = all-append (Held k mons) qs (startPair h p ∷ []) (w .held) (new, tt);
+          room = rw (length-append l (startPair h p ∷ [])) (omega (arith, stays-fewer (level (p .rssi)) qs (w .room) (b .fit)));
+          once = rw (map-append key l (startPair h p ∷ []))
+              (distinct-snoc (map key l) (key (startPair h p)) (stays-once (level (p .rssi)) qs (w .once))
+              (λ i. b .new (stays-in (level (p .rssi)) qs (key (startPair h p)) i)));
+          held = all-append (Held k mons) l (startPair h p ∷ []) (stays-all (Held k mons) (level (p .rssi)) qs (w .held)) (new, tt);
         }
 
     go : (o : Option Monitor) → find mons h ≡ o → Pairs k mons (turn o p h qs)
     go none e = subst (Pairs k mons) (sym (turn-none p h qs)) w
     go (some n) e =
-        subst (Pairs k mons) (sym (turn-pick n p h qs)) (pick-both (Pairs k mons) (begins n p h qs) (qs ++ (startPair h p ∷ [])) qs
+        subst (Pairs k mons) (sym (turn-pick n p h qs)) (pick-both (Pairs k mons) (begins n p h qs) (l ++ (startPair h p ∷ [])) qs
         (λ b. started n e (begins-tells n p h qs b)) (λ b. w))
 
 pub turns-pairs : (k : ℕ) (mons : List (ℕ × Monitor)) (p : Packet) (n : ℕ) (qs : List Pair) → Monitors mons → Sent p

@@ -28,9 +28,9 @@ use Rattle.blocks.specs.Fields.{put-silent, put-ticks, put-emptied, keyOf, time
 use Rattle.blocks.specs.Pairs.{pairPlace}
 use Rattle.blocks.specs.Places.{pairIn-place}
 use Rattle.events.specs.Octets.{event-pair, report-device}
-use Rattle.ticks.specs.Row.{windowedBy, closesAt, goesOn, onward, tickedRow, keptRow, reportRow, saysRow}
+use Rattle.ticks.specs.Row.{emptiedRow, windowedBy, closesAt, goesOn, onward, tickedRow, keptRow, reportRow, saysRow}
 use Rattle.ticks.specs.Row.{toldOn, toldRow}
-use Rattle.model.specs.Layout.{dataAt, eventAt, handleAt, lengthAt, mostData, packetsAt, pairSize, silentAt, sumAt, ticksAt, windowedSize}
+use Rattle.model.specs.Layout.{dataAt, eventAt, handleAt, lengthAt, mostData, packetsAt, pairSize, silentAt, sumAt, ticksAt}
 
 -- the interval and the sampling of a monitor, 0 where there is none
 unfoldable pub intervalOf : Option Monitor → ℕ
@@ -83,8 +83,8 @@ module _ (q : Pair) (f : Fits q) where
   place-count : getD (padTo pairSize (pairRow q)) lengthAt 0 ≡ length (q .adv)
   unfolding Rattle.octets.specs.Little.octetsOf
   place-count =
-      ap (λ (l : List ℕ). getD l 24 0) (place-split q (f .address-length))
-      ∙ getD-past (keyOf q) (timesOf q) 8 (ap (λ (n : ℕ). suc (suc n)) (f .address-length)) 16
+      ap (λ (l : List ℕ). getD l lengthAt 0) (place-split q (f .address-length))
+      ∙ getD-past (keyOf q) (timesOf q) 8 (ap (λ (n : ℕ). suc (suc n)) (f .address-length)) 17
 
   -- the row a tick further
   place-onward : onward (padTo pairSize (pairRow q)) ≡ padTo pairSize (pairRow (withSilent q (q .silent + 1)))
@@ -94,7 +94,7 @@ module _ (q : Pair) (f : Fits q) where
   place-ticked : (m : Monitor)
       → tickedRow (m .sampling) (padTo pairSize (pairRow q)) ≡ padTo pairSize
       (pairRow (windowTick m (withSilent q (q .silent + 1))))
-  unfolding tickedRow windowTick closesAt windowedBy closes windowed withSilent pick
+  unfolding tickedRow emptiedRow windowTick closesAt windowedBy closes windowed withSilent pick
   place-ticked m =
       rw (place-onward, place-ticks)
       (go (leb 1 (m .sampling) && leb (m .sampling) 254) (leb (m .sampling) (q .ticks + 1)))
@@ -103,7 +103,7 @@ module _ (q : Pair) (f : Fits q) where
       p = withSilent q (q .silent + 1)
 
       go : (a b : Bool)
-          → pick a (pick (a && b) (put (padTo pairSize (pairRow p)) ticksAt (replicate windowedSize 0))
+          → pick a (pick (a && b) (emptiedRow (padTo pairSize (pairRow p)))
           (put (padTo pairSize (pairRow p)) ticksAt ((q .ticks + 1) ∷ [])))
           (padTo pairSize (pairRow p))
           ≡ padTo pairSize (pairRow (pick a (pick (a && b) (emptied p) (withTicks p (q .ticks + 1))) p))

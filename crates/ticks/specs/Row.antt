@@ -1,8 +1,6 @@
 -- A tick on one row of the pair table: whether the watch goes on, what the row is then, what is written. Document 01,
 -- Watching, by
--- history (Tick). A row is 56 octets: handle, address type, address, ticks since a good packet (2) at 8, ticks in the
--- window at 10,
--- packets (4) at 11, sum (8) at 15, event type at 23, n at 24, data at 25. Assumes nothing.
+-- history (Tick). Assumes nothing.
 use Prim.Native.Nat.{ℕ, _+_}
 use mathlib.Core.Bool.{Bool, _&&_, not}
 use mathlib.Core.List.{List, [], _∷_, _++_}
@@ -16,7 +14,7 @@ use Rattle.octets.specs.Little.{little, octetsOf}
 use Rattle.model.specs.Types.{ticksOf}
 use Rattle.model.specs.Level.{mean}
 use Rattle.events.specs.Octets.{eventOctets, reportOctets}
-use Rattle.model.specs.Layout.{dataAt, eventAt, handleAt, lengthAt, mostData, packetsAt, pairSize, silentAt, sumAt, ticksAt, windowedSize}
+use Rattle.model.specs.Layout.{dataAt, eventAt, handleAt, lengthAt, mostData, packetsAt, pairSize, silentAt, sumAt, ticksAt, countsSize, latestSize}
 
 -- "for sampling P from 0x01 to 0xFE"
 unfoldable pub windowedBy : ℕ → Bool
@@ -34,10 +32,14 @@ goesOn run r = ltb (little 2 r silentAt + 1) run
 unfoldable pub onward : List ℕ → List ℕ
 onward r = put r 8 (octetsOf 2 (little 2 r silentAt + 1))
 
+-- a row with an empty window: the kept RSSI stays
+unfoldable pub emptiedRow : List ℕ → List ℕ
+emptiedRow r = put (put r ticksAt (replicate countsSize 0)) eventAt (replicate latestSize 0)
+
 -- the row of a pair that stays: its window closed and empty, or one tick longer, or none
 unfoldable pub tickedRow : ℕ → List ℕ → List ℕ
 tickedRow period r =
-    pick (windowedBy period) (pick (closesAt period (getD r ticksAt 0)) (put (onward r) 10 (replicate windowedSize 0))
+    pick (windowedBy period) (pick (closesAt period (getD r ticksAt 0)) (emptiedRow (onward r))
     (put (onward r) 10 ((getD r ticksAt 0 + 1) ∷ []))) (onward r)
 
 -- the rows that a row leaves: itself, ticked, or nothing

@@ -65,7 +65,7 @@ length-places (q ∷ qs) a =
 
 none-held : Pair
 none-held =
-    record { handle = 0; kind = 0; address = []; silent = 0; ticks = 0; packets = 0; sum = 0; event = 0; adv = [] }
+    record { handle = 0; kind = 0; address = []; silent = 0; ticks = 0; packets = 0; sum = 0; kept = 0; event = 0; adv = [] }
 
 -- A pass over the table of pairs, with the intervals and the periods of their monitors
 -- what a tick does to a pair

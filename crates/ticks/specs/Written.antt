@@ -18,10 +18,11 @@ use Rattle.octets.specs.Little.{little, octetsOf, length-octets}
 use Rattle.octets.specs.Numbers.{numberAt, number-of}
 use Rattle.model.specs.Level.{mean, levels}
 use Rattle.events.specs.Octets.{eventOctets, reportOctets, eventFits, reportFits, length-event, length-report}
-use Rattle.ticks.specs.Row.{windowedBy, closesAt, goesOn, onward, tickedRow, keptRow, reportRow, saysRow}
+use Rattle.ticks.specs.Emptied.{length-emptied}
+use Rattle.ticks.specs.Row.{emptiedRow, windowedBy, closesAt, goesOn, onward, tickedRow, keptRow, reportRow, saysRow}
 use Rattle.ticks.specs.Row.{toldOn}
 use Rattle.model.specs.Layout.{eventMost, reportMost}
-use Rattle.model.specs.Layout.{dataAt, eventAt, lengthAt, mostData, mostPrefix, packetsAt, pairSize, silentAt, sumAt, ticksAt, windowedSize}
+use Rattle.model.specs.Layout.{dataAt, eventAt, lengthAt, mostData, mostPrefix, packetsAt, pairSize, silentAt, sumAt, ticksAt}
 
 -- a put over a put of the same length
 pub put-over : (xs : List ℕ) (at : ℕ) (ys zs : List ℕ) → at ≤ length xs → length ys ≡ length zs
@@ -67,11 +68,9 @@ unfolding tickedRow pick
 length-ticked period r h = go (windowedBy period) (closesAt period (getD r ticksAt 0))
   where
     go : (a b : Bool)
-        → length (pick a (pick b (put (onward r) 10 (replicate windowedSize 0)) (put (onward r) 10 ((getD r ticksAt 0 + 1) ∷ [])))
+        → length (pick a (pick b (emptiedRow (onward r)) (put (onward r) 10 ((getD r ticksAt 0 + 1) ∷ [])))
         (onward r)) ≡ pairSize
-    go true true =
-        let z : length (onward r) ≡ pairSize = length-onward r h in length-put (onward r) 10 (replicate windowedSize 0) (omega arith)
-        ∙ z
+    go true true = length-emptied (onward r) (length-onward r h)
     go true false =
         let z : length (onward r) ≡ pairSize = length-onward r h in
         length-put (onward r) 10 ((getD r ticksAt 0 + 1) ∷ []) (omega arith) ∙ z
@@ -88,7 +87,7 @@ module _ (period : ℕ) (r : List ℕ) where
   ticked-still e = sym (pick-false _ (onward r) e)
 
   pub ticked-closed : windowedBy period ≡ true → closesAt period (getD r ticksAt 0) ≡ true
-      → put (onward r) 10 (replicate windowedSize 0) ≡ tickedRow period r
+      → emptiedRow (onward r) ≡ tickedRow period r
   unfolding tickedRow pick
   ticked-closed e f = rw (e, f)
 
@@ -107,12 +106,9 @@ onward-of r {v} {b} {m} h e f q =
     rw (← n) (put-of r 8 (octetsOf 2 (v + 1)) 2 (length r) f (omega arith) q)
 
 module _ (period : ℕ) (r : List ℕ) (h : length r ≡ pairSize) {m : List ℕ} (o : m ≡ onward r) where
-  pub advance-closed : {b : Bool} {l : List ℕ} → b ≡ leb (10 + windowedSize) (length m) → l ≡ putIf b m 10 (replicate windowedSize 0)
-      → windowedBy period ≡ true → closesAt period (getD r ticksAt 0) ≡ true → l ≡ tickedRow period r
-  advance-closed {b} {l} e q w c =
-      let n : length m ≡ pairSize = rw o (length-onward r h) in
-      let p : l ≡ put m 10 (replicate windowedSize 0) = put-of m 10 (replicate windowedSize 0) windowedSize (length m) e (omega arith) q in
-      p ∙ ap (λ (x : List ℕ). put x 10 (replicate windowedSize 0)) o ∙ ticked-closed period r w c
+  pub advance-closed : {l : List ℕ} → l ≡ emptiedRow m → windowedBy period ≡ true → closesAt period (getD r ticksAt 0) ≡ true
+      → l ≡ tickedRow period r
+  advance-closed {l} q w c = q ∙ ap emptiedRow o ∙ ticked-closed period r w c
 
   pub advance-longer : windowedBy period ≡ true → closesAt period (getD r ticksAt 0) ≡ false
       → set m 10 (getD r ticksAt 0 + 1) ≡ tickedRow period r
@@ -204,18 +200,18 @@ appended-some out at t l e a = rw e a
 pub window-appended : (out : List ℕ) (at : ℕ) (r : List ℕ) {m : List ℕ} {n v s p : ℕ} → length r ≡ pairSize → getD r lengthAt 0 ≤ mostData
     → at + reportMost ≤ length out → p ≡ numberAt 4 r packetsAt → s ≡ numberAt 8 r sumAt → v ≡ mean s p
     → n ≡ pick
-    (reportFits (length out) at (getD r eventAt 0) (take 7 (drop 1 r)) (take (dataAt + getD r lengthAt 0 - 25) (drop dataAt r)) v)
-    (length (reportOctets (getD r eventAt 0) (take 7 (drop 1 r)) (take (dataAt + getD r lengthAt 0 - 25) (drop dataAt r)) v)) 0
+    (reportFits (length out) at (getD r eventAt 0) (take 7 (drop 1 r)) (take (dataAt + getD r lengthAt 0 - dataAt) (drop dataAt r)) v)
+    (length (reportOctets (getD r eventAt 0) (take 7 (drop 1 r)) (take (dataAt + getD r lengthAt 0 - dataAt) (drop dataAt r)) v)) 0
     → m ≡ putIf
-    (reportFits (length out) at (getD r eventAt 0) (take 7 (drop 1 r)) (take (dataAt + getD r lengthAt 0 - 25) (drop dataAt r)) v)
-    out at (reportOctets (getD r eventAt 0) (take 7 (drop 1 r)) (take (dataAt + getD r lengthAt 0 - 25) (drop dataAt r)) v)
+    (reportFits (length out) at (getD r eventAt 0) (take 7 (drop 1 r)) (take (dataAt + getD r lengthAt 0 - dataAt) (drop dataAt r)) v)
+    out at (reportOctets (getD r eventAt 0) (take 7 (drop 1 r)) (take (dataAt + getD r lengthAt 0 - dataAt) (drop dataAt r)) v)
     → Appended out m at n (reportRow r)
 unfolding reportFits reportRow pick putIf
 window-appended out at r {m} {n} {v} {s} {p} h k b ep es ev q t =
     let x : ℕ = getD r lengthAt 0 in
     let w : v ≡ mean (little 8 r sumAt) (little 4 r packetsAt) =
     ev ∙ rw (number-of 8 r 15 es (omega arith), number-of 4 r 11 ep (omega arith)) in
-    let y : dataAt + getD r lengthAt 0 - 25 ≡ getD r lengthAt 0 = omega arith in
+    let y : dataAt + getD r lengthAt 0 - dataAt ≡ getD r lengthAt 0 = omega arith in
     let d : length (take 7 (drop 1 r)) ≡ 7 = simp (length-take, length-drop) (omega arith) in
     let a : length (take (getD r lengthAt 0) (drop dataAt r)) ≡ getD r lengthAt 0 =
     length-take-le x (drop dataAt r) (simp length-drop (omega arith)) in

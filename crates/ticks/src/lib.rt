@@ -17,7 +17,7 @@ ghost use Rattle.model.specs.Level.{mean};
 ghost use Rattle.model.specs.Frames.{tick as aTick};
 ghost use Rattle.steps.specs.Stepped.{Steps, Within, Taken};
 ghost use Rattle.events.specs.Octets.{eventOctets};
-ghost use Rattle.ticks.specs.Row.{windowedBy, closesAt, tickedRow, reportRow, saysRow, toldOn, keptAt, toldAt};
+ghost use Rattle.ticks.specs.Row.{emptiedRow, windowedBy, closesAt, tickedRow, reportRow, saysRow, toldOn, keptAt, toldAt};
 ghost use Rattle.ticks.specs.Written.{Appended};
 ghost use Rattle.ticks.specs.Table.{Turned, Passed, Cleared, columnOf};
 ghost use Rattle.model.specs.Layout.{reportMost};
@@ -114,6 +114,15 @@ fn tell_stop(r: &[u8], out: &mut [u8], at: usize, on: bool, prefix: &[u8]) -> us
     events::put_event(out, at, prefix, r, 0)
 }
 
+// Empties the window of a row: its ticks, packets and sum, and the latest packet. The kept RSSI between them stays.
+fn empty_window(r: &mut [u8])
+    requires { ⌜ length (now r) ≡ pairSize ⌝ }
+    ensures { λ _. ⌜ now (r .exit) ≡ emptiedRow (now (r .entry)) ⌝ }
+{
+    parts::fill(r, State::TICKS_AT, State::COUNTS, 0);
+    parts::fill(r, State::EVENT_AT, State::LATEST, 0);
+}
+
 // A row one tick further: the ticks since a good packet, and its window.
 fn advance(r: &mut [u8], period: u8)
     requires { ⌜ (length (now r) ≡ pairSize) × (little 2 (now r) silentAt < 65535) ⌝ }
@@ -126,7 +135,7 @@ fn advance(r: &mut [u8], period: u8)
         return;
     }
     if closes(period, ticks) {
-        parts::fill(r, State::TICKS_AT, State::WINDOW, 0);
+        empty_window(r);
         return;
     }
     r[State::TICKS_AT] = ticks + 1;
@@ -317,7 +326,7 @@ fn tick_in(s: &mut [u8], out: &mut [u8]) -> usize
     turn.wrote
 }
 
-// Takes one tick: changes the block, writes the answer at the output's start, and answers its length. A block that is not of 4,761
+// Takes one tick: changes the block, writes the answer at the output's start, and answers its length. A block that is not of 4,825
 // octets, an output under 2,880 octets, and a block at the last frame number are left as they are, and the answer is 0. Of a block
 // that is of no sound state the contents, what is written and how much are free; the lengths stay, the answer is at most the
 // output's length, and the octets past it are as they were.

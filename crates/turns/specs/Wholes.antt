@@ -4,7 +4,7 @@ use Prim.Native.Nat.{ℕ, zero, suc, _+_, _*_, _≤_, _<_}
 use mathlib.Core.Path.{_≡_, refl, sym, ap, _∙_, subst}
 use mathlib.Core.Bool.{Bool, true, false, not, _&&_}
 use mathlib.Core.Option.{Option, none, some}
-use mathlib.Core.List.{List, [], _∷_, _++_}
+use mathlib.Core.List.{List, [], _∷_, _++_, map}
 use native.Mathlib.Omega.{arith}
 use borrow.Author.Tests.{leb-false, ltb-false}
 use lib.Dec.{leb, ltb}
@@ -17,7 +17,7 @@ use Rattle.rule.specs.Engine.{find}
 use Rattle.sessions.specs.Machine.{Machine, Laws, Line, Executes, Outcome, refused, done, text, answerRoom, lastNumber}
 use Rattle.sessions.specs.Session.{answer, judge, refuseIf}
 use Rattle.sessions.specs.Refusals.{answer-unsound, answer-short, answer-judge}
-use Rattle.model.specs.Types.{Model, Packet, Pair}
+use Rattle.model.specs.Types.{Model, Monitor, Packet, Pair}
 use Rattle.lines.specs.Hex.{isText, octetsIn}
 use Rattle.lines.specs.Texts.{length-is-text}
 use Rattle.lines.specs.Frame.{lineRoom, mostFrame, isFrame, frame-most}
@@ -25,7 +25,7 @@ use Rattle.model.specs.Frames.{frameOf, readRaw, read}
 use Rattle.model.specs.Frames.{Body, Typed, command, packet, tick, bad, typed}
 use Rattle.model.specs.Commands.{returned}
 use Rattle.model.specs.Events.{complete, event, report, startEvent, stopEvent, packetReport, scanReport, packetReports, windowReport}
-use Rattle.model.specs.Watch.{startPair, startsOf, reported, packetAnswer, goesOn, windowSays, tickOctets, tickAnswer}
+use Rattle.model.specs.Watch.{packetMove, startOf, stopOf, turns, turnAnswer, turnsAnswer, reported, packetAnswer, goesOn, windowSays, tickOctets, tickAnswer}
 use Rattle.model.specs.Step.{answerTyped, act}
 use Rattle.model.specs.Sound.{soundModel}
 use Rattle.model.specs.Block.{held}
@@ -35,7 +35,7 @@ use Rattle.steps.specs.Facts.{fields-of}
 use Rattle.steps.specs.Whole.{Held, Sound, sound-of}
 use Rattle.steps.specs.Typed.{Sent, Formed, typed-formed}
 use Rattle.steps.specs.Executed.{Executed, executed}
-use Rattle.steps.specs.Starts.{Started, packet-starts}
+use Rattle.steps.specs.Named.{Named, held-named, named-moved, turns-named, stop-named, starts-named}
 use Rattle.failover.specs.Read.{body-octets}
 use Rattle.blocks.specs.Block.{sound-held}
 use Rattle.turns.specs.Blocks.{laws, OnModel, on-model}
@@ -77,14 +77,33 @@ each-whole f [] w = nothing
 each-whole f (q ∷ qs) w = whole-append (w .0) (each-whole f qs (w .1))
 
 module _ (m : Model) (s : Sound m) where
+  turn-whole : (o : Option Monitor) (p : Packet) (h : ℕ) (qs : List Pair) → Sent p → h < mostMonitors → All Named qs
+      → Whole (turnAnswer (m .prefix) o p h qs)
+  unfolding turnAnswer stopEvent startEvent
+  turn-whole o p h qs t b a =
+      whole-append
+      (each-whole (stopEvent (m .prefix)) (stopOf o p h qs)
+      (all-weaken Named (λ q. Whole (stopEvent (m .prefix) q)) (λ q n. event-whole (m .prefix) q 0 (n .address-six)) (stopOf o p h qs)
+      (stop-named o p h qs a .1)))
+      (each-whole (startEvent (m .prefix)) (startOf o p h qs)
+      (all-weaken Named (λ q. Whole (startEvent (m .prefix) q)) (λ q n. event-whole (m .prefix) q 1 (n .address-six)) (startOf o p h qs)
+      (starts-named o p h qs t b .1)))
+
+  turns-whole : (p : Packet) (n : ℕ) (qs : List Pair) → Sent p → n ≤ mostMonitors → All Named qs
+      → Whole (turnsAnswer (m .prefix) (m .mons) p n qs)
+  unfolding turnsAnswer
+  turns-whole p zero qs t b a = nothing
+  turns-whole p (suc n) qs t b a =
+      whole-append (turns-whole p n qs t (omega arith) a)
+      (turn-whole (find (m .mons) n) p n (turns (m .mons) p n qs) t (omega arith) (turns-named (m .mons) p n qs t (omega arith) a))
+
   packet-whole : (p : Packet) → Sent p → Whole (packetAnswer m p)
-  unfolding packetAnswer startEvent startPair
+  unfolding packetAnswer
   packet-whole p t =
       whole-append
-      (each-whole (startEvent (m .prefix)) (startsOf m p)
-      (all-weaken (Started p mostMonitors) (λ q. Whole (startEvent (m .prefix) q))
-      (λ q w. event-whole (m .prefix) q 1 (ap (λ (r : Pair). length (r .address)) (w .is) ∙ t .address-six))
-      (startsOf m p) (packet-starts m p .starts)))
+      (turns-whole p mostMonitors (map (packetMove (m .mons) p) (m .pairs)) t (omega arith)
+      (named-moved (m .mons) p (m .pairs)
+      (all-weaken (Held (m .position) (m .mons)) Named (λ q h. held-named m s q h) (m .pairs) (s .pairs .held))))
       (when-whole (reported m p) (packetReports p) (reports-whole p (t .address-six)))
 
   pair-whole : (q : Pair) → Held (m .position) (m .mons) q → Whole (tickOctets (m .filter) (m .prefix) (find (m .mons) (q .handle)) q)

@@ -127,7 +127,7 @@ impl Generator {
         (self.random.between(low, 20) as i8, low as i8)
     }
 
-    fn valid_monitor(&mut self) -> Vec<u8> {
+    pub(super) fn valid_monitor(&mut self) -> Vec<u8> {
         let (high, low) = self.thresholds();
         let interval = match self.theme {
             Theme::LongTicks => self.random.pick(&[1, 2, 3, 30, 60]),

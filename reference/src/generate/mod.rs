@@ -24,6 +24,7 @@ enum Theme {
     Commands,
     Conditions,
     Limits,
+    Full,
     Windows,
     LongTicks,
     Lines,
@@ -77,9 +78,15 @@ pub struct Generator {
 pub fn session(seed: u64, index: u64, most_calls: usize) -> Vec<Call> {
     use Theme::*;
     let mut random = Random::of(seed, index);
-    let theme = random.pick(&[Mixed, Mixed, Commands, Conditions, Limits, Windows, Windows, Lines]);
-    let calls = random.between(0, most_calls as i64) as usize;
+    let theme = random.pick(&[Mixed, Mixed, Commands, Conditions, Limits, Full, Windows, Windows, Lines]);
+    let least = if theme == Full { most_calls / 2 } else { 0 };
+    let calls = random.between(least as i64, most_calls as i64) as usize;
     Generator::begin(random, theme).make(calls, false)
+}
+
+/// A session with the table full from its first frames on.
+pub fn full(seed: u64, index: u64, calls: usize) -> Vec<Call> {
+    Generator::begin(Random::of(seed, index), Theme::Full).make(calls, false)
 }
 
 /// A session with machines that change their addresses every quarter hour, 9,000 ticks: three addresses of one key, a
@@ -127,8 +134,9 @@ pub fn script(seed: u64, index: u64) -> Vec<Call> {
         0..=19 => Mixed,
         20..=29 => Commands,
         30..=44 => Conditions,
-        45..=52 => Limits,
-        53..=69 => Windows,
+        45..=51 => Limits,
+        52..=59 => Full,
+        60..=69 => Windows,
         70..=71 => LongTicks,
         72..=81 => Lines,
         82..=91 => Images,
@@ -137,6 +145,7 @@ pub fn script(seed: u64, index: u64) -> Vec<Call> {
     let calls = match theme {
         LongTicks => random.between(40, 700),
         Limits => random.between(40, 90),
+        Full => random.between(40, 120),
         _ => random.between(5, 90),
     };
     Generator::begin(random, theme).make(calls as usize, true)
@@ -180,6 +189,9 @@ impl Generator {
     fn make(mut self, most: usize, any_call: bool) -> Vec<Call> {
         if matches!(self.theme, Theme::Limits) {
             self.fill();
+        }
+        if matches!(self.theme, Theme::Full) {
+            self.fill_table();
         }
         if matches!(self.theme, Theme::Images) && any_call {
             self.restore_sound();
@@ -231,6 +243,7 @@ impl Generator {
             Theme::Commands => [30, 40, 14, 14, 14, 8, 1, 3, 2, 1, 1, 1, 1, 1, 1, 0, 1, 0, 0, 0, 0, 0],
             Theme::Conditions => [12, 4, 3, 2, 0, 70, 3, 3, 1, 0, 0, 0, 0, 0, 0, 0, 0, 0, 0, 0, 0, 0],
             Theme::Limits => [4, 2, 3, 4, 0, 30, 20, 10, 2, 0, 0, 0, 1, 1, 0, 0, 1, 0, 0, 0, 0, 0],
+            Theme::Full => [1, 0, 1, 2, 0, 40, 30, 4, 2, 0, 0, 0, 1, 0, 0, 0, 3, 0, 0, 0, 2, 0],
             Theme::Windows => [4, 0, 1, 4, 0, 50, 2, 34, 2, 0, 0, 0, 0, 0, 0, 0, 2, 0, 0, 0, 1, 0],
             Theme::LongTicks => [1, 0, 0, 1, 0, 6, 1, 60, 1, 0, 0, 0, 0, 0, 0, 0, 1, 0, 0, 0, 0, 0],
             Theme::Lines => [6, 2, 1, 3, 2, 12, 1, 8, 6, 20, 24, 6, 10, 8, 8, 6, 1, 0, 0, 0, 2, 2],

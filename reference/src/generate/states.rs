@@ -78,6 +78,11 @@ fn pair(random: &mut Random, state: &State, known: &[Device]) -> Pair {
         (false, _) => device(random),
     };
     let mut pair = Pair { handle: monitor.handle, device, ..Pair::NONE };
+    pair.rssi = match random.below(4) {
+        0 => random.pick(&[-127, 20]),
+        1 => random.between(-127, 20) as i8,
+        _ => random.pick(&[-80, -61, -60, -59]),
+    };
     let limit = Seconds(monitor.interval).ticks().0;
     pair.quiet = random.pick(&[0, limit - 1, limit - 2, limit / 2]);
     let Some(period) = monitor.period() else { return pair };
@@ -127,7 +132,7 @@ pub fn sound(random: &mut Random, known: &[Device]) -> State {
     if state.monitor_count == 0 {
         return state;
     }
-    for _ in 0..random.pick(&[0, 1, 3, 10, 64, 80]) {
+    for _ in 0..random.pick(&[0, 1, 3, 10, 64, 80, 160]) {
         let new = pair(random, &state, known);
         let known_pair = state.pairs().iter().any(|p| (p.handle, p.device) == (new.handle, new.device));
         if !known_pair && (state.pair_count as usize) < PAIRS {
@@ -166,6 +171,7 @@ pub fn largest(random: &mut Random) -> State {
             window_ticks: 4,
             packets: 2,
             sum: -121,
+            rssi: -60,
             event_type: 3,
             n: DATA as u8,
             data: std::array::from_fn(|_| random.octet()),
@@ -176,7 +182,7 @@ pub fn largest(random: &mut Random) -> State {
 }
 
 /// How many ways of breaking a state `broken` knows.
-pub const WAYS: usize = 42;
+pub const WAYS: usize = 43;
 
 /// A sound state with one clause of "Sound" broken in way `way`, if the state has the place for it.
 pub fn broken(random: &mut Random, sound: &State, way: usize) -> Option<State> {
@@ -237,6 +243,7 @@ pub fn broken(random: &mut Random, sound: &State, way: usize) -> Option<State> {
         38 if s.pairs[p].packets == 0 => s.pairs[p].n = 1,
         39 if s.pairs[p].n < 31 => s.pairs[p].data[30] = 1,
         40 => s.pairs[p].sum = random.pick(&[i64::MIN, i64::MAX]),
+        42 => s.pairs[p].rssi = random.pick(&[21, 127, -128]),
         41 => {
             let handles: Vec<u8> = s.monitors().iter().map(|m| m.handle).collect();
             s.pairs[p].handle = (0..16).find(|h| !handles.contains(h))?;

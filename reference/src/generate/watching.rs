@@ -2,7 +2,7 @@
 
 use super::frames::{frame, monitor, packet, scanned, PACKET, SCANNED};
 use super::{conditions, states, Generator, Theme};
-use crate::limits::Seconds;
+use crate::limits::{Seconds, PAIRS};
 use crate::private::Key;
 use crate::state::Device;
 
@@ -31,6 +31,12 @@ impl Generator {
 
     /// An RSSI: at the edges of a live monitor's thresholds, at those of the range, or any.
     fn rssi(&mut self) -> i8 {
+        let least = self.state.pairs().iter().map(|p| p.rssi).min();
+        if let (Some(least), PAIRS, true) = (least, self.state.pairs().len(), self.random.percent(50)) {
+            // The table is full: beside the weakest pair.
+            let near = [least.saturating_sub(1), least, least.saturating_add(1), least.saturating_add(2)];
+            return self.random.pick(&near).clamp(-127, 20);
+        }
         let monitors = self.state.monitors();
         if !monitors.is_empty() && self.random.percent(80) {
             let m = &monitors[self.random.below(monitors.len())];
@@ -78,7 +84,11 @@ impl Generator {
     /// A strong packet of a device not seen before.
     pub(super) fn new_device(&mut self) {
         let device = states::device(&mut self.random);
-        self.give_packet(&device, &[2, 1, 6], 20);
+        let rssi = match self.random.percent(40) {
+            true => self.rssi(),
+            false => 20,
+        };
+        self.give_packet(&device, &[2, 1, 6], rssi);
     }
 
     /// A run of ticks, aimed at the end of a watch or of a window.
@@ -102,6 +112,36 @@ impl Generator {
             run = self.random.below(most);
         }
         (0..run).for_each(|_| self.tick());
+    }
+
+    /// Fill the 64 pairs, by monitors of which a packet matches some, at RSSI of which several are equal. Most watches
+    /// last longer than the session.
+    pub(super) fn fill_table(&mut self) {
+        let (kind, flags) = conditions::flags();
+        let named = [2, 3, 0x01, 0, 0x06, 3, 0x09, 0, 0x41];
+        for _ in 0..self.random.pick(&[8, 12, 16, 16]) {
+            let sampling = self.random.pick(&[0, 1, 3, 10, 0xFF]);
+            let interval = self.random.pick(&[1, 30, 60, 60, 60]);
+            let (high, low) = self.random.pick(&[(-90, -100), (-90, -100), (-127, -127), (-60, -80)]);
+            let parameters = match self.random.below(6) {
+                0 => self.valid_monitor(),
+                1 => monitor(high, low, interval, sampling, 1, &named),
+                2 => monitor(high, low, interval, sampling, 1, &[1, 3, 0x09, 0, 0x41]),
+                _ => monitor(high, low, interval, sampling, kind, &flags),
+            };
+            self.command(&parameters);
+        }
+        if self.random.percent(60) {
+            self.command(&[0x05, 1]);
+        }
+        for _ in 0..14 {
+            if self.state.pairs().len() < PAIRS {
+                let device = states::device(&mut self.random);
+                let rssi = self.random.pick(&[-80, -70, -70, -60, -60, -50, 0]);
+                self.give_packet(&device, &[2, 1, 6, 2, 9, 0x41], rssi);
+                self.devices.push(device);
+            }
+        }
     }
 
     /// Fill the 16 monitors, and the 64 pairs or nearly.

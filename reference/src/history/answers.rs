@@ -29,6 +29,10 @@ impl History {
         let starts: Vec<_> = self.facts.starts.iter().filter(|s| s.at == now).collect();
         let mut answer = Vec::new();
         for start in &starts {
+            if let Some(gone) = start.displaces.map(|place| &self.facts.starts[place]) {
+                let handle = past.monitor(gone).handle;
+                answer.extend(event::device(self.base.prefix(), &gone.device, handle, false));
+            }
             answer.extend(event::device(self.base.prefix(), &start.device, past.monitor(start).handle, true));
         }
         let filter_off = filter_after(&self.base, &self.frames) == 0;
@@ -88,6 +92,7 @@ impl History {
             let monitor = past.monitor(start);
             let mut pair = Pair { handle: monitor.handle, device: start.device, ..Pair::NONE };
             pair.quiet = past.quiet(start, now) as u16;
+            pair.rssi = past.kept(start, now);
             if let Some(period) = monitor.period() {
                 let window = past.open_window(start, now);
                 pair.window_ticks = (past.age(start, now) % period as usize) as u8;

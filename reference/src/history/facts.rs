@@ -17,13 +17,16 @@ pub struct Life {
     pub until: Option<usize>,
 }
 
-/// A start: a monitor's life, the device, and the packet's frame; `held` is the place of a pair of the base.
+/// A start: a monitor's life, the device, and the packet's frame; `held` is the place of a pair of the base,
+/// `displaces` the start whose pair it displaced (document 02, T-05), `displaced` the frame that displaced its own.
 #[derive(Clone, PartialEq, Eq, Debug)]
 pub struct Start {
     pub life: usize,
     pub device: Device,
     pub at: usize,
     pub held: Option<usize>,
+    pub displaces: Option<usize>,
+    pub displaced: Option<usize>,
 }
 
 #[derive(Clone, PartialEq, Eq, Debug, Default)]
@@ -50,7 +53,15 @@ impl Facts {
         }
         for (place, pair) in base.pairs().iter().enumerate() {
             let life = base.monitors().iter().position(|m| m.handle == pair.handle).expect("a sound base");
-            facts.starts.push(Start { life, device: pair.device, at: 0, held: Some(place) });
+            let held = Some(place);
+            facts.starts.push(Start {
+                life,
+                device: pair.device,
+                at: 0,
+                held,
+                displaces: None,
+                displaced: None,
+            });
         }
         for count in 1..=frames.len() {
             facts.learn(base, &frames[..count]);
@@ -114,24 +125,49 @@ impl Facts {
         self.returns = answer.returns;
     }
 
-    /// "It is a start if its RSSI is at least high, the pair is not under watch just before, and fewer than
-    /// 64 pairs are; monitors take one packet in handle order, and a start takes its room at once."
+    /// "It is a start if its RSSI is at least high, the pair is not under watch just before, and fewer than 64 pairs
+    /// are; monitors take one packet in handle order, and a start takes its room at once." "When a packet would start a pair
+    /// but 64 are under watch, and its RSSI is above the smallest kept one, that pair (the earliest started if several)
+    /// gets its stop event and the new one starts. Each monitor in handle order does this in turn."
     fn starts_of(&mut self, base: &State, frames: &[Payload], packet: &Packet) {
         let now = frames.len();
-        let before = Past { base, frames, facts: self }.under_watch(now - 1);
-        let mut new = Vec::new();
+        // The starts under watch, the earliest first, and what each keeps after the present packet.
+        let past = Past { base, frames, facts: self };
+        let mut watched: Vec<(usize, i8)> = Vec::new();
+        for place in past.under_watch(now - 1) {
+            watched.push((place, past.kept(&self.starts[place], now)));
+        }
+        let own = |facts: &Facts, place: usize, life: usize| {
+            facts.starts[place].life == life && facts.starts[place].device == packet.device
+        };
         for life in self.live() {
             let monitor = &self.lives[life].monitor;
             let matches = self.matching[now] >> monitor.handle & 1 == 1;
-            let watched = before.iter().any(|s| {
-                let start = &self.starts[*s];
-                start.life == life && start.device == packet.device
-            });
-            if matches && packet.rssi >= monitor.high && !watched && before.len() + new.len() < PAIRS {
-                new.push(Start { life, device: packet.device, at: now, held: None });
+            let under_watch = watched.iter().any(|(place, _)| own(self, *place, life));
+            if !matches || packet.rssi < monitor.high || under_watch {
+                continue;
             }
+            let mut displaces = None;
+            if watched.len() >= PAIRS {
+                // The first of the smallest: `min_by_key` gives the first of several.
+                let smallest = (0..watched.len()).min_by_key(|index| watched[*index].1).expect("64 pairs");
+                if packet.rssi <= watched[smallest].1 {
+                    continue;
+                }
+                let (place, _) = watched.remove(smallest);
+                self.starts[place].displaced = Some(now);
+                displaces = Some(place);
+            }
+            watched.push((self.starts.len(), packet.rssi));
+            self.starts.push(Start {
+                life,
+                device: packet.device,
+                at: now,
+                held: None,
+                displaces,
+                displaced: None,
+            });
         }
-        self.starts.extend(new);
     }
 }
 

@@ -23,7 +23,7 @@ pub fn records(text: &[u8]) -> Option<State> {
                 state.monitors[place] = monitor(at);
                 state.monitor_count += 1;
             }
-            0xA2 => {
+            0xA3 => {
                 let place = state.pair_count as usize;
                 if place == PAIRS {
                     return None;
@@ -76,8 +76,9 @@ fn pair(at: impl Fn(usize) -> u8 + Copy) -> Pair {
         window_ticks: at(11),
         packets: number(at, 12, 4) as u32,
         sum: number(at, 16, 8) as i64,
-        event_type: at(24),
-        n: at(25),
-        data: octets(at, 26, at(25)),
+        rssi: at(24) as i8,
+        event_type: at(25),
+        n: at(26),
+        data: octets(at, 27, at(26)),
     }
 }

@@ -69,10 +69,24 @@ impl Past<'_> {
         lengths
     }
 
+    /// "Each pair keeps its latest matching RSSI": that of its start, or of the latest packet since that counts for it.
+    pub fn kept(&self, start: &Start, upto: usize) -> i8 {
+        if let Some((_, packet)) = self.counting(start, upto).last() {
+            return packet.rssi;
+        }
+        match (start.held, start.at.checked_sub(1).map(|index| &self.frames[index])) {
+            (Some(place), _) => self.base.pairs[place].rssi,
+            (None, Some(Payload::Packet(packet))) => packet.rssi,
+            _ => unreachable!("a start is a packet"),
+        }
+    }
+
     /// "The pair is under watch if there is a start since which no run of 10 x interval ticks has passed
-    /// without a good packet." A cancelled monitor's pairs are forgotten.
+    /// without a good packet." A cancelled monitor's pairs are forgotten. "A displaced pair is not under watch until a
+    /// new start" (T-05).
     pub fn watched_since(&self, start: &Start, upto: usize) -> bool {
-        let live = self.facts.lives[start.life].until.is_none_or(|cancelled| cancelled > upto);
+        let live = self.facts.lives[start.life].until.is_none_or(|cancelled| cancelled > upto)
+            && start.displaced.is_none_or(|at| at > upto);
         let limit = 10 * self.monitor(start).interval as usize;
         live && self.runs(start, upto).iter().all(|run| *run < limit)
     }

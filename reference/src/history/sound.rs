@@ -45,12 +45,13 @@ fn in_ranges(state: &State, pair: &Pair) -> bool {
     let samples = (1..=254).contains(&monitor.sampling);
     let most_window_ticks = if samples { monitor.sampling - 1 } else { 0 };
     let most_packets = if samples { state.position } else { 0 };
-    let ranges: [(i128, i128, i128); 8] = [
+    let ranges: [(i128, i128, i128); 9] = [
         (pair.device.kind as i128, 0, 1),
         (pair.quiet as i128, 0, 10 * monitor.interval as i128 - 1),
         (pair.window_ticks as i128, 0, most_window_ticks as i128),
         (packets, 0, most_packets as i128),
         (pair.sum as i128, -127 * packets, 20 * packets),
+        (pair.rssi as i128, -127, 20),
         (pair.event_type as i128, 0, if packets == 0 { 0 } else { 3 }),
         (pair.n as i128, 0, if packets == 0 { 0 } else { 31 }),
         (pair.handle as i128, 0, 15),

@@ -1,5 +1,6 @@
 //! Document 01, "Watching, by history", the paragraph "Packet", with stored timers.
 
+use super::tick::window_report;
 use super::Timers;
 use crate::condition;
 use crate::coverage::{hit, Rule};
@@ -37,16 +38,32 @@ impl Timers {
         let held_before = self.state.pair_count as usize;
         let mut answer = Vec::new();
         let mut tally = Tally { reasons: filter_off as usize, ..Tally::default() };
+        if self.fault != Fault::KeptAfterwards {
+            matching.iter().for_each(|monitor| self.keep(monitor, packet));
+        }
         for monitor in &matching {
             if let Some(place) = self.held(monitor.handle, &packet.device) {
+                self.keep(monitor, packet);
                 self.take(place, monitor, packet);
                 tally.reasons += self.reported_under_watch(monitor, packet) as usize;
-            } else if self.strong(monitor, packet) && !self.has_room(held_before) {
-                tally.no_room += 1;
             } else if self.strong(monitor, packet) {
+                let mut stop = Vec::new();
+                if !self.has_room(held_before) {
+                    let Some(weakest) = self.weakest(packet, &tally) else {
+                        tally.no_room += 1;
+                        continue;
+                    };
+                    stop = self.displace(weakest, monitor, packet);
+                    tally.displaced += 1;
+                }
                 self.begin(monitor, packet);
+                let mut start = Vec::new();
                 if !(filter_off && self.fault == Fault::NoStartWhileOff) {
-                    answer.extend(self.device_event(&packet.device, monitor.handle, true));
+                    start = self.device_event(&packet.device, monitor.handle, true);
+                }
+                match self.fault {
+                    Fault::StartBeforeStop => answer.extend([start, stop].concat()),
+                    _ => answer.extend([stop, start].concat()),
                 }
                 if self.fault == Fault::SharedStartStops && at_shared(monitor, packet) {
                     answer.extend(self.device_event(&packet.device, monitor.handle, false));
@@ -107,6 +124,63 @@ impl Timers {
         }
     }
 
+    /// Each pair keeps its latest matching RSSI (T-05).
+    fn keep(&mut self, monitor: &Monitor, packet: &Packet) {
+        let Some(place) = self.held(monitor.handle, &packet.device) else { return };
+        match self.fault {
+            Fault::KeptOfStart => (),
+            Fault::KeptOfGood if packet.rssi <= monitor.low => (),
+            _ => self.state.pairs[place].rssi = packet.rssi,
+        }
+    }
+
+    /// With 64 pairs under watch: the place of the one with the smallest kept RSSI, the earliest started if several, if
+    /// the packet's is above it (T-05).
+    fn weakest(&self, packet: &Packet, tally: &Tally) -> Option<usize> {
+        let pairs = self.state.pairs();
+        let least = pairs.iter().map(|pair| pair.rssi).min()?;
+        let all = || (0..pairs.len()).filter(|place| pairs[*place].rssi == least);
+        let found = match self.fault {
+            Fault::NoneDisplaced => None,
+            Fault::DisplacesOnce if tally.displaced > 0 => None,
+            Fault::LatestDisplaced => all().last(),
+            Fault::AnyDisplaced => Some(0),
+            _ => all().next(),
+        };
+        if packet.rssi == least {
+            hit(Rule::StartNoRoomEqual);
+        }
+        let above = packet.rssi > least || (packet.rssi == least && self.fault == Fault::EqualDisplaces);
+        if above && all().count() > 1 {
+            hit(Rule::DisplacesEarlier);
+        }
+        found.filter(|_| above)
+    }
+
+    /// Forget a pair, which gets its stop event; its window is lost.
+    fn displace(&mut self, place: usize, monitor: &Monitor, packet: &Packet) -> Vec<u8> {
+        let mut pairs = self.state.pairs().to_vec();
+        let gone = pairs.remove(place);
+        let rules = [
+            (true, Rule::Displaces),
+            (place > 0, Rule::DisplacesNotFirst),
+            (gone.packets > 0, Rule::DisplacesWindow),
+            (gone.handle == monitor.handle, Rule::DisplacesOwnHandle),
+            (gone.device == packet.device, Rule::DisplacesOwnDevice),
+        ];
+        rules.iter().filter(|(reached, _)| *reached).for_each(|(_, rule)| hit(*rule));
+        self.hold_pairs(&pairs);
+        self.gap = place;
+        let mut stop = self.device_event(&gone.device, gone.handle, false);
+        if self.fault == Fault::DisplacedReported && self.state.filter == 1 && gone.packets > 0 {
+            stop.splice(0..0, window_report(&gone, self.fault)).for_each(drop);
+        }
+        if self.fault == Fault::DisplacedSilently {
+            stop.clear();
+        }
+        stop
+    }
+
     /// A matching monitor with sampling 0 and the pair under watch is a reason for a report.
     fn reported_under_watch(&self, monitor: &Monitor, packet: &Packet) -> bool {
         if monitor.sampling != 0 || (self.fault == Fault::LowNotReported && packet.rssi <= monitor.low) {
@@ -155,7 +229,8 @@ impl Timers {
     /// A start takes its room at once; its packet is in no window, and is good whatever low is (T-01).
     fn begin(&mut self, monitor: &Monitor, packet: &Packet) {
         hit(Rule::Start);
-        let mut pair = Pair { handle: monitor.handle, device: packet.device, ..Pair::NONE };
+        let mut pair =
+            Pair { handle: monitor.handle, device: packet.device, rssi: packet.rssi, ..Pair::NONE };
         if at_shared(monitor, packet) {
             hit(Rule::StartShared);
             if self.fault == Fault::SharedStartOneTick {
@@ -170,6 +245,10 @@ impl Timers {
             self.state.pairs[count] = pair;
             self.state.pair_count += 1;
         }
+        if self.fault == Fault::DisplacedPlaceTaken && self.gap < count {
+            self.state.pairs[self.gap..=count.min(PAIRS - 1)].rotate_right(1);
+        }
+        self.gap = PAIRS;
     }
 
     pub(super) fn device_event(&self, device: &Device, handle: u8, watched: bool) -> Vec<u8> {
@@ -203,6 +282,7 @@ struct Tally {
     starts: usize,
     quiet_starts: usize,
     no_room: usize,
+    displaced: usize,
 }
 
 impl Tally {
@@ -211,6 +291,7 @@ impl Tally {
             (self.starts > 1, Rule::StartSeveral),
             (self.no_room > 0, Rule::StartNoRoom),
             (self.no_room > 0 && self.starts > 0, Rule::StartSomeRoom),
+            (self.displaced > 1, Rule::DisplacesSeveral),
             (self.starts > 0 && filter_off, Rule::StartWhileOff),
             (filter_off, Rule::ReportOff),
             (self.starts > 0 && !filter_off, Rule::ReportStart),

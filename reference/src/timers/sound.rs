@@ -72,6 +72,7 @@ fn pair_sound(state: &State, pair: &Pair, fault: Fault) -> bool {
     };
     let limit = Seconds(monitor.interval).ticks().0;
     pair.device.kind <= 1
+        && (rssi_in_range(pair.rssi) || fault == Fault::KeptNotChecked)
         && pair.event_type <= 3
         && pair.n as usize <= DATA
         && zeros(&pair.data[pair.n as usize..])

@@ -112,7 +112,7 @@ impl Timers {
 }
 
 /// The latest packet of the window, with RSSI the greatest whole number not above sum / count.
-fn window_report(pair: &Pair, fault: Fault) -> Vec<u8> {
+pub(super) fn window_report(pair: &Pair, fault: Fault) -> Vec<u8> {
     let count = (pair.packets as i64).max(1);
     let mean = if fault == Fault::MeanCutsTowardZero { pair.sum / count } else { pair.sum.div_euclid(count) };
     if pair.sum < 0 && pair.sum % count != 0 {

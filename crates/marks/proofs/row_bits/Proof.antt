@@ -42,6 +42,9 @@ mul-result-3 c = search needs
 add-result-3 : tie.Need-add-result-3
 add-result-3 c = search needs
 
+add-result-4 : tie.Need-add-result-4
+add-result-4 c = search needs
+
 returns : tie.Need-returns
 returns c = let a = c .before .before .before .before .before .before .before .args in
     bits-made (a .high) (a .low) (a .sampling) (a .rssi) (c .before .before .before .before .before .before .level-of .ensures) (c .before .before .before .before .before .level-of2 .ensures) (c .before .before .before .before .level-of3 .ensures)
@@ -64,4 +67,5 @@ row-bits-spec =
     add-result-2
     mul-result-3
     add-result-3
+    add-result-4
     returns)

@@ -1,21 +1,40 @@
-use borrow.Author.Needs.{needs}
-use Rattle.packets.specs.Moves.{change-both}
 use Rattle.model.specs.Frames.{packetOf}
+use Rattle.packets.specs.Moves.{change-all}
+use borrow.Author.Needs.{needs}
 use Rattle.packets.proofs.change_row.Statement.{statement}
 use Rattle.packets.proofs.change_row.Tie as tie
+use Rattle.packets.proofs.change_row.Reads as reads
+use Rattle.packets.proofs.change_row.Lts as lts
+use Rattle.packets.proofs.count_row.Reads as count-row-reads
+use Rattle.packets.proofs.keep.Reads as keep-reads
 
-refresh-requires : tie.Need-refresh-requires
-refresh-requires c κs = search needs
+-- src/lib.rt:124:27
+sub-keep : tie.Need-sub-keep
+sub-keep c = search needs
 
-gather-requires : tie.Need-gather-requires
-gather-requires c κs = search needs
+-- src/lib.rt:124:19
+shared-slice-read-keep : tie.Need-shared-slice-read-keep
+shared-slice-read-keep c = search needs
 
+-- src/lib.rt:124:5
+keep-requires : tie.Need-keep-requires
+keep-requires c κs = search needs
+
+-- src/lib.rt:125:5
+count-row-requires : tie.Need-count-row-requires
+count-row-requires c κs = search needs
+
+-- src/lib.rt:120:1
 same-length : tie.Need-same-length
 same-length c = search needs
 
+-- src/lib.rt:120:1
 returns : tie.Need-returns
-returns c = let a = c .before .before .before .before .before .before .before .before .before .before .args in λ m w x r.
-    change-both m (a .s .now) (a .i) (a .a) (packetOf (a .payload .now)) w x r (c .before .before .before .before .before .before .refresh .ensures m w) (λ n v q. c .before .before .gather .ensures n v x q)
+unfolding packetOf
+returns c = let a = c .before .before .before .before .before .before .before .before .before .before .before .args in λ m w x r.
+    change-all m (a .s .now) (a .i) (a .a) (packetOf (a .payload .now)) w x r (c .before .before .before .before .before .before .keep .ensures m w) (λ n v q. c .before .before .count-row .ensures n v x q)
 
 pub change-row-spec : {M : Type 1} → statement M
-change-row-spec = tie.close (tie.spec refresh-requires gather-requires same-length returns)
+change-row-spec =
+    tie.close
+    (tie.spec sub-keep shared-slice-read-keep keep-requires count-row-requires same-length returns)

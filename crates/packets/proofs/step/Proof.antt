@@ -1,73 +1,102 @@
-use Rattle.marks.specs.Fields.{clamped}
+use native.Mathlib.Omega.{arith}
+use lib.ListN.{length, getD}
 use Prim.Native.Nat.{ℕ, _+_, _/_, _≤_}
 use mathlib.Core.List.{List}
 use mathlib.Core.Path.{_≡_, refl, ap, _∙_}
-use native.Mathlib.Omega.{arith}
-use lib.ListN.{length, getD}
-use borrow.Author.Needs.{needs}
-use Rattle.marks.specs.Fields.{marked-of}
-use Rattle.packets.specs.Whole.{Begun, begun, afterMoves, moves-holding, moves-given, starts-holding, starts-written, packet-stepped, answer-within}
-use Rattle.sessions.specs.Machine.{lastNumber}
-use Rattle.model.specs.Frames.{packetOf}
 use Rattle.octets.specs.Numbers.{number-of}
+use Rattle.model.specs.Frames.{packetOf}
+use Rattle.sessions.specs.Machine.{lastNumber}
+use Rattle.packets.specs.Whole.{Begun, begun, packet-rssi, afterMoves, moves-holding, moves-given, starts-holding, turns-wrote, packet-stepped, answer-within}
+use Rattle.marks.specs.Fields.{clamped, marked-of}
+use borrow.Author.Needs.{needs}
 use Rattle.packets.proofs.step.Statement.{statement}
 use Rattle.packets.proofs.step.Tie as tie
+use Rattle.packets.proofs.step.Reads as reads
+use Rattle.packets.proofs.step.Lts as lts
+use Rattle.marks.proofs.mark_all.Reads as mark-all-reads
+use Rattle.octets.proofs.at_most.Reads as at-most-reads
+use Rattle.octets.proofs.get64.Reads as get64-reads
+use Rattle.packets.proofs.is_told.Reads as is-told-reads
+use Rattle.packets.proofs.move_rows.Reads as move-rows-reads
+use Rattle.packets.proofs.reports.put_told.Reads as put-told-reads
+use Rattle.packets.proofs.starts.start_all.Reads as start-all-reads
+use Rattle.state.proofs.advance.Reads as advance-reads
 
+-- src/lib.rt:215:21
 slice-aggregate-mark-all : tie.Need-slice-aggregate-mark-all
 slice-aggregate-mark-all c = search needs
 
+-- src/lib.rt:215:5
 mark-all-requires : tie.Need-mark-all-requires
 mark-all-requires c κs = search needs
 
+-- src/lib.rt:216:15
 get64-requires : tie.Need-get64-requires
 get64-requires c κs = search needs
 
+-- src/lib.rt:217:24
+sub-rssi : tie.Need-sub-rssi
+sub-rssi c = search needs
+
+-- src/lib.rt:217:16
+shared-slice-read-rssi : tie.Need-shared-slice-read-rssi
+shared-slice-read-rssi c = search needs
+
+-- src/lib.rt:218:29
 slice-read-at-most : tie.Need-slice-read-at-most
 slice-read-at-most c = search needs
 
+-- src/lib.rt:218:9
 at-most-requires : tie.Need-at-most-requires
 at-most-requires c κs = search needs
 
+-- src/lib.rt:219:21
 slice-aggregate-move-rows : tie.Need-slice-aggregate-move-rows
 slice-aggregate-move-rows c = search needs
 
+-- src/lib.rt:219:5
 move-rows-requires : tie.Need-move-rows-requires
 move-rows-requires c κs = search needs
 
+-- src/lib.rt:220:40
 slice-aggregate-start-all : tie.Need-slice-aggregate-start-all
 slice-aggregate-start-all c = search needs
 
+-- src/lib.rt:220:9
 start-all-requires : tie.Need-start-all-requires
 start-all-requires c κs = search needs
 
+-- src/lib.rt:221:50
 slice-aggregate-is-told : tie.Need-slice-aggregate-is-told
 slice-aggregate-is-told c = search needs
 
+-- src/lib.rt:221:9
 is-told-requires : tie.Need-is-told-requires
 is-told-requires c κs = search needs
 
-sub-put-starts : tie.Need-sub-put-starts
-sub-put-starts c = search needs
-
-put-starts-requires : tie.Need-put-starts-requires
-put-starts-requires c κs = search needs
-
+-- src/lib.rt:222:9
 put-told-requires : tie.Need-put-told-requires
-put-told-requires c κs = let k : length (c .before .before .before .put-starts .last .1 .1 .1 .0) ≡ length (c .before .before .before .before .before .before .before .before .before .before .before .before .before .before .before .before .before .before .before .before .before .before .before .before .before .before .before .before .before .args .out .now) = c .before .before .before .put-starts .kept .1 .1 .1 .0 in
-    (omega (arith, c .before .before .before .put-starts .ensures .0, c .before .before .before .before .before .before .before .before .before .before .before .before .before .before .before .before .before .before .before .before .before .before .before .before .before .before .before .before .before .pre .1), c .before .before .before .before .before .before .before .before .before .before .before .before .before .before .before .before .before .before .before .before .before .before .before .before .before .before .before .before .before .pre .2)
+put-told-requires c κs =
+    let k : length (c .before .before .before .before .before .before .before .before .start-all .last .1 .1 .1 .1 .1 .0) ≡ length (c .before .before .before .before .before .before .before .before .before .before .before .before .before .before .before .before .before .before .before .before .before .before .before .before .before .before .before .before .args .out .now) = c .before .before .before .before .before .before .before .before .start-all .kept .1 .1 .1 .1 .1 .0 in
+    (omega (arith, c .before .before .before .before .before .before .before .before .start-all .ensures .1, c .before .before .before .before .before .before .before .before .before .before .before .before .before .before .before .before .before .before .before .before .before .before .before .before .before .before .before .before .pre .1), c .before .before .before .before .before .before .before .before .before .before .before .before .before .before .before .before .before .before .before .before .before .before .before .before .before .before .before .before .pre .2)
 
+-- src/lib.rt:223:5
 advance-requires : tie.Need-advance-requires
 advance-requires c κs = search needs
 
+-- src/lib.rt:224:5
 add-result : tie.Need-add-result
-add-result c = omega (arith, c .before .before .before .before .before .before .before .before .before .before .put-starts .ensures .0, c .before .before .before .before .before .before .put-told .ensures .0)
+add-result c = search needs
 
+-- src/lib.rt:210:1
 same-length : tie.Need-same-length
 same-length c = search needs
 
+-- src/lib.rt:210:1
 same-length-2 : tie.Need-same-length-2
 same-length-2 c = search needs
 
+-- src/lib.rt:210:1
 returns : tie.Need-returns
 unfolding lastNumber
 returns c = let a = c .before .before .before .before .before .before .before .before .before .before .before .before .before .before .before .before .before .before .before .before .before .before .before .before .before .before .before .before .before .before .before .before .before .before .before .before .args in
@@ -75,20 +104,20 @@ returns c = let a = c .before .before .before .before .before .before .before .b
     let l : List ℕ = a .payload .now in
     let acts : List ℕ = c .before .before .before .before .before .before .before .before .before .before .before .before .before .before .before .before .before .before .before .before .before .before .before .before .before .before .before .before .before .before .mark-all .last .0 in
     let dev : ℕ = c .before .before .before .before .before .before .before .before .before .before .before .before .before .before .before .before .before .before .before .before .before .before .before .before .before .before .before .before .get64 .result / 256 in
-    let n : ℕ = c .before .before .before .before .before .before .before .before .before .before .before .before .before .before .before .before .before .before .before .before .before .before .before .before .before .before .at-most .result in
+    let n : ℕ = c .before .before .before .before .before .before .before .before .before .before .before .before .before .before .before .before .before .before .before .before .before .before .before .before .before .at-most .result in
     let f : 10 + getD l 8 0 ≤ length l = c .before .before .before .before .before .before .before .before .before .before .before .before .before .before .before .before .before .before .before .before .before .before .before .before .before .before .before .before .before .before .before .before .before .before .before .before .pre .2 .0 in (
-      answer-within (a .out .now) _ (omega (arith, c .before .before .before .before .before .before .before .before .before .before .put-starts .ensures .0, c .before .before .before .before .before .before .put-told .ensures .0, c .before .before .before .before .before .before .before .before .before .before .before .before .before .before .before .before .before .before .before .before .before .before .before .before .before .before .before .before .before .before .before .before .before .before .before .before .pre .1)) (c .before .before .before .before .before .before .before .before .before .before .put-starts .kept .1 .1 .1 .0) (c .before .before .before .before .before .before .before .before .before .before .put-starts .ensures .1) (c .before .before .before .before .before .before .put-told .ensures .1),
+      answer-within (a .out .now) _ (omega (arith, c .before .before .before .before .before .before .before .before .before .before .before .before .before .before .before .before .start-all .ensures .1, c .before .before .before .before .before .before .before .put-told .ensures .0, c .before .before .before .before .before .before .before .before .before .before .before .before .before .before .before .before .before .before .before .before .before .before .before .before .before .before .before .before .before .before .before .before .before .before .before .before .pre .1)) (c .before .before .before .before .before .before .before .before .before .before .before .before .before .before .before .before .start-all .kept .1 .1 .1 .1 .1 .0) (c .before .before .before .before .before .before .before .before .before .before .before .before .before .before .before .before .start-all .ensures .2) (c .before .before .before .before .before .before .before .put-told .ensures .1),
       λ k m e b h.
           let g : Begun m s l acts dev n =
           begun m s l acts dev n e b h (λ i. omega (arith, c .before .before .before .before .before .before .before .before .before .before .before .before .before .before .before .before .before .before .before .before .before .before .before .before .before .before .before .before .before .before .before .before .before .before .shared-slice-known .given i)) k
           (marked-of _ s l refl (c .before .before .before .before .before .before .before .before .before .before .before .before .before .before .before .before .before .before .before .before .before .before .before .before .before .before .before .before .before .before .before .before .before .before .before .before .pre .0) (c .before .before .before .before .before .before .before .before .before .before .before .before .before .before .before .before .before .before .before .before .before .before .before .before .before .before .before .before .before .before .before .before .before .before .before .before .pre .2) (c .before .before .before .before .before .before .before .before .before .before .before .before .before .before .before .before .before .before .before .before .before .before .before .before .before .before .before .before .before .before .mark-all .ensures))
-          (ap (λ (x : ℕ). x / 256) (number-of 8 l 0 (c .before .before .before .before .before .before .before .before .before .before .before .before .before .before .before .before .before .before .before .before .before .before .before .before .before .before .before .before .get64 .ensures) (omega arith))) (clamped (c .before .before .before .before .before .before .before .before .before .before .before .before .before .before .before .before .before .before .before .before .before .before .before .before .before .before .at-most .ensures)) in
+          (ap (λ (x : ℕ). x / 256) (number-of 8 l 0 (c .before .before .before .before .before .before .before .before .before .before .before .before .before .before .before .before .before .before .before .before .before .before .before .before .before .before .before .before .get64 .ensures) (omega arith))) (clamped (c .before .before .before .before .before .before .before .before .before .before .before .before .before .before .before .before .before .before .before .before .before .before .before .before .before .at-most .ensures)) in
           let p = packetOf l in
-          let w = moves-holding m s l acts dev n g (c .before .before .before .before .before .before .before .before .before .before .before .before .before .before .before .before .before .before .before .before .before .before .before .move-rows .ensures m g) in
-          let t = starts-holding m s l acts dev n g (c .before .before .before .before .before .before .before .before .before .before .before .before .before .before .before .before .before .before .start-all .ensures .3 (afterMoves m p) p w (moves-given m s l acts dev n g)) in
-          packet-stepped m s l acts dev n g t (c .before .before .before .before .before .before .before .before .before .before .before .before .before .is-told .ensures m s l g t)
-          (starts-written m s l acts dev n g t (c .before .before .before .before .before .before .before .before .before .before .before .before .before .before .before .before .before .before .start-all .ensures .0) (c .before .before .before .before .before .before .before .before .before .before .put-starts .ensures .2))
-          (c .before .before .before .before .before .before .put-told .ensures .1) (c .before .before .advance .ensures),
+          let w = moves-holding m s l acts dev n g (c .before .before .before .before .before .before .before .before .before .before .before .before .before .before .before .before .before .before .before .before .before .before .move-rows .ensures m g) in
+          let x = c .before .before .before .before .before .before .before .before .before .before .before .before .before .before .before .before .start-all .ensures .3 (afterMoves m p) p w (moves-given m s l acts dev n g) (packet-rssi l) in
+          let t = starts-holding m s l acts dev n g x in
+          let y = turns-wrote m s l acts dev n g x in
+          packet-stepped m s l acts dev n g t (c .before .before .before .before .before .before .before .before .before .is-told .ensures m s l n g t (y .count)) y (c .before .before .before .before .before .before .before .put-told .ensures .1) (c .before .before .before .advance .ensures),
     )
 
 pub step-spec : {M : Type 1} → statement M
@@ -98,6 +127,8 @@ step-spec =
     slice-aggregate-mark-all
     mark-all-requires
     get64-requires
+    sub-rssi
+    shared-slice-read-rssi
     slice-read-at-most
     at-most-requires
     slice-aggregate-move-rows
@@ -106,8 +137,6 @@ step-spec =
     start-all-requires
     slice-aggregate-is-told
     is-told-requires
-    sub-put-starts
-    put-starts-requires
     put-told-requires
     advance-requires
     add-result

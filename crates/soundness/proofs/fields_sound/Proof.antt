@@ -13,6 +13,7 @@ use Rattle.soundness.proofs.empty_sound.Reads as empty-sound-reads
 use Rattle.octets.proofs.wide.Reads as wide-reads
 use Rattle.soundness.proofs.window_sound.Reads as window-sound-reads
 use Rattle.state.proofs.Seconds.ticks.Reads as ticks-reads
+use Rattle.state.proofs.in_range.Reads as in-range-reads
 
 -- src/lib.rt:162:18
 shared-slice-read-wide : tie.Need-shared-slice-read-wide
@@ -85,6 +86,14 @@ ticks-requires c κs = search needs
 below-requires : tie.Need-below-requires
 below-requires c κs = search needs
 
+-- src/lib.rt:174:33
+shared-slice-read-in-range : tie.Need-shared-slice-read-in-range
+shared-slice-read-in-range c = search needs
+
+-- src/lib.rt:174:9
+in-range-requires : tie.Need-in-range-requires
+in-range-requires c κs = search needs
+
 -- src/lib.rt:174:6
 shared-slice-read-result : tie.Need-shared-slice-read-result
 shared-slice-read-result c = search needs
@@ -95,7 +104,7 @@ shared-slice-read-result-2 c = search needs
 
 -- src/lib.rt:158:1
 returns-2 : tie.Need-returns-2
-returns-2 c = let a = c .before .before .before .before .before .before .before .before .before .before .before .before .before .before .before .before .before .before .args in rw (c .before .before .below .ensures) (fields-short (a .position) (a .interval) (a .sampling) (a .r .now) (c .before .before .before .before .before .before .before .before .before .before .before .before .before .before .before .wide .result) (c .before .before .before .before .before .before .before .before .before .before .before .before .before .before .before .before .before .before .pre) (c .before .before .before .before .before .before .before .before .before .before .before .before .before .before .before .wide .ensures .0) (omega arith) (c .before .before .before .before .before .before .before .before .before .before .before .before .zeros .ensures) (c .before .before .before .before .before .before .before .before .before .before .before .get16 .ensures) (c .before .before .before .ticks .ensures) (c .before .before .before .before .before .before .before .before .before .before .get32 .ensures) (c .before .before .before .before .before .before .before .before .before .get64 .ensures) (c .before .before .before .before .before .before .before .window-sound .ensures) (c .before .before .before .before .empty-sound .ensures))
+returns-2 c = let a = c .before .before .before .before .before .before .before .before .before .before .before .before .before .before .before .before .before .before .before .before .args in rw (c .before .before .before .before .below .ensures) (fields-short (a .position) (a .interval) (a .sampling) (a .r .now) (c .before .before .before .before .before .before .before .before .before .before .before .before .before .before .before .before .before .wide .result) (c .before .before .before .before .before .before .before .before .before .before .before .before .before .before .before .before .before .before .before .before .pre) (c .before .before .before .before .before .before .before .before .before .before .before .before .before .before .before .before .before .wide .ensures .0) (omega arith) (c .before .before .before .before .before .before .before .before .before .before .before .before .before .before .zeros .ensures) (c .before .before .before .before .before .before .before .before .before .before .before .before .before .get16 .ensures) (c .before .before .before .before .before .ticks .ensures) (c .before .before .before .before .before .before .before .before .before .before .before .before .get32 .ensures) (c .before .before .before .before .before .before .before .before .before .before .before .get64 .ensures) (c .before .before .before .before .before .before .before .before .before .window-sound .ensures) (c .before .before .before .before .before .before .empty-sound .ensures) (c .before .before .in-range .ensures))
 
 pub fields-sound-spec : {M : Type 1} → statement M
 fields-sound-spec =
@@ -119,6 +128,8 @@ fields-sound-spec =
     empty-sound-requires
     ticks-requires
     below-requires
+    shared-slice-read-in-range
+    in-range-requires
     shared-slice-read-result
     shared-slice-read-result-2
     returns-2)

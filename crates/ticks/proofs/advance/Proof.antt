@@ -14,7 +14,7 @@ use Rattle.ticks.proofs.advance.Reads as reads
 use Rattle.ticks.proofs.advance.Lts as lts
 use Rattle.octets.proofs.get16.Reads as get16-reads
 use Rattle.octets.proofs.put16.Reads as put16-reads
-use Rattle.parts.proofs.fill.Reads as fill-reads
+use Rattle.ticks.proofs.empty_window.Reads as empty-window-reads
 use Rattle.ticks.proofs.closes.Reads as closes-reads
 use Rattle.ticks.proofs.windowed.Reads as windowed-reads
 use Rattle.model.specs.Layout.{silentAt, ticksAt}
@@ -56,8 +56,8 @@ closes-requires : tie.Need-closes-requires
 closes-requires c κs = search needs
 
 -- src/lib.rt:111:9
-fill-requires : tie.Need-fill-requires
-fill-requires c κs = search needs
+empty-window-requires : tie.Need-empty-window-requires
+empty-window-requires c κs = search needs
 
 -- src/lib.rt:112:9
 same-length-2 : tie.Need-same-length-2
@@ -68,7 +68,7 @@ returns-2 : tie.Need-returns-2
 returns-2 c = let a = c .before .before .before .before .before .before .before .before .before .before .before .before .before .before .before .before .args in
     advance-closed (a .period) (a .r .now) (omega arith)
     (onward-of (a .r .now) (omega arith) (c .before .before .before .before .before .before .before .before .before .before .before .before .before .get16 .ensures) (c .before .before .before .before .before .before .before .before .before .before .put16 .ensures .0) (c .before .before .before .before .before .before .before .before .before .before .put16 .ensures .1))
-    (c .before .before .fill .ensures .0) (c .before .before .fill .ensures .1) (sym (c .before .before .before .before .before .before .before .windowed .ensures) ∙ not-false _ (c .before .before .before .before .before .before .if1 .left)) (sym (c .before .before .before .before .before .closes .ensures) ∙ c .before .before .before .before .if2 .taken)
+    (c .before .before .empty-window .ensures) (sym (c .before .before .before .before .before .before .before .windowed .ensures) ∙ not-false _ (c .before .before .before .before .before .before .if1 .left)) (sym (c .before .before .before .before .before .closes .ensures) ∙ c .before .before .before .before .if2 .taken)
 
 -- src/lib.rt:114:13
 add-r : tie.Need-add-r
@@ -104,7 +104,7 @@ advance-spec =
     same-length
     returns
     closes-requires
-    fill-requires
+    empty-window-requires
     same-length-2
     returns-2
     add-r

@@ -72,6 +72,15 @@ add-s-2 c = search needs
 slice-write-s-2 : tie.Need-slice-write-s-2
 slice-write-s-2 c = simp length-set (omega arith)
 
+shared-slice-read-s-3 : tie.Need-shared-slice-read-s-3
+shared-slice-read-s-3 c = search needs
+
+add-s-3 : tie.Need-add-s-3
+add-s-3 c = search needs
+
+slice-write-s-3 : tie.Need-slice-write-s-3
+slice-write-s-3 c = simp length-set (omega arith)
+
 add-copy : tie.Need-add-copy
 add-copy c = search needs
 
@@ -100,43 +109,43 @@ fill-requires : tie.Need-fill-requires
 fill-requires c κs = search needs
 
 same-length : tie.Need-same-length
-same-length c = let a = c .before .before .before .before .before .before .before .before .before .before .before .before .before .before .before .before .before .before .before .before .before .before .before .before .before .before .before .before .before .before .before .args in
+same-length c = let a = c .before .before .before .before .before .before .before .before .before .before .before .before .before .before .before .before .before .before .before .before .before .before .before .before .before .before .before .before .before .before .before .before .args in
     let l : List ℕ = a .payload .now in
-    let b : List ℕ = set (set (c .before .before .before .before .before .before .before .before .before .before .before .before .before .put64 .last .0) (a .at + 12) (getD l 0 0)) (a .at + 13) (getD l 8 0) in
-    let k1 : length (c .before .before .before .before .before .before .before .before .before .before .before .before .before .before .before .before .before .before .before .before .put32 .last .0) ≡ length (a .s .now) = c .before .before .before .before .before .before .before .before .before .before .before .before .before .before .before .before .before .before .before .before .put32 .kept .0 in
-    let k2 : length (c .before .before .before .before .before .before .before .before .before .before .before .before .before .put64 .last .0) ≡ length (c .before .before .before .before .before .before .before .before .before .before .before .before .before .before .before .before .before .before .before .before .put32 .last .0) = c .before .before .before .before .before .before .before .before .before .before .before .before .before .put64 .kept .0 in
-    let j : length b ≡ length (c .before .before .before .before .before .before .before .before .before .before .before .before .before .put64 .last .0) = simp length-set in
+    let b : List ℕ = set (set (set (c .before .before .before .before .before .before .before .before .before .before .before .before .before .before .put64 .last .0) (a .at + 12) (getD l (length l - 1) 0)) (a .at + 13) (getD l 0 0)) (a .at + 14) (getD l 8 0) in
+    let k1 : length (c .before .before .before .before .before .before .before .before .before .before .before .before .before .before .before .before .before .before .before .before .before .put32 .last .0) ≡ length (a .s .now) = c .before .before .before .before .before .before .before .before .before .before .before .before .before .before .before .before .before .before .before .before .before .put32 .kept .0 in
+    let k2 : length (c .before .before .before .before .before .before .before .before .before .before .before .before .before .before .put64 .last .0) ≡ length (c .before .before .before .before .before .before .before .before .before .before .before .before .before .before .before .before .before .before .before .before .before .put32 .last .0) = c .before .before .before .before .before .before .before .before .before .before .before .before .before .before .put64 .kept .0 in
+    let j : length b ≡ length (c .before .before .before .before .before .before .before .before .before .before .before .before .before .before .put64 .last .0) = simp length-set in
     let k3 : length (c .before .before .before .before .before .before .copy .last .0) ≡ length b = c .before .before .before .before .before .before .copy .kept .0 in
     let k4 : length (c .before .before .fill .last .0) ≡ length (c .before .before .before .before .before .before .copy .last .0) = c .before .before .fill .kept .0 in
     k4 ∙ k3 ∙ j ∙ k2 ∙ k1
 
 returns : tie.Need-returns
-returns c = let a = c .before .before .before .before .before .before .before .before .before .before .before .before .before .before .before .before .before .before .before .before .before .before .before .before .before .before .before .before .before .before .before .args in
+returns c = let a = c .before .before .before .before .before .before .before .before .before .before .before .before .before .before .before .before .before .before .before .before .before .before .before .before .before .before .before .before .before .before .before .before .args in
     let s : List ℕ = a .s .now in
     let l : List ℕ = a .payload .now in
-    let n : ℕ = c .before .before .before .before .before .before .before .before .before .before .before .before .before .before .before .before .before .before .before .before .before .before .before .before .before .before .before .wide .result in
-    let e : n ≡ getD l 8 0 = c .before .before .before .before .before .before .before .before .before .before .before .before .before .before .before .before .before .before .before .before .before .before .before .before .before .before .before .wide .ensures .0 in
+    let n : ℕ = c .before .before .before .before .before .before .before .before .before .before .before .before .before .before .before .before .before .before .before .before .before .before .before .before .before .before .before .before .wide .result in
+    let e : n ≡ getD l 8 0 = c .before .before .before .before .before .before .before .before .before .before .before .before .before .before .before .before .before .before .before .before .before .before .before .before .before .before .before .before .wide .ensures .0 in
     let f : 9 + n - 9 ≡ getD l 8 0 = omega arith in
     let d : List ℕ = take (9 + n - 9) (drop 9 l) in
-    let b : List ℕ = set (set (c .before .before .before .before .before .before .before .before .before .before .before .before .before .put64 .last .0) (a .at + 12) (getD l 0 0)) (a .at + 13) (getD l 8 0) in
-    let k1 : length (c .before .before .before .before .before .before .before .before .before .before .before .before .before .before .before .before .before .before .before .before .put32 .last .0) ≡ length s = c .before .before .before .before .before .before .before .before .before .before .before .before .before .before .before .before .before .before .before .before .put32 .kept .0 in
-    let k2 : length (c .before .before .before .before .before .before .before .before .before .before .before .before .before .put64 .last .0) ≡ length (c .before .before .before .before .before .before .before .before .before .before .before .before .before .before .before .before .before .before .before .before .put32 .last .0) = c .before .before .before .before .before .before .before .before .before .before .before .before .before .put64 .kept .0 in
-    let j : length b ≡ length (c .before .before .before .before .before .before .before .before .before .before .before .before .before .put64 .last .0) = simp length-set in
+    let b : List ℕ = set (set (set (c .before .before .before .before .before .before .before .before .before .before .before .before .before .before .put64 .last .0) (a .at + 12) (getD l (length l - 1) 0)) (a .at + 13) (getD l 0 0)) (a .at + 14) (getD l 8 0) in
+    let k1 : length (c .before .before .before .before .before .before .before .before .before .before .before .before .before .before .before .before .before .before .before .before .before .put32 .last .0) ≡ length s = c .before .before .before .before .before .before .before .before .before .before .before .before .before .before .before .before .before .before .before .before .before .put32 .kept .0 in
+    let k2 : length (c .before .before .before .before .before .before .before .before .before .before .before .before .before .before .put64 .last .0) ≡ length (c .before .before .before .before .before .before .before .before .before .before .before .before .before .before .before .before .before .before .before .before .before .put32 .last .0) = c .before .before .before .before .before .before .before .before .before .before .before .before .before .before .put64 .kept .0 in
+    let j : length b ≡ length (c .before .before .before .before .before .before .before .before .before .before .before .before .before .before .put64 .last .0) = simp length-set in
     let k3 : length (c .before .before .before .before .before .before .copy .last .0) ≡ length b = c .before .before .before .before .before .before .copy .kept .0 in
-    let g : 10 + getD l 8 0 ≤ length l = c .before .before .before .before .before .before .before .before .before .before .before .before .before .before .before .before .before .before .before .before .before .before .before .before .before .before .before .before .before .before .before .pre .1 .0 in
-    let g2 : getD l 8 0 ≤ mostData = c .before .before .before .before .before .before .before .before .before .before .before .before .before .before .before .before .before .before .before .before .before .before .before .before .before .before .before .before .before .before .before .pre .1 .1 in
-    let g3 : a .at + windowSize ≤ length s = c .before .before .before .before .before .before .before .before .before .before .before .before .before .before .before .before .before .before .before .before .before .before .before .before .before .before .before .before .before .before .before .pre .0 in
+    let g : 10 + getD l 8 0 ≤ length l = c .before .before .before .before .before .before .before .before .before .before .before .before .before .before .before .before .before .before .before .before .before .before .before .before .before .before .before .before .before .before .before .before .pre .1 .0 in
+    let g2 : getD l 8 0 ≤ mostData = c .before .before .before .before .before .before .before .before .before .before .before .before .before .before .before .before .before .before .before .before .before .before .before .before .before .before .before .before .before .before .before .before .pre .1 .1 in
+    let g3 : a .at + windowSize ≤ length s = c .before .before .before .before .before .before .before .before .before .before .before .before .before .before .before .before .before .before .before .before .before .before .before .before .before .before .before .before .before .before .before .before .pre .0 in
     let k9 : length (drop 9 l) ≡ length l - 9 = lib.ListN.length-drop 9 l in
     let ld : length d ≡ 9 + n - 9 = lib.Seq.length-take-le (9 + n - 9) (drop 9 l) (omega arith) in
-    window-written s l (a .at) n (omega arith) (c .before .before .before .before .before .before .before .before .before .before .before .before .before .before .before .before .before .before .before .before .before .before .before .before .before .before .before .before .before .before .before .pre .1) e
-    (number-of 4 s (a .at) (c .before .before .before .before .before .before .before .before .before .before .before .before .before .before .before .before .before .before .before .before .before .before .before .before .before .get32 .ensures) (omega arith))
-    (number-of 8 s (a .at + 4) (c .before .before .before .before .before .before .before .before .before .before .before .before .before .before .before .before .before .before .before .before .before .before .before .get64 .ensures) (omega arith))
-    (c .before .before .before .before .before .before .before .before .before .before .before .before .before .before .before .before .before .before .before .before .before .wrapping-add-u32 .ensures) (c .before .before .before .before .before .before .before .before .before .before .before .before .before .before .before .extend .ensures) (c .before .before .before .before .before .before .before .before .before .before .before .before .before .before .wrapping-add-u64 .ensures)
-    (put-of s (a .at) (octetsOf 4 (c .before .before .before .before .before .before .before .before .before .before .before .before .before .before .before .before .before .before .before .before .before .wrapping-add-u32 .result)) 4 (length s) (c .before .before .before .before .before .before .before .before .before .before .before .before .before .before .before .before .before .before .before .before .put32 .ensures .0) (omega arith) (c .before .before .before .before .before .before .before .before .before .before .before .before .before .before .before .before .before .before .before .before .put32 .ensures .1))
-    (put-of (c .before .before .before .before .before .before .before .before .before .before .before .before .before .before .before .before .before .before .before .before .put32 .last .0) (a .at + 4) (octetsOf 8 (c .before .before .before .before .before .before .before .before .before .before .before .before .before .before .wrapping-add-u64 .result)) 8 (length (c .before .before .before .before .before .before .before .before .before .before .before .before .before .before .before .before .before .before .before .before .put32 .last .0)) (c .before .before .before .before .before .before .before .before .before .before .before .before .before .put64 .ensures .0) (omega arith) (c .before .before .before .before .before .before .before .before .before .before .before .before .before .put64 .ensures .1))
+    window-written s l (a .at) n (omega arith) (c .before .before .before .before .before .before .before .before .before .before .before .before .before .before .before .before .before .before .before .before .before .before .before .before .before .before .before .before .before .before .before .before .pre .1) e
+    (number-of 4 s (a .at) (c .before .before .before .before .before .before .before .before .before .before .before .before .before .before .before .before .before .before .before .before .before .before .before .before .before .before .get32 .ensures) (omega arith))
+    (number-of 8 s (a .at + 4) (c .before .before .before .before .before .before .before .before .before .before .before .before .before .before .before .before .before .before .before .before .before .before .before .before .get64 .ensures) (omega arith))
+    (c .before .before .before .before .before .before .before .before .before .before .before .before .before .before .before .before .before .before .before .before .before .before .wrapping-add-u32 .ensures) (c .before .before .before .before .before .before .before .before .before .before .before .before .before .before .before .before .extend .ensures) (c .before .before .before .before .before .before .before .before .before .before .before .before .before .before .before .wrapping-add-u64 .ensures)
+    (put-of s (a .at) (octetsOf 4 (c .before .before .before .before .before .before .before .before .before .before .before .before .before .before .before .before .before .before .before .before .before .before .wrapping-add-u32 .result)) 4 (length s) (c .before .before .before .before .before .before .before .before .before .before .before .before .before .before .before .before .before .before .before .before .before .put32 .ensures .0) (omega arith) (c .before .before .before .before .before .before .before .before .before .before .before .before .before .before .before .before .before .before .before .before .before .put32 .ensures .1))
+    (put-of (c .before .before .before .before .before .before .before .before .before .before .before .before .before .before .before .before .before .before .before .before .before .put32 .last .0) (a .at + 4) (octetsOf 8 (c .before .before .before .before .before .before .before .before .before .before .before .before .before .before .before .wrapping-add-u64 .result)) 8 (length (c .before .before .before .before .before .before .before .before .before .before .before .before .before .before .before .before .before .before .before .before .before .put32 .last .0)) (c .before .before .before .before .before .before .before .before .before .before .before .before .before .before .put64 .ensures .0) (omega arith) (c .before .before .before .before .before .before .before .before .before .before .before .before .before .before .put64 .ensures .1))
     (ap (λ (i : ℕ). take i (drop 9 l)) f)
-    (put-of b (a .at + 14) d (length d) (length b) (c .before .before .before .before .before .before .copy .ensures .0) (omega arith) (c .before .before .before .before .before .before .copy .ensures .1))
-    (put-of (c .before .before .before .before .before .before .copy .last .0) (a .at + 14 + n) (replicate (mostData - n) 0) (mostData - n) (length (c .before .before .before .before .before .before .copy .last .0)) (c .before .before .fill .ensures .0) (omega arith) (c .before .before .fill .ensures .1))
+    (put-of b (a .at + 15) d (length d) (length b) (c .before .before .before .before .before .before .copy .ensures .0) (omega arith) (c .before .before .before .before .before .before .copy .ensures .1))
+    (put-of (c .before .before .before .before .before .before .copy .last .0) (a .at + 15 + n) (replicate (mostData - n) 0) (mostData - n) (length (c .before .before .before .before .before .before .copy .last .0)) (c .before .before .fill .ensures .0) (omega arith) (c .before .before .fill .ensures .1))
 
 pub gather-at-spec : {M : Type 1} → statement M
 gather-at-spec =
@@ -162,6 +171,9 @@ gather-at-spec =
     shared-slice-read-s-2
     add-s-2
     slice-write-s-2
+    shared-slice-read-s-3
+    add-s-3
+    slice-write-s-3
     add-copy
     sub-copy
     part-copy-start

@@ -5,9 +5,9 @@ use mathlib.Core.Path.{_≡_, ap}
 use native.Mathlib.Omega.{arith}
 use lib.ListN.{length, take, drop, length-take, length-drop}
 use borrow.Author.Needs.{needs}
-use Rattle.packets.specs.Answers.{event-most, event-rest, start-wrote}
-use Rattle.packets.proofs.put_start.Statement.{statement}
-use Rattle.packets.proofs.put_start.Tie as tie
+use Rattle.packets.specs.Answers.{event-most, event-rest, event-wrote}
+use Rattle.packets.proofs.starts.put_event.Statement.{statement}
+use Rattle.packets.proofs.starts.put_event.Tie as tie
 use Rattle.model.specs.Layout.{mostPrefix, pairSize, pairsAt, prefixAt}
 
 shared-slice-read-at-most : tie.Need-shared-slice-read-at-most
@@ -63,15 +63,15 @@ returns c = let a = c .before .before .before .before .before .before .before .b
     let r8 : List ℕ = take (pairsAt + pairSize * a .i + 8 - (pairsAt + pairSize * a .i)) (drop (pairsAt + pairSize * a .i) s) in
     let lp : length pre ≤ mostPrefix = simp (length-take, length-drop) (omega arith) in
     let lr : 8 ≤ length r8 = simp (length-take, length-drop) (omega arith) in (
-      event-most (a .out .now) (a .at) pre r8 lp lr (c .before .before .put-event .ensures .0),
-      λ h. event-rest (a .out .now) (a .at) pre r8 h (c .before .before .put-event .ensures),
+      event-most (a .out .now) (a .at) pre r8 (a .state) lp lr (c .before .before .put-event .ensures .0),
+      λ h. event-rest (a .out .now) (a .at) pre r8 (a .state) h (c .before .before .put-event .ensures),
       λ m w h.
-          start-wrote m s (a .i) w (a .out .now) (a .at) n (clamped (c .before .before .before .before .before .before .at-most .ensures)) h (omega arith) (omega arith)
+          event-wrote m s (a .i) w (a .state) (a .out .now) (a .at) n (clamped (c .before .before .before .before .before .before .at-most .ensures)) h (omega arith) (omega arith)
           (ap (λ (k : ℕ). take k (drop prefixAt s)) e) (ap (λ (k : ℕ). take k (drop (pairsAt + pairSize * a .i) s)) f) (c .before .before .put-event .ensures),
     )
 
-pub put-start-spec : {M : Type 1} → statement M
-put-start-spec =
+pub put-event-spec : {M : Type 1} → statement M
+put-event-spec =
     tie.close
     (tie.spec
     shared-slice-read-at-most
