@@ -6,7 +6,7 @@
 ghost use Prim.Native.Nat.{_+_, _≤_, _<_};
 ghost use lib.ListN.{length};
 use aes::Block;
-use lines::Wrote;
+use refusals::Wrote;
 
 // The octets of a block, and where the key and the block stand in a line of them.
 const BLOCK: usize = 16;

@@ -1,6 +1,6 @@
 -- What follows from the facts of a sound state: bounds of the fields that rows are written from, and that these rows
 -- are octets. Document 01, The image ("Sound: .."; A0, A1, A3). Assumes nothing.
-use Prim.Native.Nat.{ℕ, _+_, _*_, _≤_, _<_}
+use Prim.Native.Nat.{ℕ, _+_, _≤_, _<_}
 use mathlib.Core.Path.{_≡_, refl}
 use mathlib.Core.Bool.{Bool, true, false, _&&_, _||_}
 use mathlib.Core.List.{List, [], _∷_, _++_}
@@ -16,7 +16,7 @@ use Rattle.rule.specs.Base.{All}
 use Rattle.rule.specs.Engine.{find}
 use Rattle.rule.specs.Finds.{find-all}
 use Rattle.model.specs.Types.{Model, Monitor, Pair}
-use Rattle.model.specs.Level.{levels}
+use Rattle.model.specs.Level.{sumInRange}
 use Rattle.model.specs.Monitors.{runOf, windowed}
 use Rattle.model.specs.Accepted.{Accepted, accepted, accepts-run-most}
 use Rattle.model.specs.Image.{headRow, monitorRow, pairRow, pairIn}
@@ -45,12 +45,12 @@ window-facts position m q = go (leb 1 (m .sampling)) (leb (m .sampling) 254) ref
   where
     tested : m .sampling ≤ 254
         → (ltb (q .ticks) (m .sampling) && leb (q .packets) position && ltb (q .sum) 18446744073709551616
-        && leb (levels (q .sum) (q .packets)) (147 * q .packets)) ≡ true → Window position q
+        && sumInRange (q .sum) (q .packets)) ≡ true → Window position q
     tested h e =
         let a = ltb (q .ticks) (m .sampling) in
         let b = leb (q .packets) position in
         let c = ltb (q .sum) 18446744073709551616 in
-        let e2 = and-left (a && b && c) (leb (levels (q .sum) (q .packets)) (147 * q .packets)) e in
+        let e2 = and-left (a && b && c) (sumInRange (q .sum) (q .packets)) e in
         let e1 = and-left (a && b) c e2 in
         let t : q .ticks < m .sampling = ltb-true (q .ticks) (m .sampling) (and-left a b e1) in
         record {
@@ -72,7 +72,7 @@ window-facts position m q = go (leb 1 (m .sampling)) (leb (m .sampling) 254) ref
 
     go : (s t : Bool) → leb (m .sampling) 254 ≡ t
         → pick (s && t) (ltb (q .ticks) (m .sampling) && leb (q .packets) position && ltb (q .sum) 18446744073709551616
-        && leb (levels (q .sum) (q .packets)) (147 * q .packets)) (eqb (q .ticks) 0 && eqb (q .packets) 0) ≡ true
+        && sumInRange (q .sum) (q .packets)) (eqb (q .ticks) 0 && eqb (q .packets) 0) ≡ true
         → (leb 1 (q .packets) || (eqb (q .sum) 0 && eqb (q .event) 0 && eqb (length (q .adv)) 0)) ≡ true
         → Window position q
     go true true h e z = tested (leb-true (m .sampling) 254 h) e

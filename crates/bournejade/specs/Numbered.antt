@@ -9,7 +9,7 @@ use lib.Dec.{eqb}
 use lib.ListN.{length}
 use borrow.Author.Tests.{eqb-true}
 use Rattle.laws.specs.Tests.{pick}
-use Rattle.lines.specs.Numbers.{number}
+use Rattle.refusals.specs.Numbers.{number}
 use Rattle.sessions.specs.Machine.{Outcome, refused, done, Form, Line, text}
 use Rattle.sessions.specs.Session.{answer, judge, image, refuseIf}
 use Rattle.sessions.specs.Saved.{cut}

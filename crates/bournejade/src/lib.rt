@@ -21,7 +21,7 @@ ghost use Rattle.bournejade.specs.Gives.{numberIn, countIn, stopNumber, 
 use engine::Loaded;
 use engine::Ran;
 use engine::Stop;
-use lines::Wrote;
+use refusals::Wrote;
 use state::Start;
 use state::State;
 ghost use Rattle.model.specs.Layout.{blockSize};
@@ -40,7 +40,7 @@ fn told(r: Wrote, wrote: &mut usize) -> u8
         }
         Wrote::Refused(x) => {
             *wrote = 0;
-            lines::number_of(x)
+            refusals::number_of(x)
         }
     }
 }
@@ -51,7 +51,7 @@ fn stopped(s: Stop) -> u8
 {
     match s {
         Stop::End => 0,
-        Stop::Refused(x) => lines::number_of(x),
+        Stop::Refused(x) => refusals::number_of(x),
     }
 }
 
@@ -71,7 +71,7 @@ fn start_number(a: Start) -> u8
 {
     match a {
         Start::Fresh => 0,
-        Start::Refused(x) => lines::number_of(x),
+        Start::Refused(x) => refusals::number_of(x),
     }
 }
 
@@ -80,7 +80,7 @@ fn load_number(a: Loaded) -> u8
 {
     match a {
         Loaded::Accepted => 0,
-        Loaded::Rejected(x) => lines::number_of(x),
+        Loaded::Rejected(x) => refusals::number_of(x),
     }
 }
 

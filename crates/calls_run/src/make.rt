@@ -3,7 +3,7 @@
 use super::seen;
 use super::seen::Tally;
 use engine::Loaded;
-use lines::Wrote;
+use refusals::Wrote;
 use state::Start;
 use state::State;
 
@@ -24,7 +24,7 @@ pub(super) fn start(block: &mut [u8; State::SIZE], opcode: u16, prefix: &[u8], t
     hold(block, state);
     match answer {
         Start::Fresh => seen::bare(t, 0),
-        Start::Refused(x) => seen::bare(t, lines::number_of(x)),
+        Start::Refused(x) => seen::bare(t, refusals::number_of(x)),
     }
 }
 
@@ -74,7 +74,7 @@ fn load(block: &mut [u8; State::SIZE], text: &[u8]) -> u8 {
     hold(block, state);
     match answer {
         Loaded::Accepted => 0,
-        Loaded::Rejected(x) => lines::number_of(x),
+        Loaded::Rejected(x) => refusals::number_of(x),
     }
 }
 

@@ -1,6 +1,6 @@
 // What is seen of the calls of a script: of each the octets that it wrote, how many these are, the number of its
 // refusal, and whether the rest of the output that it was lent stayed as it was.
-use lines::Wrote;
+use refusals::Wrote;
 
 // The largest prime below 2^54: the digest is a polynomial's value modulo it.
 const PRIME: u64 = 18014398509481951;
@@ -141,6 +141,6 @@ pub(super) fn bare(t: Tally, refusal: u8) -> Tally {
 pub(super) fn answered(t: Tally, out: &[u8], r: Wrote) -> Tally {
     match r {
         Wrote::Done(n) => closed(t, took(opened(t), out, n), 0),
-        Wrote::Refused(x) => closed(t, took(opened(t), out, 0), lines::number_of(x)),
+        Wrote::Refused(x) => closed(t, took(opened(t), out, 0), refusals::number_of(x)),
     }
 }

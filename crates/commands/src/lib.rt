@@ -1,29 +1,27 @@
 // Vendor commands executed on the lent block (document 01, Commands): the status, the change in place, the Command
 // Complete written into the lent output, the position moved. The block is laid out as the model's `padded` says.
+mod replies;
+
 use state::State;
 ghost use Prim.Native.Nat.{ℕ, _+_, _-_, _*_, _≤_, _<_};
 ghost use mathlib.Core.Path.{_≡_};
 ghost use mathlib.Core.Bool.{true};
-ghost use mathlib.Core.List.{[], _∷_};
-ghost use lib.ListN.{length, getD};
+ghost use lib.ListN.{length};
 ghost use Rattle.laws.specs.Put.{put};
 ghost use Rattle.model.specs.Monitors.{monitorOf};
 ghost use Rattle.model.specs.Image.{monitorRow};
 ghost use Rattle.model.specs.Types.{Model};
-ghost use Rattle.model.specs.Commands.{table, answerIn, subOf, cancelled};
-ghost use Rattle.model.specs.Events.{complete};
+ghost use Rattle.model.specs.Commands.{subOf, cancelled};
 ghost use Rattle.model.specs.Sound.{soundModel};
 ghost use Rattle.model.specs.Block.{padTo, padded};
 ghost use Rattle.commands.specs.Handles.{busyAt, liveAt, lowest};
 ghost use Rattle.commands.specs.Kept.{keptOctets, keptCount};
 ghost use Rattle.commands.specs.Cancelled.{Compacted, Forgotten};
-ghost use Rattle.commands.specs.Replies.{Replied, headOf, prefixIn, featuresOf};
 ghost use Rattle.commands.specs.Ran.{Runs};
 ghost use Rattle.model.specs.Frames.{command as vendor};
 ghost use Rattle.steps.specs.Stepped.{Taken};
-ghost use Rattle.model.specs.Layout.{paramsMost, returnMost};
+ghost use Rattle.model.specs.Layout.{paramsMost, blockSize, monitorSize, monitorsAt, mostMonitors, mostPairs, pairSize, pairsAt};
 ghost use Rattle.sessions.specs.Machine.{answerRoom};
-ghost use Rattle.model.specs.Layout.{blockSize, countAt, monitorSize, monitorsAt, mostMonitors, mostPairs, mostPrefix, pairSize, pairsAt};
 
 // Whether the monitor row of a handle is in use.
 fn busy(s: &[u8], h: usize) -> bool
@@ -138,70 +136,6 @@ fn cancel(s: &mut [u8], h: u8)
     forget_pairs(s, h);
 }
 
-// Writes what comes before n return parameters.
-fn put_head(out: &mut [u8], opcode: u16, n: u8)
-    requires { ⌜ (answerRoom ≤ length (now out)) × (n ≤ returnMost) ⌝ }
-    ensures { λ _. ⌜ now (out .exit) ≡ put (now (out .entry)) 0 (headOf opcode n) ⌝ }
-{
-    out[0] = 0x0E;
-    out[1] = 3 + n;
-    out[2] = 0x01;
-    octets::put16(out, 3, opcode);
-}
-
-// Writes an answer with a status and a sub-opcode.
-fn reply(out: &mut [u8], opcode: u16, status: u8, sub: u8) -> usize
-    requires { ⌜ answerRoom ≤ length (now out) ⌝ }
-    ensures { λ r. ⌜ Replied (now (out .entry)) (now (out .exit)) r (complete opcode (status ∷ sub ∷ [])) ⌝ }
-{
-    put_head(out, opcode, 2);
-    out[5] = status;
-    out[6] = sub;
-    7
-}
-
-// Writes an answer of success that has a status and the sub-opcode alone, as many return parameters as the table says.
-fn reply_done(out: &mut [u8], opcode: u16, sub: u8) -> usize
-    requires { ⌜ (answerRoom ≤ length (now out)) × (answerIn table sub ≡ 2) ⌝ }
-    ensures { λ r. ⌜ Replied (now (out .entry)) (now (out .exit)) r (complete opcode (0 ∷ sub ∷ [])) ⌝ }
-{
-    put_head(out, opcode, statuses::answer_of(sub));
-    out[5] = 0;
-    out[6] = sub;
-    7
-}
-
-// Writes an answer to 03: a status and a handle.
-fn reply_handle(out: &mut [u8], opcode: u16, status: u8, handle: u8) -> usize
-    requires { ⌜ answerRoom ≤ length (now out) ⌝ }
-    ensures { λ r. ⌜ Replied (now (out .entry)) (now (out .exit)) r (complete opcode (status ∷ 3 ∷ handle ∷ [])) ⌝ }
-{
-    put_head(out, opcode, statuses::answer_of(0x03));
-    out[5] = status;
-    out[6] = 0x03;
-    out[7] = handle;
-    8
-}
-
-// Status and sub-opcode of 00, and the features: RSSI monitoring and advertisement monitoring of legacy advertisements.
-const FEATURES: [u8; 10] = [0x00, 0x00, 0x0C, 0, 0, 0, 0, 0, 0, 0];
-
-// Writes the answer to 00: the features and the prefix.
-fn reply_features(s: &[u8], out: &mut [u8], opcode: u16) -> usize
-    requires { ⌜ (length (now s) ≡ blockSize) × (answerRoom ≤ length (now out)) ⌝ }
-    ensures { λ r. ⌜ Replied (now (out .entry)) (now (out .exit)) r
-        (complete opcode (featuresOf (prefixIn (now (s .entry))))) ⌝ }
-{
-    let k = octets::at_most(s[State::PREFIX_LENGTH_AT], State::PREFIX);
-    let n = k as u8;
-    let f = FEATURES;
-    put_head(out, opcode, statuses::answer_of(0x00) + n);
-    parts::copy(out, 5, &f);
-    out[15] = n;
-    parts::copy(out, 16, &s[State::PREFIX_AT..State::PREFIX_AT + k]);
-    16 + k
-}
-
 // 00: reads the supported features.
 fn read_features(s: &[u8], params: &[u8], out: &mut [u8]) -> usize
     requires { ⌜ (length (now s) ≡ blockSize) × (answerRoom ≤ length (now out)) × (subOf (now params) ≡ 0) ⌝ }
@@ -211,9 +145,9 @@ fn read_features(s: &[u8], params: &[u8], out: &mut [u8]) -> usize
     let opcode = octets::get16(s, State::OPCODE_AT);
     let status = statuses::read_status(params);
     if status == 0 {
-        return reply_features(s, out, opcode);
+        return replies::reply_features(s, out, opcode);
     }
-    reply(out, opcode, status, 0x00)
+    replies::reply(out, opcode, status, 0x00)
 }
 
 // 03: adds a monitor under the lowest handle not live.
@@ -228,9 +162,9 @@ fn add_monitor(s: &mut [u8], params: &[u8], out: &mut [u8]) -> usize
     let status = statuses::add_status(params, room);
     if status == 0 {
         put_monitor(s, h, params);
-        return reply_handle(out, opcode, 0, h as u8);
+        return replies::reply_handle(out, opcode, 0, h as u8);
     }
-    reply_handle(out, opcode, status, 0)
+    replies::reply_handle(out, opcode, status, 0)
 }
 
 // 04: cancels a monitor.
@@ -245,9 +179,9 @@ fn cancel_monitor(s: &mut [u8], params: &[u8], out: &mut [u8]) -> usize
     let status = statuses::cancel_status(params, found);
     if status == 0 {
         cancel(s, h);
-        return reply_done(out, opcode, 0x04);
+        return replies::reply_done(out, opcode, 0x04);
     }
-    reply(out, opcode, status, 0x04)
+    replies::reply(out, opcode, status, 0x04)
 }
 
 // 05: sets the filter.
@@ -260,9 +194,9 @@ fn enable_filter(s: &mut [u8], params: &[u8], out: &mut [u8]) -> usize
     let status = statuses::enable_status(params, s[State::FILTER_AT]);
     if status == 0 {
         s[State::FILTER_AT] = octets::get8(params, 1);
-        return reply_done(out, opcode, 0x05);
+        return replies::reply_done(out, opcode, 0x05);
     }
-    reply(out, opcode, status, 0x05)
+    replies::reply(out, opcode, status, 0x05)
 }
 
 // Executes a command, but for the position.
@@ -284,7 +218,7 @@ fn execute(s: &mut [u8], params: &[u8], out: &mut [u8]) -> usize
     if sub == 0x05 {
         return enable_filter(s, params, out);
     }
-    reply(out, octets::get16(s, State::OPCODE_AT), 0x01, sub)
+    replies::reply(out, octets::get16(s, State::OPCODE_AT), 0x01, sub)
 }
 
 // Executes the vendor command with these parameters, the first of them the sub-opcode: changes the block, writes the

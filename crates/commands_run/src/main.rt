@@ -6,7 +6,7 @@
 use state::State;
 ghost use Prim.Native.Nat.{_+_, _≤_, _<_};
 ghost use lib.ListN.{length};
-use lines::Wrote;
+use refusals::Wrote;
 
 // What a lent output holds before a call; it stands there still where nothing was written.
 const MARK: u8 = 238;

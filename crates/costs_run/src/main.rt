@@ -5,7 +5,7 @@
 ghost use Prim.Native.Nat.{_≤_};
 ghost use mathlib.Core.Path.{_≡_};
 ghost use lib.ListN.{length};
-use lines::Wrote;
+use refusals::Wrote;
 
 // Octets of a vector, and the characters of its line.
 const VECTOR: usize = 129;

@@ -10,7 +10,7 @@ use lib.Dec.{ltb}
 use lib.ListN.{length, take, drop}
 use Rattle.laws.specs.Tests.{pick}
 use Rattle.laws.specs.Rows.{flat}
-use Rattle.lines.specs.Numbers.{number}
+use Rattle.refusals.specs.Numbers.{number}
 use Rattle.rule.specs.Radio.{Frame}
 use Rattle.sessions.specs.Machine.{Form, text, Line, Outcome, refused, done, answerRoom, saveRoom}
 use Rattle.sessions.specs.Session.{Call, Entry, entries, refuseIf, written, judge, answer, image, reply, after, ran, since, linesOf, walk, trace, executed, journal}

@@ -18,9 +18,9 @@ use Rattle.octets.specs.Little.{isOctet}
 use Rattle.lines.specs.Hex.{isText, octetsIn}
 use Rattle.lines.specs.Frame.{frame-most, isFrame, mostFrame}
 use Rattle.reader.specs.Answers.{takeText, take-read}
-use Rattle.lines.specs.declared.Refusal.{Refusal}
-use Rattle.lines.specs.declared.Wrote.{Wrote}
-use Rattle.lines.specs.declared.Wrote.the-variants.{Done, Refused}
+use Rattle.refusals.specs.declared.Refusal.{Refusal}
+use Rattle.refusals.specs.declared.Wrote.{Wrote}
+use Rattle.refusals.specs.declared.Wrote.the-variants.{Done, Refused}
 use Rattle.sessions.specs.Machine.{Outcome, refused, octets, text}
 use Rattle.sessions.specs.Session.{judge}
 use Rattle.model.specs.Frames.{frameOf, readRaw, read}
@@ -51,13 +51,13 @@ unfolding takeText read judge
 line-unread s t n x e h = go (isText t) refl (leb (length (octetsIn t)) n) refl e
   where
     go : (a : Bool) → isText t ≡ a → (b : Bool) → leb (length (octetsIn t)) n ≡ b
-        → pick (a && b) (Done (length (octetsIn t))) (Refused Rattle.lines.specs.declared.Refusal.the-variants.NotLine) ≡ Refused x
+        → pick (a && b) (Done (length (octetsIn t))) (Refused Rattle.refusals.specs.declared.Refusal.the-variants.NotLine) ≡ Refused x
         → judge engine s (pick a (readRaw (octetsIn t)) none) ≡ refused 4
     go false p b q z = ap (judge engine s) (pick-false (readRaw (octetsIn t)) none refl)
     go true p false q z =
         ap (judge engine s) (pick-true (readRaw (octetsIn t)) none refl
         ∙ read-none (octetsIn t) (long-frame (octetsIn t) (let g : n < length (octetsIn t) = leb-false (length (octetsIn t)) n q in omega arith)))
-    go true p true q z = let c : _≡_ {A = ℕ} 0 1 = (clash (sym (pick-true (Done (length (octetsIn t))) (Refused Rattle.lines.specs.declared.Refusal.the-variants.NotLine) refl) ∙ z)) in absurd (omega arith)
+    go true p true q z = let c : _≡_ {A = ℕ} 0 1 = (clash (sym (pick-true (Done (length (octetsIn t))) (Refused Rattle.refusals.specs.declared.Refusal.the-variants.NotLine) refl) ∙ z)) in absurd (omega arith)
       where
         clash : Done (length (octetsIn t)) ≡ Refused x → _≡_ {A = ℕ} 0 1
         clash w = cc

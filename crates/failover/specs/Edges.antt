@@ -1,11 +1,13 @@
 -- Document 01, Both sides of each edge: P1 to P10 hold of the engine over blocks, which the calls' contracts cite. The rows stand in the crate
 -- model (InFull, Edges); here they are carried over from the engine over records. Assumes nothing.
 use Prim.Native.Nat.{ℕ, suc}
+use Prim.Native.String.{String}
 use mathlib.Core.Path.{_≡_, refl, ap, _∙_}
 use mathlib.Core.Bool.{Bool, true, false, _&&_}
 use mathlib.Core.List.{List, [], _∷_, _++_}
+use mathlib.Core.Option.{none, some}
 use lib.ListN.{length}
-use Rattle.laws.specs.Tests.{sames, and-left, and-right}
+use Rattle.laws.specs.Tests.{pick, sames, and-left, and-right}
 use Rattle.laws.specs.Loops.{every, each}
 use Rattle.sessions.specs.Machine.{Outcome, refused, done, octets, answerRoom}
 use Rattle.sessions.specs.Session.{answer, stateAfter}
@@ -13,9 +15,10 @@ use Rattle.sessions.specs.Saved.{Replayed, replay}
 use Rattle.model.specs.Types.{Model, fresh}
 use Rattle.model.specs.Sound.{soundModel, soundSettings, octetsUpTo}
 use Rattle.model.specs.Block.{padded}
-use Rattle.model.specs.Engine.{engine, models, begin, onBlocks}
+use Rattle.model.specs.Image.{imageText, heldIn, isImage, readImage}
+use Rattle.model.specs.Engine.{engine, models, begin, onBlocks, blockOf, decode}
 use Rattle.model.specs.Quoted.{codes}
-use Rattle.model.specs.InFull.{Told, opcodeInFull, prefixInFull, ticksText, answerLines, ranThrough, pictured, replayed, toldRight, inFull}
+use Rattle.model.specs.InFull.{Told, opcodeInFull, prefixInFull, ticksText, answerLines, ranThrough, saves, pictured, replayed, toldRight, inFull}
 use Rattle.model.specs.Rows.{Row, Reply, replyOf, same, imaged, answered, reached, right, allRight, session}
 use Rattle.model.specs.Requests.{equalAdded, equalStart, equalLow, equalGood, t06sizes, t06events, t06texts, t06straddle, t06off, t06window, t06start, t03sizes, t05full, t05two, t05first, t05kept, requests}
 use Rattle.model.specs.Edges.{p2good, p2low, p3, p4sixty, p4image, p4minus, p4plus, p5, p6, p7, p8, readPrefix, forms, p9, p10, edges, edges-hold}
@@ -78,6 +81,24 @@ in-full : soundSettings opcodeInFull prefixInFull ≡ true
 unfolding soundSettings octetsUpTo every
 in-full = refl
 
+-- the image of a row, and what its text is restored to
+restored-blocks : (t : List ℕ) → saves engine begin (decode t) t ≡ saves models fresh (readImage t) t
+unfolding saves decode readImage isImage blockOf pick
+restored-blocks t = go (isImage t) refl
+  where
+    go : (b : Bool) → isImage t ≡ b
+        → saves engine begin (blockOf (pick b (some (heldIn t)) none)) t ≡ saves models fresh (pick b (some (heldIn t)) none) t
+    go true e = ap (λ (i : List ℕ). sames i t) (encode-blocks (heldIn t) (and-left (soundModel (heldIn t)) _ e))
+    go false e = refl
+
+pictured-blocks : (ls : List String) (m : Model) → soundModel m ≡ true → pictured engine begin ls (padded m) ≡ pictured models fresh ls m
+unfolding pictured
+pictured-blocks [] m ok = refl
+pictured-blocks (l ∷ ls) m ok =
+    let t : List ℕ = each codes (l ∷ ls) in
+    ap (λ (i : List ℕ). sames i t && saves engine begin (decode t) t) (encode-blocks m ok)
+    ∙ ap (λ (b : Bool). sames (imageText m) t && b) (restored-blocks t)
+
 told-blocks : (r : Told) → toldRight engine begin r ≡ toldRight models fresh r
 unfolding toldRight replayed onReplayed
 told-blocks r =
@@ -88,9 +109,9 @@ told-blocks r =
     let z : replay engine (λ i. answerRoom) (begin opcodeInFull prefixInFull) t ≡ onReplayed x =
     ap (λ (s : List ℕ). replay engine (λ i. answerRoom) s t) (begin-blocks opcodeInFull prefixInFull in-full)
     ∙ replay-blocks (λ i. answerRoom) m ok t in
-    ap (λ (v : Replayed (List ℕ)). ranThrough (v .stop) && sames (each answerLines (v .answers)) (each codes (r .says)) && pictured (r .image) (engine .encode (v .state))) z
-    ∙ ap (λ (i : List ℕ). ranThrough (x .stop) && sames (each answerLines (x .answers)) (each codes (r .says)) && pictured (r .image) i)
-    (encode-blocks (x .state) (replay-sound (λ i. answerRoom) m ok t))
+    ap (λ (v : Replayed (List ℕ)). ranThrough (v .stop) && sames (each answerLines (v .answers)) (each codes (r .says)) && pictured engine begin (r .image) (v .state)) z
+    ∙ ap (λ (b : Bool). ranThrough (x .stop) && sames (each answerLines (x .answers)) (each codes (r .says)) && b)
+    (pictured-blocks (r .image) (x .state) (replay-sound (λ i. answerRoom) m ok t))
 
 tolds-blocks : (ts : List Told) → every (toldRight engine begin) ts ≡ every (toldRight models fresh) ts
 unfolding every

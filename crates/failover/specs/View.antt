@@ -21,10 +21,12 @@ use Rattle.rule.specs.Project.{over, each-view, turnsFull, turns-view, startedF
 use Rattle.rule.specs.Shows.{Shows}
 use Rattle.model.specs.Types.{Model, Monitor, Packet, Pair, watched, device, deviceOf, withLists, withFilter, moved, ticksOf}
 use Rattle.model.specs.Level.{level}
+use Rattle.model.specs.Levels.{below-levels}
 use Rattle.model.specs.Frames.{Body, Typed, command, packet as packetFrame, tick as tickFrame, bad, typed}
 use Rattle.model.specs.Monitors.{matches, good, strong, runOf, windowed, accepts, faultOf, monitorOf, invalid, full}
 use Rattle.model.specs.Commands.{status, addStatus, cancelStatus, commanded, changed, added, cancelled, ofOther, subOf, paramsIn, table, present}
 use Rattle.model.specs.Watch
+use Rattle.steps.specs.Drops.{keeps-level}
 use Rattle.steps.specs.Starts.{turn-none, turn-pick}
 use Rattle.model.specs.Step.{stepTyped, refusalTyped}
 use Rattle.model.specs.Sound.{soundModel, soundPair, soundOf}
@@ -60,42 +62,46 @@ pub length-view : (qs : List Pair) → length (map viewPair qs) ≡ length qs
 length-view [] = refl
 length-view (q ∷ qs) = ap suc (length-view qs)
 
--- the smallest level kept, the pairs without the first that keeps it, and whether there is room
-pub least-view : (r : ℕ) (qs : List Pair) → Engine.least radio r (map viewPair qs) ≡ Watch.least r qs
-unfolding Watch.least Watch.smaller viewPair
+-- the smallest RSSI kept, the pairs without the first that keeps it, and whether there is room: the core has levels for RSSI
+pub least-view : (r : ℕ) (qs : List Pair) → Engine.least radio (level r) (map viewPair qs) ≡ level (Watch.least r qs)
+unfolding Watch.least Watch.smaller viewPair pick
 least-view r [] = refl
 least-view r (q ∷ qs) =
     ap (Engine.smaller radio (level (q .kept))) (least-view r qs)
-    ∙ sym (pick-cond (ltb (level (q .kept)) (Watch.least r qs)) (level (q .kept)) (Watch.least r qs))
+    ∙ rw (below-levels (q .kept) (Watch.least r qs)) (go (ltb (level (q .kept)) (level (Watch.least r qs))))
+  where
+    go : (t : Bool) → cond t (level (q .kept)) (level (Watch.least r qs)) ≡ level (pick t (q .kept) (Watch.least r qs))
+    go true = refl
+    go false = refl
 
-pub without-view : (k : ℕ) (qs : List Pair) → map viewPair (Watch.without k qs) ≡ Engine.dropFirst radio k (map viewPair qs)
+pub without-view : (k : ℕ) (qs : List Pair) → map viewPair (Watch.without k qs) ≡ Engine.dropFirst radio (level k) (map viewPair qs)
 unfolding Watch.without pick viewPair
 without-view k [] = refl
-without-view k (q ∷ qs) = go (eqb (level (q .kept)) k) (without-view k qs)
+without-view k (q ∷ qs) = rw (keeps-level k q) (go (eqb (level (q .kept)) (level k)) (without-view k qs))
   where
-    go : (t : Bool) → map viewPair (Watch.without k qs) ≡ Engine.dropFirst radio k (map viewPair qs)
+    go : (t : Bool) → map viewPair (Watch.without k qs) ≡ Engine.dropFirst radio (level k) (map viewPair qs)
         → map viewPair (pick t qs (q ∷ Watch.without k qs))
-        ≡ cond t (map viewPair qs) (viewPair q ∷ Engine.dropFirst radio k (map viewPair qs))
+        ≡ cond t (map viewPair qs) (viewPair q ∷ Engine.dropFirst radio (level k) (map viewPair qs))
     go true e = refl
     go false e = ap (λ (l : List (CorePair radio)). viewPair q ∷ l) e
 
-pub fits-view : (r : ℕ) (qs : List Pair) → Engine.fits radio r (map viewPair qs) ≡ Watch.fits r qs
+pub fits-view : (r : ℕ) (qs : List Pair) → Engine.fits radio (level r) (map viewPair qs) ≡ Watch.fits r qs
 unfolding Watch.fits Watch.hasRoom CAP
-fits-view r qs = rw (length-view qs, least-view r qs)
+fits-view r qs = rw (length-view qs, least-view r qs, below-levels (Watch.least r qs) r)
 
-pub stays-view : (r : ℕ) (qs : List Pair) → map viewPair (Watch.staysFor r qs) ≡ Engine.roomFor radio r (map viewPair qs)
+pub stays-view : (r : ℕ) (qs : List Pair) → map viewPair (Watch.staysFor r qs) ≡ Engine.roomFor radio (level r) (map viewPair qs)
 unfolding Watch.staysFor Watch.hasRoom CAP pick
 stays-view r qs = rw (length-view qs, least-view r qs) (go (ltb (length qs) mostPairs))
   where
     go : (t : Bool) → map viewPair (pick t qs (Watch.without (Watch.least r qs) qs))
-        ≡ cond t (map viewPair qs) (Engine.dropFirst radio (Watch.least r qs) (map viewPair qs))
+        ≡ cond t (map viewPair qs) (Engine.dropFirst radio (level (Watch.least r qs)) (map viewPair qs))
     go true = refl
     go false = without-view (Watch.least r qs) qs
 
 -- a start is a start of the core
 pub begins-view : (m : Monitor) (p : Packet) (h : ℕ) (qs : List Pair) → begins radio m p h (map viewPair qs) ≡ Watch.begins m p h qs
 unfolding Watch.begins
-begins-view m p h qs = rw (held-holds qs h (deviceOf p), fits-view (level (p .rssi)) qs)
+begins-view m p h qs = rw (held-holds qs h (deviceOf p), fits-view (p .rssi) qs)
 
 pub turn-view : (o : Option Monitor) (p : Packet) (h : ℕ) (qs : List Pair)
     → map viewPair (Watch.turn o p h qs) ≡ started radio o p h (map viewPair qs)
@@ -104,13 +110,13 @@ turn-view none p h qs = ap (map viewPair) (turn-none p h qs)
 turn-view (some m) p h qs = ap (map viewPair) (turn-pick m p h qs) ∙ rw (begins-view m p h qs) (go (Watch.begins m p h qs))
   where
     r : ℕ
-    r = level (p .rssi)
+    r = p .rssi
 
     go : (b : Bool) → map viewPair (pick b (Watch.staysFor r qs ++ (Watch.startPair h p ∷ [])) qs)
-        ≡ cond b (Engine.roomFor radio r (map viewPair qs) ++ ((h, deviceOf p, zero, r) ∷ [])) (map viewPair qs)
+        ≡ cond b (Engine.roomFor radio (level r) (map viewPair qs) ++ ((h, deviceOf p, zero, level r) ∷ [])) (map viewPair qs)
     go true =
         map-append viewPair (Watch.staysFor r qs) (Watch.startPair h p ∷ [])
-        ∙ ap (λ (l : List (CorePair radio)). l ++ ((h, deviceOf p, zero, r) ∷ [])) (stays-view r qs)
+        ∙ ap (λ (l : List (CorePair radio)). l ++ ((h, deviceOf p, zero, level r) ∷ [])) (stays-view r qs)
     go false = refl
 
 pub all-turns-view : (l : List (ℕ × Monitor)) (p : Packet) (n : ℕ) (qs : List Pair)

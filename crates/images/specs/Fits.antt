@@ -1,6 +1,6 @@
 -- What a sound state keeps to, as bounds on the fields that the image writes: soundness, taken apart. Document 01,
 -- The image. Assumes nothing.
-use Prim.Native.Nat.{ℕ, suc, _+_, _*_, _≤_, _<_}
+use Prim.Native.Nat.{ℕ, suc, _+_, _≤_, _<_}
 use mathlib.Core.Path.{_≡_, refl}
 use mathlib.Core.Bool.{Bool, true, false, _&&_, _||_, cond, false≢true}
 use mathlib.Core.List.{List, [], _∷_}
@@ -15,7 +15,7 @@ use Rattle.octets.specs.Little.{isOctet}
 use Rattle.rule.specs.Engine.{find}
 use Rattle.sessions.specs.Machine.{lastNumber}
 use Rattle.model.specs.Types.{Model, Monitor, Pair, ticksOf}
-use Rattle.model.specs.Level.{levels}
+use Rattle.model.specs.Level.{sumInRange}
 use Rattle.model.specs.Monitors.{accepts, runOf, windowed}
 use Rattle.model.specs.Accepted.{Accepted, accepted}
 use Rattle.model.specs.Sound.{octetsUpTo, soundSettings, soundMonitor, soundMonitors, soundWindow, soundEmpty}
@@ -176,7 +176,7 @@ window-fits position m q h s e n = go (windowed m) refl e
     u = ltb (q .sum) 18446744073709551616
 
     v : Bool
-    v = leb (levels (q .sum) (q .packets)) (147 * q .packets)
+    v = sumInRange (q .sum) (q .packets)
 
     go : (w : Bool) → windowed m ≡ w → pick w (t && p && u && v) (eqb (q .ticks) 0 && eqb (q .packets) 0) ≡ true
         → Window q

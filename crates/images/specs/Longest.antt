@@ -67,7 +67,7 @@ pub longest-sound : soundModel longest ≡ true
 unfolding longMonitor longMonitors longPair longPairs longest
     Rattle.model.specs.Types.ticksOf
     Rattle.model.specs.Types.device Rattle.model.specs.Types.watched
-    Rattle.model.specs.Level.level Rattle.model.specs.Level.inRange Rattle.model.specs.Level.levels
+    Rattle.model.specs.Level.level Rattle.model.specs.Level.dBm Rattle.model.specs.Level.raised Rattle.model.specs.Level.signed Rattle.model.specs.Level.wrapped Rattle.model.specs.Level.floorOf Rattle.model.specs.Level.inRange Rattle.model.specs.Level.sumInRange Rattle.model.specs.Level.addRssi Rattle.model.specs.Level.mean
     Rattle.model.specs.Monitors.ordered Rattle.model.specs.Monitors.settingsGood Rattle.model.specs.Monitors.conditionFault Rattle.model.specs.Monitors.faultOf Rattle.model.specs.Monitors.accepts
     Rattle.model.specs.Monitors.runOf Rattle.model.specs.Monitors.windowed
     Rattle.model.specs.Watch.isPair Rattle.model.specs.Watch.holds

@@ -52,9 +52,11 @@ unfolding longAdd longHeard longAdds longFrames longReached
     Rattle.model.specs.Rows.added2 Rattle.model.specs.Types.ticksOf Rattle.model.specs.Types.device
     Rattle.model.specs.Types.deviceOf Rattle.model.specs.Types.watched Rattle.model.specs.Types.withLists
     Rattle.model.specs.Types.withFilter Rattle.model.specs.Types.moved Rattle.model.specs.Types.fresh
-    Rattle.model.specs.Types.blank Rattle.model.specs.Types.scanText Rattle.model.specs.Level.level
-    Rattle.model.specs.Level.inRange Rattle.model.specs.Level.extended Rattle.model.specs.Level.addRssi
-    Rattle.model.specs.Level.levels Rattle.model.specs.Level.mean Rattle.model.specs.Frames.frameOf
+    Rattle.model.specs.Types.blank Rattle.model.specs.Types.scanText
+    Rattle.model.specs.Level.level Rattle.model.specs.Level.dBm Rattle.model.specs.Level.raised Rattle.model.specs.Level.signed
+    Rattle.model.specs.Level.wrapped Rattle.model.specs.Level.floorOf Rattle.model.specs.Level.inRange
+    Rattle.model.specs.Level.sumInRange Rattle.model.specs.Level.addRssi Rattle.model.specs.Level.mean
+    Rattle.model.specs.Frames.frameOf
     Rattle.model.specs.Frames.rawOf Rattle.model.specs.Frames.readRaw Rattle.model.specs.Frames.read
     Rattle.model.specs.Frames.write Rattle.model.specs.Frames.isCommand Rattle.model.specs.Frames.isPacket
     Rattle.model.specs.Frames.isScanned Rattle.model.specs.Frames.scanOf Rattle.model.specs.Frames.packetOf
@@ -75,7 +77,7 @@ unfolding longAdd longHeard longAdds longFrames longReached
     Rattle.model.specs.Watch.windowTakes Rattle.model.specs.Watch.atPacket Rattle.model.specs.Watch.packetMove
     Rattle.model.specs.Watch.isPair Rattle.model.specs.Watch.holds Rattle.model.specs.Watch.begins
     Rattle.model.specs.Watch.withKept Rattle.model.specs.Watch.smaller Rattle.model.specs.Watch.least
-    Rattle.model.specs.Watch.firstKeeping Rattle.model.specs.Watch.without Rattle.model.specs.Watch.hasRoom
+    Rattle.model.specs.Watch.keeps Rattle.model.specs.Watch.firstKeeping Rattle.model.specs.Watch.without Rattle.model.specs.Watch.hasRoom
     Rattle.model.specs.Watch.fits Rattle.model.specs.Watch.goesFor Rattle.model.specs.Watch.staysFor
     Rattle.model.specs.Watch.stopOf Rattle.model.specs.Watch.turnAnswer Rattle.model.specs.Watch.turnsAnswer
     Rattle.model.specs.Watch.startPair Rattle.model.specs.Watch.startOf Rattle.model.specs.Watch.startsBelow

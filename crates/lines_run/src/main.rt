@@ -1,8 +1,8 @@
 // Runs vectors through the crates lines and reader, one line of output for each: the line, or the refusal's number (document 01,
 // Lines, Refusal numbers, A session in full). What it must write stands in stdout, which is written from the document
 // by hand.
-use lines::Refusal;
-use lines::Wrote;
+use refusals::Refusal;
+use refusals::Wrote;
 
 // What a lent output holds before a call; it stands there still where nothing was written.
 const MARK: u8 = 238;
@@ -28,7 +28,7 @@ fn show_changed(out: &[u8], from: usize) {
 }
 
 fn show_number(r: Refusal) {
-    let n = lines::number_of(r);
+    let n = refusals::number_of(r);
     io::print_decimal(1, n as u64);
     io::write_all(1, b"\n");
 }

@@ -6,13 +6,15 @@ use mathlib.Core.Bool.{Bool, true, false, _&&_, not}
 use mathlib.Core.List.{List, [], _++_, append-nil}
 use native.Mathlib.Omega.{arith}
 use lib.Dec.{leb, ltb, eqb}
+use lib.Signed.{leZ, ltZ}
 use lib.ListN.{length, take, drop, getD}
 use lib.Seq.{getD-drop, drop-drop, take-take, take-all, length-take-le}
 use borrow.Author.Tests.{eq-eqb, ne-eqb}
 use Rattle.laws.specs.Tests.{pick, sames, sames-eq, and-not-left, cases-le}
 use Rattle.laws.specs.Rows.{row, getD-row}
 use Rattle.advert.specs.Condition.{meets}
-use Rattle.model.specs.Level.{level}
+use Rattle.model.specs.Level.{level, dBm}
+use Rattle.model.specs.Levels.{below-levels, most-levels}
 use Rattle.model.specs.Types.{Packet, scanText}
 use Rattle.model.specs.Frames.{packetOf, scanOf}
 use Rattle.model.specs.Monitors.{matches, good, strong, windowed}
@@ -25,7 +27,7 @@ use Rattle.model.specs.Layout.{conditionAt, conditionLengthAt, conditionRoom, h
 -- the octet of a packet that matches, from the octets of the monitor's row and the packet's RSSI
 unfoldable pub rowBits : ℕ → ℕ → ℕ → ℕ → ℕ
 rowBits high low sampling rssi =
-    bits (ltb (level low) (level rssi)) (leb 1 sampling && leb sampling 254) (leb (level high) (level rssi))
+    bits (ltZ (dBm low) (dBm rssi)) (leb 1 sampling && leb sampling 254) (leZ (dBm high) (dBm rssi))
     (eqb sampling 0)
 
 pub bits-made : (high low sampling rssi : ℕ) {v u w a b c d : ℕ} → v ≡ level rssi → u ≡ level low → w ≡ level high
@@ -33,7 +35,7 @@ pub bits-made : (high low sampling rssi : ℕ) {v u w a b c d : ℕ} → v ≡ l
     → d ≡ flag (eqb sampling 0)
     → a + 2 * b + 4 * c + 8 * d + matched ≡ rowBits high low sampling rssi
 unfolding rowBits bits
-bits-made high low sampling rssi e f g p q r s = rw (p, q, r, s, e, f, g)
+bits-made high low sampling rssi e f g p q r s = rw (p, q, r, s, e, f, g, below-levels low rssi, most-levels high rssi)
 
 -- a field of the row of a handle
 pub row-field : (s : List ℕ) (h j : ℕ) → j < monitorSize → getD (row monitorSize h (drop monitorsAt s)) j 0 ≡ getD s (monitorsAt + monitorSize * h + j) 0

@@ -131,11 +131,11 @@ unfolding p2good p2low p3 p4sixty p4image p4minus p4plus p5 p6 p7 p8 readPrefix 
     Rattle.model.specs.Rows.replyOf Rattle.model.specs.Rows.same Rattle.model.specs.Rows.imaged Rattle.model.specs.Rows.answered Rattle.model.specs.Rows.reached Rattle.model.specs.Rows.right Rattle.model.specs.Rows.allRight Rattle.model.specs.Rows.cmd Rattle.model.specs.Rows.pkt Rattle.model.specs.Rows.adv Rattle.model.specs.Rows.tck Rattle.model.specs.Rows.tcks Rattle.model.specs.Rows.quiet Rattle.model.specs.Rows.addWatch Rattle.model.specs.Rows.added0 Rattle.model.specs.Rows.start0 Rattle.model.specs.Rows.stop0 Rattle.model.specs.Rows.report60 Rattle.model.specs.Rows.session Rattle.model.specs.Rows.on Rattle.model.specs.Rows.onAnswer Rattle.model.specs.Rows.addSampled Rattle.model.specs.Rows.invalid03 Rattle.model.specs.Rows.added1 Rattle.model.specs.Rows.added2
     Rattle.model.specs.Requests.addEqual Rattle.model.specs.Requests.reportAt Rattle.model.specs.Requests.equalAdded Rattle.model.specs.Requests.equalStart Rattle.model.specs.Requests.equalLow Rattle.model.specs.Requests.equalGood Rattle.model.specs.Requests.requests Rattle.model.specs.Requests.scn Rattle.model.specs.Requests.rep Rattle.model.specs.Requests.addFf Rattle.model.specs.Requests.aa Rattle.model.specs.Requests.bb Rattle.model.specs.Requests.t06sizes Rattle.model.specs.Requests.t06events Rattle.model.specs.Requests.t06texts Rattle.model.specs.Requests.t06straddle Rattle.model.specs.Requests.t06off Rattle.model.specs.Requests.t06window Rattle.model.specs.Requests.t06start Rattle.model.specs.Requests.from Rattle.model.specs.Requests.repOf Rattle.model.specs.Requests.evt Rattle.model.specs.Requests.addFor Rattle.model.specs.Requests.addedAt Rattle.model.specs.Requests.evts Rattle.model.specs.Requests.adds Rattle.model.specs.Requests.addsSaid Rattle.model.specs.Requests.crowd Rattle.model.specs.Requests.crowdSaid Rattle.model.specs.Requests.t05full Rattle.model.specs.Requests.t05two Rattle.model.specs.Requests.t05first Rattle.model.specs.Requests.t05kept Rattle.model.specs.Requests.addKey Rattle.model.specs.Requests.t03sizes
     Rattle.model.specs.Types.ticksOf Rattle.model.specs.Types.device Rattle.model.specs.Types.deviceOf Rattle.model.specs.Types.watched Rattle.model.specs.Types.withLists Rattle.model.specs.Types.withFilter Rattle.model.specs.Types.moved Rattle.model.specs.Types.fresh Rattle.model.specs.Types.blank Rattle.model.specs.Types.scanText
-    Rattle.model.specs.Level.level Rattle.model.specs.Level.inRange Rattle.model.specs.Level.extended Rattle.model.specs.Level.addRssi Rattle.model.specs.Level.levels Rattle.model.specs.Level.mean
+    Rattle.model.specs.Level.level Rattle.model.specs.Level.dBm Rattle.model.specs.Level.raised Rattle.model.specs.Level.signed Rattle.model.specs.Level.wrapped Rattle.model.specs.Level.floorOf Rattle.model.specs.Level.inRange Rattle.model.specs.Level.sumInRange Rattle.model.specs.Level.addRssi Rattle.model.specs.Level.mean
     Rattle.model.specs.Frames.frameOf Rattle.model.specs.Frames.rawOf Rattle.model.specs.Frames.readRaw Rattle.model.specs.Frames.read Rattle.model.specs.Frames.write Rattle.model.specs.Frames.isCommand Rattle.model.specs.Frames.isPacket Rattle.model.specs.Frames.isScanned Rattle.model.specs.Frames.scanOf Rattle.model.specs.Frames.packetOf Rattle.model.specs.Frames.isTick Rattle.model.specs.Frames.typed
     Rattle.model.specs.Monitors.ordered Rattle.model.specs.Monitors.settingsGood Rattle.model.specs.Monitors.conditionFault Rattle.model.specs.Monitors.faultOf Rattle.model.specs.Monitors.accepts Rattle.model.specs.Monitors.monitorOf Rattle.model.specs.Monitors.matches Rattle.model.specs.Monitors.good Rattle.model.specs.Monitors.strong Rattle.model.specs.Monitors.runOf Rattle.model.specs.Monitors.windowed
     Rattle.model.specs.Commands.table Rattle.model.specs.Commands.paramsIn Rattle.model.specs.Commands.answerIn Rattle.model.specs.Commands.present Rattle.model.specs.Commands.subOf Rattle.model.specs.Commands.readStatus Rattle.model.specs.Commands.addStatus Rattle.model.specs.Commands.cancelStatus Rattle.model.specs.Commands.enableStatus Rattle.model.specs.Commands.status Rattle.model.specs.Commands.handleOr Rattle.model.specs.Commands.newHandle Rattle.model.specs.Commands.features Rattle.model.specs.Commands.success Rattle.model.specs.Commands.failure Rattle.model.specs.Commands.returned Rattle.model.specs.Commands.ofOther Rattle.model.specs.Commands.cancelled Rattle.model.specs.Commands.added Rattle.model.specs.Commands.changed Rattle.model.specs.Commands.commanded
-    Rattle.model.specs.Watch.withSilent Rattle.model.specs.Watch.gathered Rattle.model.specs.Watch.withTicks Rattle.model.specs.Watch.emptied Rattle.model.specs.Watch.counts Rattle.model.specs.Watch.refreshed Rattle.model.specs.Watch.windowTakes Rattle.model.specs.Watch.atPacket Rattle.model.specs.Watch.packetMove Rattle.model.specs.Watch.isPair Rattle.model.specs.Watch.holds Rattle.model.specs.Watch.begins Rattle.model.specs.Watch.withKept Rattle.model.specs.Watch.smaller Rattle.model.specs.Watch.least Rattle.model.specs.Watch.firstKeeping Rattle.model.specs.Watch.without Rattle.model.specs.Watch.hasRoom Rattle.model.specs.Watch.fits Rattle.model.specs.Watch.goesFor Rattle.model.specs.Watch.staysFor Rattle.model.specs.Watch.stopOf Rattle.model.specs.Watch.turnAnswer Rattle.model.specs.Watch.turnsAnswer Rattle.model.specs.Watch.startPair Rattle.model.specs.Watch.startOf Rattle.model.specs.Watch.startsBelow Rattle.model.specs.Watch.turn Rattle.model.specs.Watch.turns Rattle.model.specs.Watch.packetPairs Rattle.model.specs.Watch.startsOf Rattle.model.specs.Watch.wants Rattle.model.specs.Watch.reported Rattle.model.specs.Watch.packetAnswer Rattle.model.specs.Watch.goesOn Rattle.model.specs.Watch.closes Rattle.model.specs.Watch.windowTick Rattle.model.specs.Watch.atTick Rattle.model.specs.Watch.tickPairs Rattle.model.specs.Watch.windowSays Rattle.model.specs.Watch.tickOctets Rattle.model.specs.Watch.tickAnswer
+    Rattle.model.specs.Watch.withSilent Rattle.model.specs.Watch.gathered Rattle.model.specs.Watch.withTicks Rattle.model.specs.Watch.emptied Rattle.model.specs.Watch.counts Rattle.model.specs.Watch.refreshed Rattle.model.specs.Watch.windowTakes Rattle.model.specs.Watch.atPacket Rattle.model.specs.Watch.packetMove Rattle.model.specs.Watch.isPair Rattle.model.specs.Watch.holds Rattle.model.specs.Watch.begins Rattle.model.specs.Watch.withKept Rattle.model.specs.Watch.smaller Rattle.model.specs.Watch.least Rattle.model.specs.Watch.keeps Rattle.model.specs.Watch.firstKeeping Rattle.model.specs.Watch.without Rattle.model.specs.Watch.hasRoom Rattle.model.specs.Watch.fits Rattle.model.specs.Watch.goesFor Rattle.model.specs.Watch.staysFor Rattle.model.specs.Watch.stopOf Rattle.model.specs.Watch.turnAnswer Rattle.model.specs.Watch.turnsAnswer Rattle.model.specs.Watch.startPair Rattle.model.specs.Watch.startOf Rattle.model.specs.Watch.startsBelow Rattle.model.specs.Watch.turn Rattle.model.specs.Watch.turns Rattle.model.specs.Watch.packetPairs Rattle.model.specs.Watch.startsOf Rattle.model.specs.Watch.wants Rattle.model.specs.Watch.reported Rattle.model.specs.Watch.packetAnswer Rattle.model.specs.Watch.goesOn Rattle.model.specs.Watch.closes Rattle.model.specs.Watch.windowTick Rattle.model.specs.Watch.atTick Rattle.model.specs.Watch.tickPairs Rattle.model.specs.Watch.windowSays Rattle.model.specs.Watch.tickOctets Rattle.model.specs.Watch.tickAnswer
     Rattle.model.specs.Events.complete Rattle.model.specs.Events.event Rattle.model.specs.Events.startEvent Rattle.model.specs.Events.stopEvent Rattle.model.specs.Events.report Rattle.model.specs.Events.packetReport Rattle.model.specs.Events.windowReport Rattle.model.specs.Events.scanReport Rattle.model.specs.Events.packetReports
     Rattle.model.specs.Step.stepTyped Rattle.model.specs.Step.answerTyped Rattle.model.specs.Step.refusalTyped Rattle.model.specs.Step.actTyped Rattle.model.specs.Step.act
     Rattle.model.specs.Sound.octetsUpTo Rattle.model.specs.Sound.soundSettings Rattle.model.specs.Sound.soundMonitor Rattle.model.specs.Sound.soundMonitors Rattle.model.specs.Sound.soundWindow Rattle.model.specs.Sound.soundEmpty Rattle.model.specs.Sound.soundFields Rattle.model.specs.Sound.soundOf Rattle.model.specs.Sound.soundPair Rattle.model.specs.Sound.apart Rattle.model.specs.Sound.soundModel
@@ -155,5 +155,5 @@ unfolding p2good p2low p3 p4sixty p4image p4minus p4plus p5 p6 p7 p8 readPrefix 
     Rattle.sessions.specs.Session.refuseIf Rattle.sessions.specs.Session.stateAfter Rattle.sessions.specs.Session.judge Rattle.sessions.specs.Session.answer
     Rattle.sessions.specs.Machine.lastNumber
     Rattle.sessions.specs.Saved.cutFrom Rattle.sessions.specs.Saved.cut Rattle.sessions.specs.Saved.withAnswer Rattle.sessions.specs.Saved.resume Rattle.sessions.specs.Saved.replayLines Rattle.sessions.specs.Saved.replay
-    Rattle.model.specs.Quoted.codes Rattle.model.specs.InFull.ticksText Rattle.model.specs.InFull.eventsOf Rattle.model.specs.InFull.answerLines Rattle.model.specs.InFull.ranThrough Rattle.model.specs.InFull.pictured Rattle.model.specs.InFull.replayed Rattle.model.specs.InFull.toldRight inFull
+    Rattle.model.specs.Quoted.codes Rattle.model.specs.InFull.ticksText Rattle.model.specs.InFull.eventsOf Rattle.model.specs.InFull.answerLines Rattle.model.specs.InFull.ranThrough Rattle.model.specs.InFull.saves Rattle.model.specs.InFull.pictured Rattle.model.specs.InFull.replayed Rattle.model.specs.InFull.toldRight inFull
 edges-hold = refl

@@ -77,20 +77,26 @@ unfoldable pub ranThrough : Option ℕ → Bool
 ranThrough none = true
 ranThrough (some n) = false
 
-unfoldable pub pictured : List String → List ℕ → Bool
-pictured [] t = true
-pictured (l ∷ ls) t = sames t (each codes (l ∷ ls))
-
 module _ (M : Machine) (begin : ℕ → List ℕ → M .S) where
+  -- what a text was restored to is saved as that text (none: it was refused)
+  unfoldable pub saves : Option (M .S) → List ℕ → Bool
+  saves none t = false
+  saves (some s) t = sames (M .encode s) t
+
+  -- the state is saved as this text, and so is what the text is restored to
+  unfoldable pub pictured : List String → M .S → Bool
+  pictured [] s = true
+  pictured (l ∷ ls) s = sames (M .encode s) (each codes (l ∷ ls)) && saves (M .decode (each codes (l ∷ ls))) (each codes (l ∷ ls))
+
   unfoldable pub replayed : Told → Replayed (M .S)
   replayed r =
       replay M (λ i. answerRoom) (begin opcodeInFull prefixInFull) (each codes (r .journal) ++ ticksText (r .ticks) (suc (length (r .journal))))
 
-  -- replay of the journal runs through, writes these lines, and ends at a state of this image
+  -- replay of the journal runs through, writes these lines, and ends at a state of this image, which is restored
   unfoldable pub toldRight : Told → Bool
   toldRight r =
       ranThrough (replayed r .stop) && sames (each answerLines (replayed r .answers)) (each codes (r .says))
-      && pictured (r .image) (M .encode (replayed r .state))
+      && pictured (r .image) (replayed r .state)
 
 -- P1: the fresh image; the session with its answers and its image; 29 ticks; the 30th
 unfoldable pub inFull : List Told

@@ -2,6 +2,8 @@
 pub mod Layout
 pub mod Types
 pub mod Level
+pub mod Signed
+pub mod Levels
 pub mod Frames
 pub mod Monitors
 pub mod Accepted

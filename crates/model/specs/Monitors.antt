@@ -5,10 +5,11 @@ use mathlib.Core.Bool.{Bool, _&&_}
 use mathlib.Core.List.{List, [], _∷_}
 use lib.Dec.{leb, ltb, eqb}
 use lib.ListN.{length, drop, getD}
+use lib.Signed.{leZ, ltZ}
 use Rattle.laws.specs.Tests.{pick}
 use Rattle.advert.specs.Condition.{meets, formOf, formStatus}
 use Rattle.model.specs.Types.{Monitor, Packet, scanText, ticksOf}
-use Rattle.model.specs.Level.{level, inRange}
+use Rattle.model.specs.Level.{dBm, inRange}
 use Rattle.model.specs.Layout.{mostCondition}
 
 -- The status codes (Core): invalid parameters, memory capacity exceeded, command disallowed, unknown command.
@@ -26,14 +27,14 @@ unknown = 0x01
 
 -- T-01: "Accept equality; low above high stays 0x12"
 unfoldable pub ordered : ℕ → ℕ → Bool
-ordered high low = leb (level low) (level high)
+ordered high low = leZ (dBm low) (dBm high)
 
 -- Commands, 03: "a threshold outside −127 to 20", low above high (T-01), "interval outside 0x01 to 0x3C": none of these
 unfoldable pub settingsGood : ℕ → ℕ → ℕ → Bool
 settingsGood high low interval = inRange high && inRange low && ordered high low && leb 1 interval && leb interval 0x3C
 
 -- what is said of a condition's form has its status (advert, Condition); a well-formed one may be too long: "condition type outside
--- 1 to 4: 0x12 .. Malformed condition: 0x12. Condition over 64 octets .. 0x07"; T-03: "The 0x11 answer disappears"
+-- 1 to 4: 0x12 .. Malformed condition: 0x12. Condition over 64 octets .. 0x07"
 unfoldable pub conditionFault : ℕ → List ℕ → ℕ
 conditionFault kind condition =
     pick (eqb (formStatus (formOf kind condition)) 0) (pick (ltb mostCondition (length condition)) full 0)
@@ -59,11 +60,11 @@ matches m p = meets (m .kind) (m .condition) (p .kind) (p .address) (p .adv) (sc
 -- "A packet is good if its RSSI is above low." T-01: "While under watch, a packet at the shared value is low." A start packet is good
 -- whatever `low` is: a pair starts with no ticks since a good packet (Watch, `startPair`).
 unfoldable pub good : Monitor → Packet → Bool
-good m p = ltb (level (m .low)) (level (p .rssi))
+good m p = ltZ (dBm (m .low)) (dBm (p .rssi))
 
 -- "its RSSI is at least high"
 unfoldable pub strong : Monitor → Packet → Bool
-strong m p = leb (level (m .high)) (level (p .rssi))
+strong m p = leZ (dBm (m .high)) (dBm (p .rssi))
 
 -- "10 × interval ticks": the run without a good packet that ends a watch
 unfoldable pub runOf : Monitor → ℕ

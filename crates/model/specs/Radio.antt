@@ -16,6 +16,7 @@ use Rattle.model.specs.Accepted.{accepts-run}
 use Rattle.model.specs.Commands.{subOf, paramsIn, table}
 use Rattle.model.specs.Frames.{Body, Typed, command, packet as packetFrame, tick as tickFrame, bad, typed}
 
+-- RSSI by its level, which is ordered as dBm are (Levels, `below-levels`)
 abbrev pub radio : Radio
 radio =
     record {

@@ -1,6 +1,6 @@
 -- Soundness, clause by clause. Document 01, The image ("Sound: ..") and Sizes of the gateway. A test on the model; that every
 -- unused octet and place of the block is 0 is the test of Block.
-use Prim.Native.Nat.{ℕ, zero, suc, _+_, _*_}
+use Prim.Native.Nat.{ℕ, zero, suc, _+_}
 use mathlib.Core.Bool.{Bool, true, false, _&&_, _||_, not}
 use mathlib.Core.List.{List, [], _∷_}
 use mathlib.Core.Option.{Option, none, some}
@@ -12,7 +12,7 @@ use Rattle.octets.specs.Little.{isOctet}
 use Rattle.rule.specs.Engine.{find}
 use Rattle.sessions.specs.Machine.{lastNumber}
 use Rattle.model.specs.Types.{Model, Monitor, Pair, watched}
-use Rattle.model.specs.Level.{levels, inRange}
+use Rattle.model.specs.Level.{inRange, sumInRange}
 use Rattle.model.specs.Monitors.{accepts, runOf, windowed}
 use Rattle.model.specs.Watch.{isPair, holds}
 use Rattle.model.specs.Layout.{mostData, mostMonitors, mostPairs, mostPrefix}
@@ -40,7 +40,7 @@ unfoldable pub soundWindow : ℕ → Monitor → Pair → Bool
 soundWindow position m q =
     pick (windowed m) (
     ltb (q .ticks) (m .sampling) && leb (q .packets) position && ltb (q .sum) 18446744073709551616
-    && leb (levels (q .sum) (q .packets)) (147 * q .packets))
+    && sumInRange (q .sum) (q .packets))
     (eqb (q .ticks) 0 && eqb (q .packets) 0)
 
 -- "with packets 0 the sum, event type and n are 0"

@@ -1,5 +1,5 @@
 -- The records of the model: a monitor's settings, a packet, a pair under watch, and the state with its lists.
--- Document 01: Sizes of the gateway, Lines, The image. Octets are kept as sent; RSSI is compared by its level (Level).
+-- Document 01: Sizes of the gateway, Lines, The image. Octets are kept as sent; RSSI is compared in dBm (Level).
 use Prim.Native.Nat.{ℕ, _+_, _*_}
 use mathlib.Core.List.{List, [], _∷_}
 use mathlib.Core.Option.{Option, none, some}

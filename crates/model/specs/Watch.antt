@@ -5,12 +5,13 @@ use mathlib.Core.List.{List, [], _∷_, _++_, map}
 use mathlib.Core.Option.{Option, none, some}
 use lib.Dec.{leb, ltb, eqb}
 use lib.ListN.{length}
+use lib.Signed.{leZ, ltZ}
 use Rattle.laws.specs.Tests.{pick, sames}
 use Rattle.laws.specs.Loops.{some as someOf, each, when}
 use Rattle.rule.specs.Engine.{find}
 use Rattle.rule.specs.Base.{each as moveEach}
 use Rattle.model.specs.Types.{Model, Monitor, Packet, Pair, deviceOf, watched, withLists}
-use Rattle.model.specs.Level.{level, addRssi}
+use Rattle.model.specs.Level.{dBm, addRssi}
 use Rattle.model.specs.Monitors.{matches, good, strong, runOf, windowed}
 use Rattle.model.specs.Events.{startEvent, stopEvent, packetReports, windowReport}
 use Rattle.model.specs.Layout.{mostMonitors, mostPairs}
@@ -119,33 +120,37 @@ isPair h d q = eqb (q .handle) h && sames (watched q) d
 unfoldable pub holds : List Pair → ℕ → List ℕ → Bool
 holds qs h d = someOf (isPair h d) qs
 
--- the smallest level that a pair keeps, where it is below r, else r
+-- the smallest RSSI that a pair keeps, where it is below r, else r
 unfoldable pub smaller : ℕ → ℕ → ℕ
-smaller a b = pick (ltb a b) a b
+smaller a b = pick (ltZ (dBm a) (dBm b)) a b
 
 unfoldable pub least : ℕ → List Pair → ℕ
 least r [] = r
-least r (q ∷ qs) = smaller (level (q .kept)) (least r qs)
+least r (q ∷ qs) = smaller (q .kept) (least r qs)
 
--- the first of the pairs that keep a level ("the earliest started if several"), and the pairs without it
+-- the pair keeps this RSSI
+unfoldable pub keeps : ℕ → Pair → Bool
+keeps k q = leZ (dBm (q .kept)) (dBm k) && leZ (dBm k) (dBm (q .kept))
+
+-- the first of the pairs that keep an RSSI ("the earliest started if several"), and the pairs without it
 unfoldable pub firstKeeping : ℕ → List Pair → List Pair
 firstKeeping k [] = []
-firstKeeping k (q ∷ qs) = pick (eqb (level (q .kept)) k) (q ∷ []) (firstKeeping k qs)
+firstKeeping k (q ∷ qs) = pick (keeps k q) (q ∷ []) (firstKeeping k qs)
 
 unfoldable pub without : ℕ → List Pair → List Pair
 without k [] = []
-without k (q ∷ qs) = pick (eqb (level (q .kept)) k) qs (q ∷ without k qs)
+without k (q ∷ qs) = pick (keeps k q) qs (q ∷ without k qs)
 
 -- "fewer than 64 pairs are"; T-05: or, "64 are under watch, and its RSSI is above the smallest kept one"
 unfoldable pub hasRoom : List Pair → Bool
 hasRoom qs = ltb (length qs) mostPairs
 
 unfoldable pub fits : ℕ → List Pair → Bool
-fits r qs = hasRoom qs || ltb (least r qs) r
+fits r qs = hasRoom qs || ltZ (dBm (least r qs)) (dBm r)
 
 -- "It is a start if its RSSI is at least high, the pair is not under watch just before", and there is room for it
 unfoldable pub begins : Monitor → Packet → ℕ → List Pair → Bool
-begins m p h qs = matches m p && (strong m p && (not (holds qs h (deviceOf p)) && fits (level (p .rssi)) qs))
+begins m p h qs = matches m p && (strong m p && (not (holds qs h (deviceOf p)) && fits (p .rssi) qs))
 
 -- a pair at its start: "The start packet is in no window". T-01: "A start packet now counts as good even when its RSSI is not above
 -- low": no ticks have passed since a good packet.
@@ -158,7 +163,7 @@ unfoldable pub startOf : Option Monitor → Packet → ℕ → List Pair → Lis
 startOf none p h qs = []
 startOf (some m) p h qs = when (begins m p h qs) (startPair h p ∷ [])
 
--- T-05: "that pair (the earliest started if several) gets its stop event": the pair that goes for a start at a level where there is no
+-- T-05: "that pair (the earliest started if several) gets its stop event": the pair that goes for a start at an RSSI where there is no
 -- room, and those that stay
 unfoldable pub goesFor : ℕ → List Pair → List Pair
 goesFor r qs = pick (hasRoom qs) [] (firstKeeping (least r qs) qs)
@@ -169,12 +174,12 @@ staysFor r qs = pick (hasRoom qs) qs (without (least r qs) qs)
 -- one handle's turn ends the watch of these
 unfoldable pub stopOf : Option Monitor → Packet → ℕ → List Pair → List Pair
 stopOf none p h qs = []
-stopOf (some m) p h qs = when (begins m p h qs) (goesFor (level (p .rssi)) qs)
+stopOf (some m) p h qs = when (begins m p h qs) (goesFor (p .rssi) qs)
 
 -- the pairs after it: "monitors take one packet in handle order, and a start takes its room at once"
 unfoldable pub turn : Option Monitor → Packet → ℕ → List Pair → List Pair
 turn none p h qs = qs
-turn (some m) p h qs = pick (begins m p h qs) (staysFor (level (p .rssi)) qs ++ (startPair h p ∷ [])) qs
+turn (some m) p h qs = pick (begins m p h qs) (staysFor (p .rssi) qs ++ (startPair h p ∷ [])) qs
 
 -- the turns of the handles below n, and the starts that they give, by handle
 unfoldable pub turns : List (ℕ × Monitor) → Packet → ℕ → List Pair → List Pair

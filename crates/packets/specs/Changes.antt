@@ -11,7 +11,6 @@ use Rattle.laws.specs.Loops.{each, when}
 use Rattle.rule.specs.Engine.{find}
 use Rattle.model.specs.Types.{Monitor, Packet, Pair, deviceOf, watched}
 use Rattle.model.specs.Monitors.{matches, strong}
-use Rattle.model.specs.Level.{level}
 use Rattle.model.specs.Events.{startEvent, stopEvent}
 use Rattle.model.specs.Watch.{withSilent, withKept, gathered, counts, refreshed, windowTakes, atPacket, packetMove, holds, begins}
 use Rattle.model.specs.Watch.{fits, goesFor, staysFor, startPair, startOf, stopOf, turn, turnAnswer, wants}
@@ -58,18 +57,18 @@ move-changed mons p q = go (find mons (q .handle))
 
 -- one handle's turn, by its octet: whether it starts a pair, the pairs after it, what it writes
 unfoldable pub starts : ℕ → ℕ → Packet → List Pair → Bool
-starts a h p qs = opens a && (not (holds qs h (deviceOf p)) && fits (level (p .rssi)) qs)
+starts a h p qs = opens a && (not (holds qs h (deviceOf p)) && fits (p .rssi) qs)
 
 unfoldable pub after : ℕ → ℕ → Packet → List Pair → List Pair
-after a h p qs = pick (starts a h p qs) (staysFor (level (p .rssi)) qs ++ (startPair h p ∷ [])) qs
+after a h p qs = pick (starts a h p qs) (staysFor (p .rssi) qs ++ (startPair h p ∷ [])) qs
 
 unfoldable pub told : List ℕ → ℕ → ℕ → Packet → List Pair → List ℕ
 told prefix a h p qs =
-    when (starts a h p qs) (each (stopEvent prefix) (goesFor (level (p .rssi)) qs) ++ startEvent prefix (startPair h p))
+    when (starts a h p qs) (each (stopEvent prefix) (goesFor (p .rssi) qs) ++ startEvent prefix (startPair h p))
 
 begins-starts : (m : Monitor) (p : Packet) (h : ℕ) (qs : List Pair) → begins m p h qs ≡ starts (markOf m p) h p qs
 unfolding begins starts
-begins-starts m p h qs = rw (mark-opens m p) (go (matches m p) (strong m p) (not (holds qs h (deviceOf p)) && fits (level (p .rssi)) qs))
+begins-starts m p h qs = rw (mark-opens m p) (go (matches m p) (strong m p) (not (holds qs h (deviceOf p)) && fits (p .rssi) qs))
   where
     go : (a b c : Bool) → (a && (b && c)) ≡ (a && b && c)
     go true b c = refl
@@ -80,7 +79,7 @@ unfolding mark starts opens after pick
 turn-after none p h qs = turn-none p h qs
 turn-after (some m) p h qs =
     turn-pick m p h qs
-    ∙ ap (λ (t : Bool). pick t (staysFor (level (p .rssi)) qs ++ (startPair h p ∷ [])) qs) (begins-starts m p h qs)
+    ∙ ap (λ (t : Bool). pick t (staysFor (p .rssi) qs ++ (startPair h p ∷ [])) qs) (begins-starts m p h qs)
 
 pub answer-told : (prefix : List ℕ) (o : Option Monitor) (p : Packet) (h : ℕ) (qs : List Pair)
     → turnAnswer prefix o p h qs ≡ told prefix (mark o p) h p qs
@@ -88,12 +87,12 @@ unfolding turnAnswer stopOf startOf mark told starts opens when each
 answer-told prefix none p h qs = refl
 answer-told prefix (some m) p h qs =
     go (begins m p h qs)
-    ∙ ap (λ (t : Bool). when t (each (stopEvent prefix) (goesFor (level (p .rssi)) qs) ++ startEvent prefix (startPair h p)))
+    ∙ ap (λ (t : Bool). when t (each (stopEvent prefix) (goesFor (p .rssi) qs) ++ startEvent prefix (startPair h p)))
     (begins-starts m p h qs)
   where
-    go : (t : Bool) → each (stopEvent prefix) (when t (goesFor (level (p .rssi)) qs)) ++ each (startEvent prefix) (when t (startPair h p ∷ []))
-        ≡ when t (each (stopEvent prefix) (goesFor (level (p .rssi)) qs) ++ startEvent prefix (startPair h p))
-    go true = ap (λ (l : List ℕ). each (stopEvent prefix) (goesFor (level (p .rssi)) qs) ++ l) (append-nil (startEvent prefix (startPair h p)))
+    go : (t : Bool) → each (stopEvent prefix) (when t (goesFor (p .rssi) qs)) ++ each (startEvent prefix) (when t (startPair h p ∷ []))
+        ≡ when t (each (stopEvent prefix) (goesFor (p .rssi) qs) ++ startEvent prefix (startPair h p))
+    go true = ap (λ (l : List ℕ). each (stopEvent prefix) (goesFor (p .rssi) qs) ++ l) (append-nil (startEvent prefix (startPair h p)))
     go false = refl
 
 -- a monitor that has the packet reported at once, by its octet

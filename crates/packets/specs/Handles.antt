@@ -13,7 +13,6 @@ use Rattle.laws.specs.Put.{put, put-nil}
 use Rattle.rule.specs.Base.{All, all-append}
 use Rattle.rule.specs.Engine.{find}
 use Rattle.model.specs.Types.{Model, Monitor, Packet, Pair, deviceOf, withLists}
-use Rattle.model.specs.Level.{level}
 use Rattle.model.specs.Watch.{holds, fits, staysFor, startPair, turn, turns, turnsAnswer}
 use Rattle.model.specs.Block.{padded}
 use Rattle.blocks.specs.Bounds.{Fits}
@@ -36,7 +35,7 @@ turns-fit mons p zero qs b t a h = (a, h)
 turns-fit mons p (suc n) qs b t a h = go (turns mons p n qs) (turns-fit mons p n qs (omega arith) t a h)
   where
     r : ℕ
-    r = level (p .rssi)
+    r = p .rssi
 
     go : (l : List Pair) → All Fits l × (length l ≤ mostPairs) → All Fits (turn (find mons n) p n l) × (length (turn
         (find mons n) p n l) ≤ mostPairs)

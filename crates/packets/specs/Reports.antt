@@ -16,7 +16,6 @@ use Rattle.laws.specs.Loops.{some as someOf, each, when}
 use Rattle.rule.specs.Engine.{find}
 use Rattle.rule.specs.Finds.{find-above}
 use Rattle.model.specs.Types.{Model, Monitor, Packet, Pair, deviceOf}
-use Rattle.model.specs.Level.{level}
 use Rattle.model.specs.Events.{event, startEvent, stopEvent}
 use Rattle.model.specs.Watch.{holds, packetMove, begins, goesFor, startPair, startOf, stopOf, turns, turnAnswer, turnsAnswer, startsBelow}
 use Rattle.model.specs.Watch.{wants, packetPairs, startsOf, reported}
@@ -129,10 +128,10 @@ unfolding turnAnswer stopOf startOf when each startEvent event Both
 turn-both prefix none p h qs = inl (refl, refl)
 turn-both prefix (some m) p h qs = go (begins m p h qs)
   where
-    go : (t : Bool) → Both (length (each (stopEvent prefix) (when t (goesFor (level (p .rssi)) qs)) ++ each (startEvent prefix) (when t (startPair h p ∷ []))))
+    go : (t : Bool) → Both (length (each (stopEvent prefix) (when t (goesFor (p .rssi) qs)) ++ each (startEvent prefix) (when t (startPair h p ∷ []))))
         (length (when t (startPair h p ∷ [])))
     go true =
-        let a : List ℕ = each (stopEvent prefix) (goesFor (level (p .rssi)) qs) in
+        let a : List ℕ = each (stopEvent prefix) (goesFor (p .rssi) qs) in
         inr (rw (length-append a (each (startEvent prefix) (startPair h p ∷ []))) (omega arith), omega arith)
     go false = inl (refl, refl)
 

@@ -1,6 +1,5 @@
--- The starts of a packet: the search for a pair among the rows, and one handle's turn.
--- Document 01, Watching, by history ("monitors take one packet in handle order, and a start takes its room at once").
--- Assumes nothing.
+-- The starts of a packet: the search for a pair among the rows, and one handle's turn. Document 01, Watching, by history
+-- ("monitors take one packet in handle order, and a start takes its room at once"). Assumes nothing.
 use Prim.Native.Nat.{ℕ, zero, suc, _+_, _-_, _*_, _/_, _%_, _≤_, _<_}
 use mathlib.Core.Path.{_≡_, refl, sym, ap, _∙_, subst}
 use mathlib.Core.Bool.{Bool, true, false, _&&_, not}
@@ -18,6 +17,7 @@ use Rattle.rule.specs.Base.{All, all-append}
 use Rattle.model.specs.Types.{Model, Packet, Pair, deviceOf, watched, withLists}
 use Rattle.model.specs.Watch.{isPair, holds, least, firstKeeping, without, hasRoom, fits, goesFor, staysFor, startPair}
 use Rattle.model.specs.Level.{level}
+use Rattle.model.specs.Levels.{below-levels}
 use Rattle.model.specs.Events.{event, startEvent, stopEvent}
 use Rattle.model.specs.Block.{padded}
 use Rattle.blocks.specs.Bounds.{Fits}
@@ -151,8 +151,8 @@ module _ (m : Model) (s : List ℕ) (n : ℕ) (p : Packet) (a h : ℕ) (w : Hold
   left-out : starts a h p (m .pairs) ≡ false → Told m a h p s n out at out 0
   unfolding after told withLists
   left-out e =
-      let g : m .pairs ≡ pick (starts a h p (m .pairs)) (staysFor (level (p .rssi)) (m .pairs) ++ (startPair h p ∷ [])) (m .pairs) =
-      sym (pick-false (staysFor (level (p .rssi)) (m .pairs) ++ (startPair h p ∷ [])) (m .pairs) e) in
+      let g : m .pairs ≡ pick (starts a h p (m .pairs)) (staysFor (p .rssi) (m .pairs) ++ (startPair h p ∷ [])) (m .pairs) =
+      sym (pick-false (staysFor (p .rssi) (m .pairs) ++ (startPair h p ∷ [])) (m .pairs) e) in
       record {
         turned = record { block = w .block ∙ same g; count = w .count ∙ ap length g };
         answer = wrote-is out at [] _ (sym (when-false _ e)) (record { octets = sym (put-nil out at); count = refl });
@@ -178,7 +178,8 @@ module _ (m : Model) (s : List ℕ) (n : ℕ) (p : Packet) (a h : ℕ) (w : Hold
       let y : level (p .rssi) ≤ levelIn (m .pairs) i = rw (← level-is m s n w i (x .0)) b in
       left-out (and-not-right (opens a) _ (and-not-right (not (holds (m .pairs) h (deviceOf p))) _
       (rw (le-ltb (length (m .pairs)) mostPairs (omega arith))
-      (le-ltb (least (level (p .rssi)) (m .pairs)) (level (p .rssi)) (least-none (m .pairs) i (x .0) (x .1) (level (p .rssi)) y)))))
+      (below-levels (least (p .rssi) (m .pairs)) (p .rssi)
+      ∙ le-ltb (level (least (p .rssi) (m .pairs))) (level (p .rssi)) (least-none (m .pairs) i (x .0) (x .1) (p .rssi) y)))))
 
 -- the pairs and the answer of a start, with room and without
 module _ (a h : ℕ) (p : Packet) (qs : List Pair) (y : starts a h p qs ≡ true) where
@@ -190,18 +191,18 @@ module _ (a h : ℕ) (p : Packet) (qs : List Pair) (y : starts a h p qs ≡ true
   unfolding told goesFor pick when each startEvent
   told-free prefix r = rw (y, r)
 
-  after-full : hasRoom qs ≡ false → without (least (level (p .rssi)) qs) qs ++ (startPair h p ∷ []) ≡ after a h p qs
+  after-full : hasRoom qs ≡ false → without (least (p .rssi) qs) qs ++ (startPair h p ∷ []) ≡ after a h p qs
   unfolding after staysFor pick
   after-full r = rw (y, r)
 
-  told-full : (prefix : List ℕ) (q : Pair) → hasRoom qs ≡ false → firstKeeping (least (level (p .rssi)) qs) qs ≡ q ∷ []
+  told-full : (prefix : List ℕ) (q : Pair) → hasRoom qs ≡ false → firstKeeping (least (p .rssi) qs) qs ≡ q ∷ []
       → event prefix q 0 ++ event prefix (startPair h p) 1 ≡ told prefix a h p qs
   unfolding told goesFor pick when each startEvent stopEvent
   told-full prefix q r g = rw (y, r, g) (ap (λ (l : List ℕ). l ++ event prefix (startPair h p) 1) (sym (append-nil (event prefix q 0))))
 
 -- a start
 module _ (m : Model) (s : List ℕ) (n : ℕ) (p : Packet) (a h key o : ℕ) (w : Holding m s n) (x : Asked m p a h key o) where
-  begun : fits (level (p .rssi)) (m .pairs) ≡ true → starts a h p (m .pairs) ≡ true
+  begun : fits (p .rssi) (m .pairs) ≡ true → starts a h p (m .pairs) ≡ true
   unfolding starts
   begun f = and-both (x .strong) (and-both (ap not (x .free)) f)
 
@@ -260,16 +261,14 @@ module _ (m : Model) (s : List ℕ) (n : ℕ) (p : Packet) (a h key o : ℕ) (w 
   start-full i {t} {out} {o1} {wrote} {at} {r1} {r2} full e b c f q k =
       let d = weakest-pair m s n w full i e in
       let l : length (m .pairs) ≡ mostPairs = full-pairs m s n w full in
-      let lv : ℕ = level (p .rssi) in
-      let ab : levelIn (m .pairs) i < lv = rw (← level-is m s n w i (d .0)) b in
+      let lo : ℕ = least (p .rssi) (m .pairs) in
+      let ab : levelIn (m .pairs) i < level (p .rssi) = rw (← level-is m s n w i (d .0)) b in
       let room : hasRoom (m .pairs) ≡ false = le-ltb (length (m .pairs)) mostPairs (omega arith) in
-      let li : least lv (m .pairs) ≡ levelIn (m .pairs) i = least-is (m .pairs) i (d .0) (d .1) lv ab in
-      let y : starts a h p (m .pairs) ≡ true = begun (rw (room, li) (lt-ltb (levelIn (m .pairs) i) lv ab)) in
+      let li : level lo ≡ levelIn (m .pairs) i = least-is (m .pairs) i (d .0) (d .1) (p .rssi) ab in
+      let y : starts a h p (m .pairs) ≡ true = begun (rw room (below-levels lo (p .rssi) ∙ lt-ltb (level lo) (level (p .rssi)) (omega arith))) in
       let rest : List Pair = take i (m .pairs) ++ drop (i + 1) (m .pairs) in
-      let st : without (least lv (m .pairs)) (m .pairs) ≡ rest =
-      ap (λ (j : ℕ). without j (m .pairs)) li ∙ stays-is (m .pairs) i (d .0) (d .1) in
-      let go : firstKeeping (least lv (m .pairs)) (m .pairs) ≡ getD (m .pairs) i noPair ∷ [] =
-      ap (λ (j : ℕ). firstKeeping j (m .pairs)) li ∙ goes-is (m .pairs) i (d .0) (d .1) in
+      let st : without lo (m .pairs) ≡ rest = stays-is (m .pairs) i (d .0) (d .1) lo li in
+      let go : firstKeeping lo (m .pairs) ≡ getD (m .pairs) i noPair ∷ [] = goes-is (m .pairs) i (d .0) (d .1) lo li in
       let lt : length (take i (m .pairs)) ≡ i = length-take-le i (m .pairs) (omega (arith, d .0)) in
       let ld : length (drop (i + 1) (m .pairs)) ≡ length (m .pairs) - (i + 1) = length-drop (i + 1) (m .pairs) in
       let lr : length rest ≡ mostPairs - 1 = length-append (take i (m .pairs)) (drop (i + 1) (m .pairs)) ∙ omega (arith, d .0) in
@@ -286,7 +285,7 @@ module _ (m : Model) (s : List ℕ) (n : ℕ) (p : Packet) (a h key o : ℕ) (w 
       let g : rest ++ (startPair h p ∷ []) ≡ after a h p (m .pairs) =
       ap (λ (v : List Pair). v ++ (startPair h p ∷ [])) (sym st) ∙ after-full a h p (m .pairs) y room in
       let ln : length (rest ++ (startPair h p ∷ [])) ≡ mostPairs = length-append rest (startPair h p ∷ []) ∙ omega arith in
-      let fit : All Fits rest = subst (All Fits) st (without-all Fits (least lv (m .pairs)) (m .pairs) (w .measured .fit)) in
+      let fit : All Fits rest = subst (All Fits) st (without-all Fits lo (m .pairs) (w .measured .fit)) in
       let v : Wrote out at (event (m .prefix) (getD (m .pairs) i noPair) 0) o1 r1 =
       f (record { measured = w .measured; block = w .block; within = d .0 }) in
       record {

@@ -6,13 +6,16 @@ use mathlib.Core.Bool.{Bool, true, false}
 use mathlib.Core.List.{List, [], _∷_, _++_}
 use native.Mathlib.Omega.{arith}
 use native.Mathlib.Numerals.{add-one}
-use lib.Dec.{ltb, eqb}
+use lib.Dec.{ltb}
 use lib.ListN.{length, take, drop, getD}
+use lib.Signed.{ltZ}
 use borrow.Author.Tests.{ltb-true, ltb-false, eq-eqb, ne-eqb}
 use Rattle.laws.specs.Tests.{pick, cases-le}
 use Rattle.model.specs.Types.{Pair}
-use Rattle.model.specs.Level.{level}
+use Rattle.model.specs.Level.{level, dBm}
+use Rattle.model.specs.Levels.{below-levels}
 use Rattle.model.specs.Watch.{smaller, least, firstKeeping, without}
+use Rattle.steps.specs.Drops.{keeps-level}
 use Rattle.packets.specs.Writes.{noPair}
 use Rattle.model.specs.Layout.{pairSize, pairsAt, rssiAt}
 
@@ -81,66 +84,67 @@ weakest-low s (suc n) = go (ltb (levelAt s (suc n)) (levelAt s (weakestBelow s (
 unfoldable pub levelIn : List Pair → ℕ → ℕ
 levelIn qs j = level (getD qs j noPair .kept)
 
-smaller-low : (k a b : ℕ) → k ≤ a → k ≤ b → k ≤ smaller a b
+smaller-low : (k a b : ℕ) → k ≤ level a → k ≤ level b → k ≤ level (smaller a b)
 unfolding smaller pick
-smaller-low k a b x y = go (ltb a b)
+smaller-low k a b x y = go (ltZ (dBm a) (dBm b))
   where
-    go : (t : Bool) → k ≤ pick t a b
+    go : (t : Bool) → k ≤ level (pick t a b)
     go true = x
     go false = y
 
-least-low : (k r : ℕ) (qs : List Pair) → k ≤ r → ((j : ℕ) → j < length qs → k ≤ levelIn qs j) → k ≤ least r qs
+least-low : (k r : ℕ) (qs : List Pair) → k ≤ level r → ((j : ℕ) → j < length qs → k ≤ levelIn qs j) → k ≤ level (least r qs)
 unfolding least levelIn
 least-low k r [] h f = h
 least-low k r (q ∷ qs) h f =
-    smaller-low k (level (q .kept)) (least r qs) (f 0 (omega arith)) (least-low k r qs h (λ j b. f (suc j) (omega arith)))
+    smaller-low k (q .kept) (least r qs) (f 0 (omega arith)) (least-low k r qs h (λ j b. f (suc j) (omega arith)))
 
-smaller-left : (a b : ℕ) → smaller a b ≤ a
+smaller-left : (a b : ℕ) → level (smaller a b) ≤ level a
 unfolding smaller pick
-smaller-left a b = go (ltb a b) refl
+smaller-left a b = rw (below-levels a b) (go (ltb (level a) (level b)) refl)
   where
-    go : (t : Bool) → ltb a b ≡ t → pick t a b ≤ a
+    go : (t : Bool) → ltb (level a) (level b) ≡ t → level (pick t a b) ≤ level a
     go true e = omega arith
-    go false e = ltb-false a b e
+    go false e = ltb-false (level a) (level b) e
 
-smaller-right : (a b : ℕ) → smaller a b ≤ b
+smaller-right : (a b : ℕ) → level (smaller a b) ≤ level b
 unfolding smaller pick
-smaller-right a b = go (ltb a b) refl
+smaller-right a b = rw (below-levels a b) (go (ltb (level a) (level b)) refl)
   where
-    go : (t : Bool) → ltb a b ≡ t → pick t a b ≤ b
-    go true e = let h : a < b = ltb-true a b e in omega arith
+    go : (t : Bool) → ltb (level a) (level b) ≡ t → level (pick t a b) ≤ level b
+    go true e = let h : level a < level b = ltb-true (level a) (level b) e in omega arith
     go false e = omega arith
 
-least-at : (r : ℕ) (qs : List Pair) (i : ℕ) → i < length qs → least r qs ≤ levelIn qs i
+least-at : (r : ℕ) (qs : List Pair) (i : ℕ) → i < length qs → level (least r qs) ≤ levelIn qs i
 unfolding least levelIn
 least-at r [] i h = absurd (omega arith)
-least-at r (q ∷ qs) zero h = smaller-left (level (q .kept)) (least r qs)
+least-at r (q ∷ qs) zero h = smaller-left (q .kept) (least r qs)
 least-at r (q ∷ qs) (suc i) h =
-    omega (arith, smaller-right (level (q .kept)) (least r qs), least-at r qs i (omega arith))
+    omega (arith, smaller-right (q .kept) (least r qs), least-at r qs i (omega arith))
 
 module _ (qs : List Pair) (i : ℕ) (b : i < length qs) (w : Weakest (levelIn qs) (length qs) i) where
-  -- the smallest level kept, where it is below r; and where none is
-  pub least-is : (r : ℕ) → levelIn qs i < r → least r qs ≡ levelIn qs i
+  -- the smallest level kept, where it is below r's; and where none is
+  pub least-is : (r : ℕ) → levelIn qs i < level r → level (least r qs) ≡ levelIn qs i
   least-is r h = omega (arith, least-at r qs i b, least-low (levelIn qs i) r qs (omega arith) (w .most))
 
-  pub least-none : (r : ℕ) → r ≤ levelIn qs i → r ≤ least r qs
-  least-none r h = least-low r r qs (omega arith) (λ j k. omega (arith, w .most j k))
+  pub least-none : (r : ℕ) → level r ≤ levelIn qs i → level r ≤ level (least r qs)
+  least-none r h = least-low (level r) r qs (omega arith) (λ j k. omega (arith, w .most j k))
 
--- the first that keeps a level goes, and the others stay
-first-at : (k : ℕ) (qs : List Pair) (i : ℕ) → i < length qs → levelIn qs i ≡ k → ((j : ℕ) → j < i → levelIn qs j ≡ k → ⊥)
+-- the first that keeps an RSSI goes, and the others stay
+first-at : (k : ℕ) (qs : List Pair) (i : ℕ) → i < length qs → levelIn qs i ≡ level k
+    → ((j : ℕ) → j < i → levelIn qs j ≡ level k → ⊥)
     → (firstKeeping k qs ≡ getD qs i noPair ∷ []) × (without k qs ≡ take i qs ++ drop (suc i) qs)
 unfolding firstKeeping without levelIn pick
 first-at k [] i h e n = absurd (omega arith)
-first-at k (q ∷ qs) zero h e n = rw (eq-eqb (level (q .kept)) k e) (refl, refl)
+first-at k (q ∷ qs) zero h e n = rw (keeps-level k q ∙ eq-eqb (level (q .kept)) (level k) e) (refl, refl)
 first-at k (q ∷ qs) (suc i) h e n =
     let r = first-at k qs i (omega arith) e (λ j b. n (suc j) (omega arith)) in
-    rw (ne-eqb (level (q .kept)) k (n 0 (omega arith))) (r .0, ap (λ (l : List Pair). q ∷ l) (r .1))
+    rw (keeps-level k q ∙ ne-eqb (level (q .kept)) (level k) (n 0 (omega arith))) (r .0, ap (λ (l : List Pair). q ∷ l) (r .1))
 
-module _ (qs : List Pair) (i : ℕ) (b : i < length qs) (w : Weakest (levelIn qs) (length qs) i) where
-  pub goes-is : firstKeeping (levelIn qs i) qs ≡ getD qs i noPair ∷ []
-  goes-is = first-at (levelIn qs i) qs i b refl (λ j h e. let l = w .first j h in omega arith) .0
+module _ (qs : List Pair) (i : ℕ) (b : i < length qs) (w : Weakest (levelIn qs) (length qs) i) (k : ℕ) (e : level k ≡ levelIn qs i) where
+  pub goes-is : firstKeeping k qs ≡ getD qs i noPair ∷ []
+  goes-is = first-at k qs i b (sym e) (λ j h f. let l = w .first j h in omega arith) .0
 
-  pub stays-is : without (levelIn qs i) qs ≡ take i qs ++ drop (i + 1) qs
+  pub stays-is : without k qs ≡ take i qs ++ drop (i + 1) qs
   stays-is =
-      first-at (levelIn qs i) qs i b refl (λ j h e. let l = w .first j h in omega arith) .1
-      ∙ ap (λ (k : ℕ). take i qs ++ drop k qs) (sym (add-one i))
+      first-at k qs i b (sym e) (λ j h f. let l = w .first j h in omega arith) .1
+      ∙ ap (λ (j : ℕ). take i qs ++ drop j qs) (sym (add-one i))

@@ -9,7 +9,8 @@ use lib.Seq.{length-take-le}
 use Rattle.laws.specs.Put.{put, put-then, put-push}
 use Rattle.octets.specs.Little.{little, octetsOf, length-octets, octets-mod}
 use Rattle.model.specs.Types.{Model, Packet}
-use Rattle.model.specs.Level.{extended, addRssi}
+use Rattle.model.specs.Level.{addRssi}
+use Rattle.model.specs.Levels.{extended, add-extended}
 use Rattle.model.specs.Frames.{packetOf}
 use Rattle.model.specs.Block.{padded}
 use Rattle.blocks.specs.Fields.{windowOf}
@@ -33,10 +34,10 @@ pub window-written : (s l : List ℕ) (at n : ℕ) {count sum x y u : ℕ} {a b 
     → c ≡ put (set (set (set b (at + 12) (getD l (length l - 1) 0)) (at + 13) (getD l 0 0)) (at + 14) (getD l 8 0)) (at + 15) adv
     → d ≡ put c (at + 15 + n) (replicate (mostData - n) 0)
     → d ≡ put s at (takenBy (packetOf l) s at)
-unfolding takenBy packetOf addRssi
+unfolding takenBy packetOf
 window-written s l at n {count} {sum} {x} {y} {u} {a} {b} {c} {d} {adv} h f en ec es ex eu ey ea eb ed e1 e2 =
     let c0 : ℕ = little 4 s at + 1 in
-    let s0 : ℕ = (little 8 s (at + 4) + extended (getD l (length l - 1) 0)) % 18446744073709551616 in
+    let s0 : ℕ = addRssi (little 8 s (at + 4)) (getD l (length l - 1) 0) in
     let xs : List ℕ = octetsOf 4 c0 in
     let ys : List ℕ = octetsOf 8 s0 in
     let k9 : length (drop 9 l) ≡ length l - 9 = length-drop 9 l in
@@ -49,7 +50,8 @@ window-written s l at n {count} {sum} {x} {y} {u} {a} {b} {c} {d} {adv} h f en e
     ap (octetsOf 4) (ex ∙ ap (λ (z : ℕ). (z + 1) % 4294967296) ec) ∙ octets-mod 4 c0 in
     let oy : y ≡ s0 =
     ey ∙ ap (λ (z : ℕ). (sum + z) % 18446744073709551616) eu
-    ∙ ap (λ (z : ℕ). (z + extended (getD l (length l - 1) 0)) % 18446744073709551616) es in
+    ∙ ap (λ (z : ℕ). (z + extended (getD l (length l - 1) 0)) % 18446744073709551616) es
+    ∙ sym (add-extended (little 8 s (at + 4)) (getD l (length l - 1) 0)) in
     let w1 : a ≡ put s at xs = ea ∙ ap (put s at) ox in
     let w2 : b ≡ put s at (xs ++ ys) =
     put-then s at xs (at + 4) ys (omega arith) w1 (omega arith) (eb

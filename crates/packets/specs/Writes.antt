@@ -22,6 +22,7 @@ use Rattle.blocks.specs.Block.{Measured, length-padded, row-pairs}
 use Rattle.blocks.specs.Ends.{change-pair}
 use Rattle.blocks.specs.Fields.{windowOf, length-window, put-silent, put-kept, put-gathered}
 use Rattle.steps.specs.Typed.{Sent}
+use Rattle.steps.specs.Sums.{sum-below}
 use Rattle.packets.specs.Keys.{deviceNumber, device-octets, device-seven, little-pairs}
 use Rattle.model.specs.Layout.{blockSize, mostMonitors, mostPairs, pairSize, pairsAt, rssiAt, windowSize}
 
@@ -123,7 +124,7 @@ fits-kept o q b f =
     }
 
 pub fits-gathered : (p : Packet) (q : Pair) → Sent p → Fits q → q .packets < 4294967295 → Fits (gathered p q)
-unfolding gathered addRssi
+unfolding gathered
 fits-gathered p q t f h =
     record {
       handle-most = f .handle-most;
@@ -133,7 +134,7 @@ fits-gathered p q t f h =
       silent-most = f .silent-most;
       ticks-most = f .ticks-most;
       packets-most = omega arith;
-      sum-most = native.Mathlib.Nat.mod-lt _ (omega arith);
+      sum-most = sum-below (q .sum) (p .rssi);
       kept-octet = t .rssi-octet;
       event-most = t .event-most;
       adv-most = t .adv-short;

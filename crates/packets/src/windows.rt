@@ -4,7 +4,7 @@ ghost use Prim.Native.Nat.{_+_, _/_, _≤_, _<_};
 ghost use mathlib.Core.Path.{_≡_};
 ghost use lib.ListN.{length};
 ghost use Rattle.laws.specs.Put.{put};
-ghost use Rattle.model.specs.Level.{extended};
+ghost use Rattle.model.specs.Levels.{extended};
 ghost use Rattle.model.specs.Frames.{packetOf};
 ghost use Rattle.marks.specs.Fields.{Framed};
 ghost use Rattle.packets.specs.Windows.{takenBy};

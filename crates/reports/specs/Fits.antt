@@ -10,9 +10,9 @@ use lib.ListN.{length, take, length-append}
 use Rattle.laws.specs.Tests.{pick, pick-true, pick-false}
 use Rattle.decimals.specs.Decimals.{decimal}
 use Rattle.decimals.specs.Writing.{digits-most}
-use Rattle.lines.specs.declared.Refusal.{Refusal}
+use Rattle.refusals.specs.declared.Refusal.{Refusal}
 use Rattle.lines.specs.Frame.{lineRoom}
-use Rattle.lines.specs.Numbers.{number}
+use Rattle.refusals.specs.Numbers.{number}
 use Rattle.turns.specs.Swap.{longLine}
 use Rattle.takeover.specs.declared.Next.{Next}
 use Rattle.takeover.specs.declared.Next.the-variants.{Stopped}

@@ -7,9 +7,9 @@ use lib.ListN.{length, take}
 use Rattle.laws.specs.Tests.{pick}
 use Rattle.octets.specs.Numbers.{numberAt}
 use Rattle.decimals.specs.Decimals.{decimal, top}
-use Rattle.lines.specs.declared.Refusal.{Refusal}
+use Rattle.refusals.specs.declared.Refusal.{Refusal}
 use Rattle.lines.specs.Frame.{lineRoom}
-use Rattle.lines.specs.Numbers.{number}
+use Rattle.refusals.specs.Numbers.{number}
 use Rattle.model.specs.Quoted.{codes}
 use Rattle.reader.specs.Pairs.{leading}
 use Rattle.turns.specs.Swap.{longLine}

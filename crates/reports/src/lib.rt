@@ -6,7 +6,7 @@ ghost use Rattle.reports.specs.Choices.{Loads};
 ghost use Rattle.reports.specs.Options.{plainAsked, optionOf, firstName, fitsOf, isDash as isDashOf, namesOf};
 ghost use Rattle.reports.specs.Texts.{told, stopOf, refusedOf, summaryOf, warningOf, progressOf};
 use engine::Restored;
-use lines::Refusal;
+use refusals::Refusal;
 use state::State;
 use takeover::Flow;
 use takeover::Next;
@@ -52,7 +52,7 @@ pub fn stop(flow: Flow, position: u32, text: &[u8]) -> Text
         Next::Ended => words::blank(),
         Next::Stopped(x) => messages::stopped(
             flow.lines,
-            lines::number_of(x),
+            refusals::number_of(x),
             position,
             messages::found_in(text),
         ),
@@ -63,7 +63,7 @@ pub fn stop(flow: Flow, position: u32, text: &[u8]) -> Text
 pub fn refused(x: Refusal) -> Text
     ensures { λ r. ⌜ told r ≡ refusedOf x ⌝ }
 {
-    let t = messages::refused(words::blank(), lines::number_of(x));
+    let t = messages::refused(words::blank(), refusals::number_of(x));
     words::with(t, b"\n")
 }
 

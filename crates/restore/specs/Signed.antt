@@ -6,9 +6,10 @@ use mathlib.Core.Path.{_≡_, refl}
 use mathlib.Core.Bool.{true}
 use mathlib.Core.List.{List, [], _∷_, map}
 use Prim.Native.String.{String}
+use lib.IntN.{pos, negℤ}
 use Rattle.laws.specs.Loops.{each}
 use Rattle.model.specs.Types.{Pair}
-use Rattle.model.specs.Level.{levels}
+use Rattle.model.specs.Level.{signed}
 use Rattle.model.specs.Image.{heldIn}
 use Rattle.model.specs.Quoted.{codes}
 use Rattle.restore.specs.Accept.{restores}
@@ -20,14 +21,14 @@ minusSixty =
     "A002000000001EFC024D53\n" ∷ "A100C4B00302040700060504030201\n" ∷
     "A3000006050403020100000101000000C4FFFFFFFFFFFFFFC40303020106\n" ∷ "AF0101\n" ∷ []
 
--- It is restored; its sum is −60 in two's complement, and 67 above −127.
+-- It is restored; its sum is −60, in two's complement.
 pub sum-signed : (restores (each codes minusSixty) blockSize ≡ true)
     × (map (λ (q : Pair). q .sum) (heldIn (each codes minusSixty) .pairs) ≡ 18446744073709551556 ∷ [])
-    × (map (λ (q : Pair). levels (q .sum) (q .packets)) (heldIn (each codes minusSixty) .pairs) ≡ 67 ∷ [])
+    × (map (λ (q : Pair). signed (q .sum)) (heldIn (each codes minusSixty) .pairs) ≡ negℤ (pos 60) ∷ [])
 unfolding restores minusSixty codes
     Rattle.model.specs.Types.ticksOf
     Rattle.model.specs.Types.device Rattle.model.specs.Types.watched
-    Rattle.model.specs.Level.level Rattle.model.specs.Level.inRange Rattle.model.specs.Level.levels
+    Rattle.model.specs.Level.level Rattle.model.specs.Level.dBm Rattle.model.specs.Level.raised Rattle.model.specs.Level.signed Rattle.model.specs.Level.wrapped Rattle.model.specs.Level.floorOf Rattle.model.specs.Level.inRange Rattle.model.specs.Level.sumInRange Rattle.model.specs.Level.addRssi Rattle.model.specs.Level.mean
     Rattle.model.specs.Monitors.ordered Rattle.model.specs.Monitors.settingsGood Rattle.model.specs.Monitors.conditionFault Rattle.model.specs.Monitors.faultOf Rattle.model.specs.Monitors.accepts
     Rattle.model.specs.Monitors.runOf Rattle.model.specs.Monitors.windowed
     Rattle.model.specs.Watch.isPair Rattle.model.specs.Watch.holds

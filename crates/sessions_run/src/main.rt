@@ -10,7 +10,7 @@ use engine::Loaded;
 use engine::Stop;
 use libc::STDIN_FILENO;
 use libc::STDOUT_FILENO;
-use lines::Wrote;
+use refusals::Wrote;
 use state::State;
 
 // The largest prime below 2^54: the digest is a polynomial's value modulo it.
@@ -67,7 +67,7 @@ fn broken() -> Tally {
 fn number_of(stop: Stop) -> u8 {
     match stop {
         Stop::End => 0,
-        Stop::Refused(x) => lines::number_of(x),
+        Stop::Refused(x) => refusals::number_of(x),
     }
 }
 
@@ -151,7 +151,7 @@ fn finish(block: &[u8; State::SIZE], t: Tally) {
                 show(digest(t.digest, &text[..n]), add(t.count, n), t.number);
             }
         }
-        Wrote::Refused(x) => show(0, 0, lines::number_of(x)),
+        Wrote::Refused(x) => show(0, 0, refusals::number_of(x)),
     }
 }
 
@@ -169,7 +169,7 @@ fn session(image: &[u8], journal: &[u8]) {
     match answer {
         Loaded::Accepted => follow(state, journal),
         Loaded::Rejected(x) => {
-            io::print_decimal(STDOUT_FILENO, lines::number_of(x) as u64);
+            io::print_decimal(STDOUT_FILENO, refusals::number_of(x) as u64);
             io::write_all(STDOUT_FILENO, b"\n");
         }
     }

@@ -1,6 +1,6 @@
 -- What the functions over rows and monitors owe, as laws over plain values: their returns and the turns of their
 -- loops. Assumes nothing.
-use Prim.Native.Nat.{ℕ, _+_, _-_, _*_, _≤_, _<_}
+use Prim.Native.Nat.{ℕ, _+_, _-_, _*_, _%_, _≤_, _<_}
 use mathlib.Core.Path.{_≡_, refl, sym, ap, _∙_}
 use mathlib.Core.Bool.{Bool, true, false, _&&_, not}
 use mathlib.Core.List.{List}
@@ -9,14 +9,15 @@ use lib.Dec.{leb, ltb, eqb}
 use lib.ListN.{length, take, drop, getD, length-take, length-drop}
 use lib.Seq.{take-all, getD-take, drop-drop, take-add, drop-at, length-take-le}
 use borrow.Author.Tests.{le-leb, lt-leb, eq-eqb, ne-eqb, not-true, not-false}
-use Rattle.laws.specs.Tests.{pick, pick-true, pick-false, and-not-left, and-not-right}
+use Rattle.laws.specs.Tests.{pick, pick-true, pick-false, and-both, and-not-left, and-not-right, cases-le}
 use Rattle.laws.specs.Loops.{every}
 use Rattle.laws.specs.Rows.{row}
 use Rattle.octets.specs.Little.{little, little-take}
 use Rattle.octets.specs.Numbers.{numberAt, number-of}
 use Rattle.parts.specs.Parts.{isZero}
 use Rattle.model.specs.Types.{ticksOf}
-use Rattle.model.specs.Level.{levels, inRange}
+use Rattle.model.specs.Level.{raised, inRange, sumInRange}
+use Rattle.model.specs.Levels.{sum-levels}
 use Rattle.model.specs.Image.{monitorIn}
 use Rattle.model.specs.Monitors.{accepts, settingsGood}
 use Rattle.advert.specs.Condition.{formOf, formStatus}
@@ -38,17 +39,37 @@ part-of a e l h k =
     ∙ ap (λ x. drop a x) (sym (take-add a (e - a) l))
     ∙ ap (λ (j : ℕ). drop a (take j l)) v
 
--- the sum of levels, where the sum is not below 0 and where it is
-pub levels-up : (sum packets : ℕ) → sum ≤ 18446744073709551615 - 127 * packets → packets < 4294967296
-    → sum + 127 * packets ≡ levels sum packets
-unfolding levels
-levels-up sum packets h b = omega arith
+-- how far a sum stands above −127 × packets, where the sum is not below 0 and where it is; the sum is in range where that
+-- is at most 147 × packets
+unfoldable pub sumAbove : ℕ → ℕ → ℕ
+sumAbove sum packets = (sum + 127 * packets) % 18446744073709551616
 
-pub levels-down : (sum packets : ℕ) → 18446744073709551615 - 127 * packets < sum → sum < 18446744073709551616
+pub above-up : (sum packets : ℕ) → sum ≤ 18446744073709551615 - 127 * packets → packets < 4294967296
+    → sum + 127 * packets ≡ sumAbove sum packets
+unfolding sumAbove
+above-up sum packets h b = omega arith
+
+pub above-down : (sum packets : ℕ) → 18446744073709551615 - 127 * packets < sum → sum < 18446744073709551616
     → packets < 4294967296
-    → sum - (18446744073709551615 - 127 * packets) - 1 ≡ levels sum packets
-unfolding levels
-levels-down sum packets h a b = omega arith
+    → sum - (18446744073709551615 - 127 * packets) - 1 ≡ sumAbove sum packets
+unfolding sumAbove
+above-down sum packets h a b = omega arith
+
+above-range : (sum packets : ℕ) → sum < 18446744073709551616 → packets < 4294967296
+    → leb (sumAbove sum packets) (147 * packets) ≡ sumInRange sum packets
+unfolding sumAbove raised
+above-range sum packets h b =
+    let r : ℕ = (sum + 9223372036854775808) % 18446744073709551616 in
+    let a : ℕ = (sum + 127 * packets) % 18446744073709551616 in
+    let low : Bool = leb 9223372036854775808 (r + 127 * packets) in
+    let most : Bool = leb r (20 * packets + 9223372036854775808) in
+    cases-le a (147 * packets)
+    (λ i. le-leb a (147 * packets) i ∙ sym (sum-levels sum packets
+    ∙ and-both (le-leb 9223372036854775808 (r + 127 * packets) (omega arith)) (le-leb r (20 * packets + 9223372036854775808) (omega arith))))
+    (λ i. lt-leb a (147 * packets) i ∙ sym (sum-levels sum packets
+    ∙ cases-le 9223372036854775808 (r + 127 * packets)
+    (λ j. and-not-right low most (lt-leb r (20 * packets + 9223372036854775808) (omega arith)))
+    (λ j. and-not-left low most (lt-leb 9223372036854775808 (r + 127 * packets) j))))
 
 -- a monitor that passes
 pub row-accepts : (r : List ℕ) (n : ℕ) {b g : Bool} → length r ≡ monitorSize → n ≡ getD r conditionLengthAt 0 → n ≤ mostCondition
@@ -149,11 +170,12 @@ module _ (s : List ℕ) (l : length s ≡ blockSize) where
 
 -- a window that runs, and one that does not
 module _ (position sampling ticks packets sum : ℕ) where
-  pub window-runs : {l : ℕ} → (leb 1 sampling && leb sampling 254) ≡ true → l ≡ levels sum packets
+  pub window-runs : {l : ℕ} → sum < 18446744073709551616 → packets < 4294967296 → (leb 1 sampling && leb sampling 254) ≡ true
+      → l ≡ sumAbove sum packets
       → (ltb ticks sampling && leb packets position && leb l
       (147 * packets)) ≡ windowTest position sampling ticks packets sum
   unfolding windowTest pick
-  window-runs e q = rw (e, q)
+  window-runs h b e q = rw (e, q, above-range sum packets h b)
 
   pub window-idle : (leb 1 sampling && leb sampling 254) ≡ false
       → (eqb ticks 0 && eqb packets 0) ≡ windowTest position sampling ticks packets sum

@@ -1,6 +1,6 @@
 -- The tests of rows by their numbers, as the functions compute them, and that they are the clauses. Document 01, The
 -- image ("Sound") and Commands (03). Assumes nothing.
-use Prim.Native.Nat.{ℕ, _+_, _-_, _*_, _≤_, _<_}
+use Prim.Native.Nat.{ℕ, _+_, _-_, _≤_, _<_}
 use mathlib.Core.Path.{_≡_, refl, ap, _∙_}
 use mathlib.Core.Bool.{Bool, true, false, _&&_, _||_}
 use mathlib.Core.List.{List}
@@ -16,7 +16,7 @@ use Rattle.octets.specs.Little.{little, isOctet}
 use Rattle.parts.specs.Parts.{isZero}
 use Rattle.advert.specs.Condition.{formOf, formStatus}
 use Rattle.model.specs.Types.{Monitor, Pair, ticksOf}
-use Rattle.model.specs.Level.{levels, inRange}
+use Rattle.model.specs.Level.{inRange, sumInRange}
 use Rattle.model.specs.Monitors.{settingsGood, conditionFault, faultOf, accepts, runOf, windowed, invalid}
 use Rattle.model.specs.Image.{pairIn}
 use Rattle.model.specs.Sound.{octetsUpTo, soundWindow, soundEmpty, soundFields, soundOf}
@@ -29,7 +29,7 @@ use Rattle.model.specs.Layout.{kindAt, addressAt, dataAt, eventAt, lengthAt, mo
 unfoldable pub windowTest : ℕ → ℕ → ℕ → ℕ → ℕ → Bool
 windowTest position sampling ticks packets sum =
     pick (leb 1 sampling && leb sampling 254)
-    (ltb ticks sampling && leb packets position && leb (levels sum packets) (147 * packets))
+    (ltb ticks sampling && leb packets position && sumInRange sum packets)
     (eqb ticks 0 && eqb packets 0)
 
 -- "with packets 0 the sum, event type and n are 0"
@@ -67,7 +67,7 @@ window-tests position m q h =
     rw (lt-ltb (q .sum) 18446744073709551616 h)
     (ap (λ (t : Bool). pick (leb 1 (m .sampling) && leb (m .sampling) 254) t (eqb (q .ticks) 0 && eqb (q .packets) 0))
     (go (ltb (q .ticks) (m .sampling)) (leb (q .packets) position)
-    (leb (levels (q .sum) (q .packets)) (147 * q .packets))))
+    (sumInRange (q .sum) (q .packets))))
   where
     go : (a b c : Bool) → (a && b && true && c) ≡ (a && b && c)
     go false b c = refl

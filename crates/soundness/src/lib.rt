@@ -6,19 +6,19 @@ use state::Ticks;
 ghost use Prim.Native.Nat.{_≤_, _<_};
 ghost use mathlib.Core.Path.{_≡_};
 ghost use lib.ListN.{length, take, getD};
-ghost use Rattle.model.specs.Level.{level, levels};
 ghost use Rattle.model.specs.Image.{monitorIn};
 ghost use Rattle.model.specs.Monitors.{accepts};
 ghost use Rattle.model.specs.Block.{sound};
 ghost use Rattle.soundness.specs.Below.{allBelow};
 ghost use Rattle.soundness.specs.Clauses.{headTest, heldTest, monitorTest, placeTest, otherTest, heldPairTest};
 ghost use Rattle.soundness.specs.Clauses.{monitorsTest, pairsTest};
+ghost use Rattle.soundness.specs.Code.{sumAbove};
 ghost use Rattle.soundness.specs.Fields.{windowTest, emptyTest, fieldsTest};
 ghost use Rattle.model.specs.Layout.{blockSize, conditionLengthAt, countAt, headSize, monitorSize, mostCondition, mostPairs, pairSize};
 
-// The sum of the levels of so many packets, from the sum of their RSSI in two's complement.
-fn levels_of(sum: u64, packets: u32) -> u64
-    ensures { λ r. ⌜ r ≡ levels sum packets ⌝ }
+// How far a window's sum, in two's complement, stands above −127 for each of its packets.
+fn sum_above(sum: u64, packets: u32) -> u64
+    ensures { λ r. ⌜ r ≡ sumAbove sum packets ⌝ }
 {
     let n = packets as u64;
     let a = 127 * n;
@@ -110,8 +110,8 @@ fn window_sound(position: u32, sampling: u8, ticks: u8, packets: u32, sum: u64) 
     let runs = (1 <= sampling) & (sampling <= 254);
     if runs {
         let n = packets as u64;
-        let l = levels_of(sum, packets);
-        return (ticks < sampling) & (packets <= position) & (l <= 147 * n);
+        let above = sum_above(sum, packets);
+        return (ticks < sampling) & (packets <= position) & (above <= 147 * n);
     }
     (ticks == 0) & (packets == 0)
 }

@@ -6,7 +6,7 @@
 ghost use Prim.Native.Nat.{_≤_};
 ghost use mathlib.Core.Path.{_≡_};
 ghost use lib.ListN.{length};
-use lines::Wrote;
+use refusals::Wrote;
 use state::State;
 
 // The parts written over the block.

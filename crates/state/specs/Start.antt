@@ -15,7 +15,7 @@ use Rattle.laws.specs.Put.{put, putIf, put-of, put-then}
 use Rattle.laws.specs.Loops.{every}
 use Rattle.laws.specs.Rows.{put-whole}
 use Rattle.octets.specs.Little.{octetsOf, isOctet, length-octets}
-use Rattle.lines.specs.declared.Refusal.the-variants.{BadSettings}
+use Rattle.refusals.specs.declared.Refusal.the-variants.{BadSettings}
 use Rattle.model.specs.Types.{fresh, blank, withLists}
 use Rattle.model.specs.Sound.{octetsUpTo, soundSettings}
 use Rattle.model.specs.Image.{headRow}

@@ -1,6 +1,6 @@
 // The state: a block of octets whose rows are the image's before hexadecimal (document 01, Sizes of the gateway, The
 // image), its limits and offsets, how one is begun, and the two units of time.
-use lines::Refusal;
+use refusals::Refusal;
 ghost use Prim.Native.Nat.{_≤_, _<_};
 ghost use mathlib.Core.Path.{_≡_};
 ghost use lib.Dec.{ltb};
@@ -38,19 +38,20 @@ impl Ticks {
     }
 }
 
-// The level of an RSSI octet: 0 for −127 dBm, 147 for 20 dBm; levels are ordered as dBm are.
+// The level of an RSSI octet: 0 for −128 dBm, 255 for 127 dBm. Levels are ordered as dBm are (model, Levels).
 pub fn level_of(rssi: u8) -> u8
     ensures { λ r. ⌜ r ≡ level rssi ⌝ }
 {
     let n = rssi as u16;
-    ((n + 127) % 256) as u8
+    ((n + 128) % 256) as u8
 }
 
 // Whether an RSSI octet stands for −127 to 20 dBm.
 pub fn in_range(rssi: u8) -> bool
     ensures { λ r. ⌜ r ≡ inRange rssi ⌝ }
 {
-    level_of(rssi) <= State::MOST_LEVEL
+    let level = level_of(rssi);
+    (State::LEAST_LEVEL <= level) & (level <= State::MOST_LEVEL)
 }
 
 // The position one frame further. A block of under 4 octets is left as it is; behind the last number comes 0.
@@ -127,8 +128,10 @@ impl State {
     pub const MOST_DATA: u8 = State::DATA as u8;
 
     pub const MOST_PREFIX: u8 = State::PREFIX as u8;
-    // The greatest level of an RSSI in range: 20 dBm.
-    pub const MOST_LEVEL: u8 = 147;
+    // The least and the greatest level of an RSSI in range: −127 and 20 dBm.
+    pub const LEAST_LEVEL: u8 = 1;
+
+    pub const MOST_LEVEL: u8 = 148;
     // The least vendor opcode; the greatest is 0xFFFF.
     pub const LEAST_OPCODE: u16 = 0xFC00;
     // The last frame number.

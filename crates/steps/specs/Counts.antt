@@ -31,10 +31,10 @@ unfolding lastNumber
 count-fits m s h =
     all-weaken (λ q. q .packets ≤ m .position) (λ q. q .packets + 1 < 4294967296) (λ q n. omega arith) (m .pairs) (window-count m s)
 
--- and the levels of so many packets, 0 to 147 each, add up to what 8 octets hold without a carry
+-- and the RSSI of so many packets, −127 to 20 each, add up to what 8 octets hold
 pub sum-fits : (m : Model) → soundModel m ≡ true → m .position < lastNumber
-    → All (λ q. 147 * (q .packets + 1) < 9223372036854775808) (m .pairs)
+    → All (λ q. 127 * (q .packets + 1) < 9223372036854775808) (m .pairs)
 unfolding lastNumber
 sum-fits m s h =
-    all-weaken (λ q. q .packets + 1 < 4294967296) (λ q. 147 * (q .packets + 1) < 9223372036854775808) (λ q n. omega arith) (m .pairs)
+    all-weaken (λ q. q .packets + 1 < 4294967296) (λ q. 127 * (q .packets + 1) < 9223372036854775808) (λ q n. omega arith) (m .pairs)
     (count-fits m s h)

@@ -1,6 +1,6 @@
 -- What a sound state keeps to: the tests of `soundModel`, taken apart into records and put together again. Document
 -- 01, The image ("Sound: ..") and Sizes of the gateway. Assumes nothing.
-use Prim.Native.Nat.{ℕ, _*_, _≤_, _<_}
+use Prim.Native.Nat.{ℕ, _≤_, _<_}
 use native.Mathlib.Omega.{arith}
 use mathlib.Core.Path.{_≡_, refl, sym, _∙_}
 use mathlib.Core.Bool.{Bool, true, false, _&&_, _||_}
@@ -12,7 +12,8 @@ use Rattle.laws.specs.Tests.{and-left, and-right, and-both, pick-true, pick-fal
 use Rattle.laws.specs.Loops.{every}
 use Rattle.octets.specs.Little.{isOctet}
 use Rattle.model.specs.Types.{Monitor, Pair}
-use Rattle.model.specs.Level.{levels, inRange}
+use Rattle.model.specs.Level.{inRange, sumInRange}
+use Rattle.model.specs.Levels.{Summed, summed-of, summed-holds}
 use Rattle.model.specs.Monitors.{accepts, windowed}
 use Rattle.model.specs.Sound.{octetsUpTo, soundSettings, soundMonitor, soundWindow, soundEmpty, soundFields}
 use Rattle.model.specs.Layout.{mostData, mostPrefix}
@@ -139,7 +140,7 @@ pub record Gathers (position : ℕ) (m : Monitor) (q : Pair) : Type 0 where
   pub ticks-below : q .ticks < m .sampling
   pub packets-most : q .packets ≤ position
   pub sum-below : q .sum < 18446744073709551616
-  pub levels-most : levels (q .sum) (q .packets) ≤ 147 * q .packets
+  pub summed : Summed (q .sum) (q .packets)
 
 -- "with other sampling window ticks and packets 0"
 pub record Shut (q : Pair) : Type 0 where
@@ -153,13 +154,13 @@ module _ (position : ℕ) (m : Monitor) (q : Pair) where
       let t : Bool = ltb (q .ticks) (m .sampling) in
       let k : Bool = leb (q .packets) position in
       let s : Bool = ltb (q .sum) 18446744073709551616 in
-      let v : Bool = leb (levels (q .sum) (q .packets)) (147 * q .packets) in
+      let v : Bool = sumInRange (q .sum) (q .packets) in
       let r = and-four t k s v (sym (pick-true (t && k && s && v) (eqb (q .ticks) 0 && eqb (q .packets) 0) w) ∙ e) in
       record {
         ticks-below = ltb-true (q .ticks) (m .sampling) (r .0);
         packets-most = leb-true (q .packets) position (r .1);
         sum-below = ltb-true (q .sum) 18446744073709551616 (r .2);
-        levels-most = leb-true (levels (q .sum) (q .packets)) (147 * q .packets) (r .3);
+        summed = summed-of (q .sum) (q .packets) (r .3);
       }
 
   pub gathers-hold : windowed m ≡ true → Gathers position m q → soundWindow position m q ≡ true
@@ -169,7 +170,7 @@ module _ (position : ℕ) (m : Monitor) (q : Pair) where
       ∙ and-both (and-both (and-both
       (lt-ltb (q .ticks) (m .sampling) (g .ticks-below)) (le-leb (q .packets) position (g .packets-most)))
       (lt-ltb (q .sum) 18446744073709551616 (g .sum-below)))
-      (le-leb (levels (q .sum) (q .packets)) (147 * q .packets) (g .levels-most))
+      (summed-holds (q .sum) (q .packets) (g .summed))
 
   pub shut-of : windowed m ≡ false → soundWindow position m q ≡ true → Shut q
   unfolding soundWindow

@@ -17,6 +17,5 @@ pub mod Sizes
 pub mod Named
 pub mod Answers
 pub mod Given
-pub mod Signed
 pub mod Mean
 pub mod Stepped

@@ -13,7 +13,6 @@ use Rattle.laws.specs.Loops.{every-nil}
 use Rattle.rule.specs.Base.{none≢some}
 use Rattle.rule.specs.Engine.{find}
 use Rattle.model.specs.Types.{Monitor, Packet, Pair, watched}
-use Rattle.model.specs.Level.{level, levels, addRssi}
 use Rattle.model.specs.Monitors.{good, windowed, runOf}
 use Rattle.model.specs.Watch.{withSilent, withKept, gathered, withTicks, emptied, counts, refreshed, windowTakes, atPacket}
 use Rattle.model.specs.Watch.{packetMove, goesOn, closes, windowTick, atTick, startPair}
@@ -23,7 +22,7 @@ use Rattle.steps.specs.Facts.{Fields, fields-of, fields-hold, Gathers, g
 use Rattle.steps.specs.Facts.{shut-holds, empty-holds}
 use Rattle.steps.specs.Whole.{key, Kept}
 use Rattle.steps.specs.Typed.{pick-both, Sent}
-use Rattle.steps.specs.Sums.{level-most, levels-add, sum-below, levels-none}
+use Rattle.steps.specs.Sums.{summed-add, summed-none, sum-below}
 
 -- by a test's two values
 pub by-test : {P : Type 0} (t : Bool) → (t ≡ true → P) → (t ≡ false → P) → P
@@ -100,7 +99,7 @@ module _ (m : Monitor) where
             ticks-below = g .ticks-below;
             packets-most = omega (arith, h, g .packets-most);
             sum-below = g .sum-below;
-            levels-most = g .levels-most;
+            summed = g .summed;
           })
 
       shut : windowed m ≡ false → soundWindow k m q ≡ true
@@ -141,10 +140,6 @@ module _ (m : Monitor) where
       let g : Gathers k m q = gathers-of k m q w (s .window) in
       let f : Fields q = fields-of q (s .fields) in
       let few : q .packets < 4294967295 = omega (arith, h, g .packets-most) in
-      let add : levels (addRssi (q .sum) (p .rssi)) (q .packets + 1) ≡ levels (q .sum) (q .packets) + level
-      (p .rssi) =
-      levels-add (q .sum) (q .packets) (p .rssi) (t .rssi-octet) (t .rssi-in) few (g .levels-most) in
-      let one : level (p .rssi) ≤ 147 = level-most (p .rssi) (t .rssi-in) in
       let fs : Fields (gathered p q) =
       record {
         kind-most = f .kind-most;
@@ -161,7 +156,7 @@ module _ (m : Monitor) where
         ticks-below = g .ticks-below;
         packets-most = omega (arith, g .packets-most);
         sum-below = sum-below (q .sum) (p .rssi);
-        levels-most = omega (arith, add, one, g .levels-most);
+        summed = summed-add (q .sum) (q .packets) (p .rssi) few (t .rssi-in) (g .summed);
       } in
       record {
         fields = fields-hold (gathered p q) fs;
@@ -209,7 +204,7 @@ module _ (m : Monitor) where
         ticks-below = omega (arith, g .ticks-below);
         packets-most = omega arith;
         sum-below = omega arith;
-        levels-most = rw levels-none (omega arith);
+        summed = summed-none;
       } in
       record {
         fields = fields-hold (emptied q) fs;
@@ -227,7 +222,7 @@ module _ (m : Monitor) where
         ticks-below = h;
         packets-most = g .packets-most;
         sum-below = g .sum-below;
-        levels-most = g .levels-most;
+        summed = g .summed;
       } in
       record {
         fields = s .fields;
@@ -290,5 +285,5 @@ module _ (m : Monitor) where
             ticks-below = sampled w;
             packets-most = omega arith;
             sum-below = omega arith;
-            levels-most = rw levels-none (omega arith);
+            summed = summed-none;
           })

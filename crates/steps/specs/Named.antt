@@ -15,7 +15,6 @@ use Rattle.rule.specs.Base.{All, all-append}
 use Rattle.rule.specs.Engine.{find}
 use Rattle.rule.specs.Finds.{find-all}
 use Rattle.model.specs.Types.{Model, Monitor, Packet, Pair}
-use Rattle.model.specs.Level.{level}
 use Rattle.model.specs.Events.{startEvent, stopEvent}
 use Rattle.model.specs.Watch.{withSilent, withKept, gathered, counts, refreshed, windowTakes, atPacket, packetMove, begins, startPair}
 use Rattle.model.specs.Watch.{goesFor, staysFor, startOf, stopOf, turn, turns, turnAnswer, turnsAnswer}
@@ -81,7 +80,7 @@ unfolding turn
 turn-named none p h qs t b a = a
 turn-named (some m) p h qs t b a =
     pick-both (All Named) (begins m p h qs) _ qs
-    (λ e. all-append Named (staysFor (level (p .rssi)) qs) (startPair h p ∷ []) (stays-all Named (level (p .rssi)) qs a)
+    (λ e. all-append Named (staysFor (p .rssi) qs) (startPair h p ∷ []) (stays-all Named (p .rssi) qs a)
     (start-named p h t b, tt))
     (λ e. a)
 
@@ -99,8 +98,8 @@ unfolding stopOf when
 stop-named none p h qs a = (omega arith, tt)
 stop-named (some m) p h qs a = go (begins m p h qs)
   where
-    go : (t : Bool) → (length (when t (goesFor (level (p .rssi)) qs)) ≤ 1) × All Named (when t (goesFor (level (p .rssi)) qs))
-    go true = (goes-few (level (p .rssi)) qs, goes-all Named (level (p .rssi)) qs a)
+    go : (t : Bool) → (length (when t (goesFor (p .rssi) qs)) ≤ 1) × All Named (when t (goesFor (p .rssi) qs))
+    go true = (goes-few (p .rssi) qs, goes-all Named (p .rssi) qs a)
     go false = (omega arith, tt)
 
 pub starts-named : (o : Option Monitor) (p : Packet) (h : ℕ) (qs : List Pair) → Sent p → h < mostMonitors

@@ -1,8 +1,7 @@
 -- How long each part of an answer is, and that it is octets. Document 01, Sizes of the gateway ("answer 2,880"),
 -- Commands, Watching, by history (Event, Report). Assumes nothing.
-use Prim.Native.Nat.{ℕ, _+_, _*_, _/_, _≤_, _<_}
+use Prim.Native.Nat.{ℕ, _+_, _*_, _≤_, _<_}
 use native.Mathlib.Omega.{arith}
-use native.Mathlib.Nat.{mod-lt}
 use mathlib.Core.Path.{_≡_, refl}
 use mathlib.Core.Bool.{Bool, true, not, _&&_}
 use mathlib.Core.Option.{Option, none, some}
@@ -16,7 +15,8 @@ use Rattle.octets.specs.Little.{octetsOf, isOctet, length-octets, octets-octets
 use Rattle.rule.specs.Engine.{slot}
 use Rattle.rule.specs.Finds.{slot-some, Lowest}
 use Rattle.model.specs.Types.{Model, Monitor, Packet, Pair, scanText}
-use Rattle.model.specs.Level.{mean, levels, inRange}
+use Rattle.model.specs.Level.{signed, floorOf, mean, inRange}
+use Rattle.model.specs.Levels.{wrapped-below}
 use Rattle.advert.specs.Condition.{formOf, formStatus}
 use Rattle.advert.specs.Laws.{status-below}
 use Rattle.model.specs.Monitors.{settingsGood, conditionFault, faultOf, monitorOf}
@@ -175,4 +175,4 @@ unfolding windowReport mean
 window-report-short q f =
     report-short (q .event) (q .kind) (q .address) (q .adv) _ (omega (arith, f .event-most)) (f .kind-most) (f .address-six)
     (f .address-octets) (f .adv-short) (f .adv-octets)
-    (mod-lt (levels (q .sum) (q .packets) / q .packets + 129) (omega arith))
+    (wrapped-below 256 (floorOf (signed (q .sum)) (q .packets)) (omega arith))

@@ -14,7 +14,6 @@ use Rattle.rule.specs.Base.{All, all-append}
 use Rattle.rule.specs.Engine.{find}
 use Rattle.model.specs.Types.{Model, Monitor, Packet, Pair}
 use Rattle.model.specs.Watch.{packetMove, begins, staysFor, startPair, startOf, turn, turns, startsBelow, startsOf}
-use Rattle.model.specs.Level.{level}
 use Rattle.steps.specs.Lists.{all-weaken}
 use Rattle.model.specs.Layout.{mostMonitors}
 
@@ -30,7 +29,7 @@ unfolding turn
 turn-none p h qs = refl
 
 pub turn-pick : (m : Monitor) (p : Packet) (h : ℕ) (qs : List Pair)
-    → turn (some m) p h qs ≡ pick (begins m p h qs) (staysFor (level (p .rssi)) qs ++ (startPair h p ∷ [])) qs
+    → turn (some m) p h qs ≡ pick (begins m p h qs) (staysFor (p .rssi) qs ++ (startPair h p ∷ [])) qs
 unfolding turn
 turn-pick m p h qs = refl
 

@@ -14,7 +14,6 @@ use Rattle.rule.specs.Base.{each-distinct, distinct-snoc, map-append, some-inj}
 use Rattle.rule.specs.Engine.{find}
 use Rattle.rule.specs.Finds.{find-all}
 use Rattle.model.specs.Types.{Model, Monitor, Packet, Pair, deviceOf, watched}
-use Rattle.model.specs.Level.{level}
 use Rattle.model.specs.Accepted.{accepts-run}
 use Rattle.model.specs.Monitors.{runOf, matches, strong}
 use Rattle.model.specs.Watch.{atPacket, packetMove, atTick, holds, fits, staysFor, begins, startPair, turn, turns, packetPairs}
@@ -98,13 +97,13 @@ held-packet k mons p q s t h w =
 -- What a start tells: the pair is not held, and there is room, or a pair that goes.
 pub record Begins (p : Packet) (h : ℕ) (qs : List Pair) : Type 0 where
   pub new : In (key (startPair h p)) (map key qs) → ⊥
-  pub fit : fits (level (p .rssi)) qs ≡ true
+  pub fit : fits (p .rssi) qs ≡ true
 
 pub begins-tells : (m : Monitor) (p : Packet) (h : ℕ) (qs : List Pair) → begins m p h qs ≡ true → Begins p h qs
 unfolding begins startPair watched deviceOf
 begins-tells m p h qs e =
     let d : List ℕ = deviceOf p in
-    let f : Bool = fits (level (p .rssi)) qs in
+    let f : Bool = fits (p .rssi) qs in
     let a = and-right (matches m p) (strong m p && (not (holds qs h d) && f)) e in
     let b = and-right (strong m p) (not (holds qs h d) && f) a in
     let free : holds qs h d ≡ false = not-true (holds qs h d) (and-left (not (holds qs h d)) f b) in
@@ -117,18 +116,18 @@ unfolding startPair
 turn-pairs k mons p h qs s t w = go (find mons h) refl
   where
     l : List Pair
-    l = staysFor (level (p .rssi)) qs
+    l = staysFor (p .rssi) qs
 
     started : (n : Monitor) → find mons h ≡ some n → Begins p h qs → Pairs k mons (l ++ (startPair h p ∷ []))
     started n e b =
         let new : Held k mons (startPair h p) =
         record { mon = n; live = e; kept = kept-start n k h p (live-run mons h n s e) t } in
         record {
-          room = rw (length-append l (startPair h p ∷ [])) (omega (arith, stays-fewer (level (p .rssi)) qs (w .room) (b .fit)));
+          room = rw (length-append l (startPair h p ∷ [])) (omega (arith, stays-fewer (p .rssi) qs (w .room) (b .fit)));
           once = rw (map-append key l (startPair h p ∷ []))
-              (distinct-snoc (map key l) (key (startPair h p)) (stays-once (level (p .rssi)) qs (w .once))
-              (λ i. b .new (stays-in (level (p .rssi)) qs (key (startPair h p)) i)));
-          held = all-append (Held k mons) l (startPair h p ∷ []) (stays-all (Held k mons) (level (p .rssi)) qs (w .held)) (new, tt);
+              (distinct-snoc (map key l) (key (startPair h p)) (stays-once (p .rssi) qs (w .once))
+              (λ i. b .new (stays-in (p .rssi) qs (key (startPair h p)) i)));
+          held = all-append (Held k mons) l (startPair h p ∷ []) (stays-all (Held k mons) (p .rssi) qs (w .held)) (new, tt);
         }
 
     go : (o : Option Monitor) → find mons h ≡ o → Pairs k mons (turn o p h qs)

@@ -1,6 +1,6 @@
 -- Laws of the functions on one row: each ends in what a function owes. Document 01, Watching, by history (Tick).
 -- Assumes nothing.
-use Prim.Native.Nat.{ℕ, _+_, _-_, _*_, _/_, _%_, _^_, _≤_, _<_}
+use Prim.Native.Nat.{ℕ, _+_, _-_, _≤_, _<_}
 use mathlib.Core.Path.{_≡_, refl, sym, ap, _∙_}
 use mathlib.Core.Bool.{Bool, true, false, _&&_, not}
 use mathlib.Core.List.{List, [], _∷_, _++_, append-nil, append-assoc}
@@ -16,7 +16,7 @@ use Rattle.laws.specs.Tests.{and-not-left, and-not-right, pick, pick-false, and
 use Rattle.laws.specs.Loops.{when, length-when}
 use Rattle.octets.specs.Little.{little, octetsOf, length-octets}
 use Rattle.octets.specs.Numbers.{numberAt, number-of}
-use Rattle.model.specs.Level.{mean, levels}
+use Rattle.model.specs.Level.{mean}
 use Rattle.events.specs.Octets.{eventOctets, reportOctets, eventFits, reportFits, length-event, length-report}
 use Rattle.ticks.specs.Emptied.{length-emptied}
 use Rattle.ticks.specs.Row.{emptiedRow, windowedBy, closesAt, goesOn, onward, tickedRow, keptRow, reportRow, saysRow}
@@ -49,12 +49,6 @@ unfolding put
 mid-put a e xs ys h l q =
     rw (q, ← l) (ap (λ (x : List ℕ). take a xs ++ (ys ++ x)) (lib.Seq.drop-drop (length ys) a xs)
     ∙ sym (append-assoc (take a xs) ys (drop (a + length ys) xs)))
-
--- the mean's octet
-pub mean-octet : (sum packets : ℕ) {l : ℕ} → l ≡ (sum + 127 * packets) % 2 ^ 64
-    → (l / packets % 256 + 129) % 256 ≡ mean sum packets
-unfolding mean levels
-mean-octet sum packets e = rw e (omega arith)
 
 -- rows keep their length
 pub length-onward : (r : List ℕ) → length r ≡ pairSize → length (onward r) ≡ pairSize

@@ -1,6 +1,8 @@
 // A tick (document 01, Watching, by history): one pass over the pairs held, in place. For each pair in start order: the ticks since a
 // good packet, the end of a watch with its stop event, the closing of a window with its report. Pairs that stay move down over those
 // that end, and the rows behind them are cleared.
+mod tells;
+
 use state::Seconds;
 use state::State;
 use state::Ticks;
@@ -10,19 +12,15 @@ ghost use mathlib.Core.Bool.{true, not};
 ghost use lib.ListN.{length, take, getD};
 ghost use lib.Dec.{ltb};
 ghost use Rattle.laws.specs.Put.{put};
-ghost use Rattle.laws.specs.Loops.{when};
 ghost use Rattle.laws.specs.Rows.{row};
 ghost use Rattle.octets.specs.Little.{little};
-ghost use Rattle.model.specs.Level.{mean};
 ghost use Rattle.model.specs.Frames.{tick as aTick};
 ghost use Rattle.steps.specs.Stepped.{Steps, Within, Taken};
-ghost use Rattle.events.specs.Octets.{eventOctets};
-ghost use Rattle.ticks.specs.Row.{emptiedRow, windowedBy, closesAt, tickedRow, reportRow, saysRow, toldOn, keptAt, toldAt};
-ghost use Rattle.ticks.specs.Written.{Appended};
+ghost use Rattle.ticks.specs.Row.{emptiedRow, tickedRow, keptAt, toldAt};
 ghost use Rattle.ticks.specs.Table.{Turned, Passed, Cleared, columnOf};
 ghost use Rattle.model.specs.Layout.{reportMost};
 ghost use Rattle.sessions.specs.Machine.{answerRoom};
-ghost use Rattle.model.specs.Layout.{blockSize, headSize, lengthAt, monitorSize, mostData, mostMonitors, mostPairs, mostPrefix, packetsAt, pairSize, pairsSize, positionAt, silentAt};
+ghost use Rattle.model.specs.Layout.{blockSize, headSize, monitorSize, mostMonitors, mostPairs, mostPrefix, pairSize, pairsSize, silentAt};
 
 // Whether a watch goes on: a tick more since a good packet is not yet the whole run.
 fn stays(silent: Ticks, run: Ticks) -> bool
@@ -32,86 +30,6 @@ fn stays(silent: Ticks, run: Ticks) -> bool
         return silent.0 + 1 < run.0;
     }
     false
-}
-
-// Whether a sampling period has windows: from 0x01 to 0xFE.
-fn windowed(period: u8) -> bool
-    ensures { λ r. ⌜ r ≡ windowedBy period ⌝ }
-{
-    (1 <= period) & (period <= 254)
-}
-
-// Whether one tick more closes the window.
-fn closes(period: u8, ticks: u8) -> bool
-    ensures { λ r. ⌜ r ≡ closesAt period ticks ⌝ }
-{
-    let some = windowed(period);
-    if ticks < period {
-        return some & (period <= ticks + 1);
-    }
-    some
-}
-
-// The mean RSSI of a window's packets: the greatest whole number not above sum / packets, as an octet.
-fn mean_of(sum: u64, packets: u64) -> u8
-    requires { ⌜ (1 ≤ packets) × (packets < 4294967296) ⌝ }
-    ensures { λ r. ⌜ r ≡ mean sum packets ⌝ }
-{
-    let levels = std::num::wrapping_add_u64(sum, 127 * packets);
-    let level = levels / packets;
-    ((level % 256 + 129) % 256) as u8
-}
-
-// Whether a pair that stays reports its window. Most ticks close none, so that is asked first.
-fn says(r: &[u8], on: bool, period: u8, filter: u8) -> bool
-    requires { ⌜ length (now r) ≡ pairSize ⌝ }
-    ensures { λ b. ⌜ b ≡ saysRow on period filter (now (r .entry)) ⌝ }
-{
-    if !closes(period, r[State::TICKS_AT]) {
-        return false;
-    }
-    let packets = octets::get32(r, State::PACKETS_AT);
-    on & ((filter == 1) & ((1 <= packets) & (r[State::LENGTH_AT] <= State::MOST_DATA)))
-}
-
-// Appends the report of a window.
-fn put_window(r: &[u8], out: &mut [u8], at: usize) -> usize
-    requires { ⌜ (length (now r) ≡ pairSize) × (1 ≤ little 4 (now r) packetsAt) × (getD (now r) lengthAt 0 ≤ mostData) × (at + reportMost ≤ length (now out)) ⌝ }
-    ensures { λ n. ⌜ Appended (now (out .entry)) (now (out .exit)) at n (reportRow (now (r .entry))) ⌝ }
-{
-    let packets = octets::get32(r, State::PACKETS_AT) as u64;
-    let rssi = mean_of(octets::get64(r, State::SUM_AT), packets);
-    let end = State::DATA_AT + r[State::LENGTH_AT] as usize;
-    events::put_report(
-        out,
-        at,
-        r[State::EVENT_AT],
-        &r[State::KIND_AT..State::SILENT_AT],
-        &r[State::DATA_AT..end],
-        rssi,
-    )
-}
-
-// Appends the report of a window where there is one.
-fn tell_window(r: &[u8], out: &mut [u8], at: usize, on: bool, period: u8, filter: u8) -> usize
-    requires { ⌜ (length (now r) ≡ pairSize) × (at + reportMost ≤ length (now out)) ⌝ }
-    ensures { λ n. ⌜ Appended (now (out .entry)) (now (out .exit)) at n (when (saysRow on period filter (now (r .entry))) (reportRow (now (r .entry)))) ⌝ }
-{
-    if says(r, on, period, filter) {
-        return put_window(r, out, at);
-    }
-    0
-}
-
-// Appends the stop event of a watch that ends.
-fn tell_stop(r: &[u8], out: &mut [u8], at: usize, on: bool, prefix: &[u8]) -> usize
-    requires { ⌜ (length (now r) ≡ pairSize) × (length (now prefix) ≤ mostPrefix) × (at + length (when (not on) (eventOctets (now prefix) (now r) 0)) ≤ length (now out)) ⌝ }
-    ensures { λ n. ⌜ Appended (now (out .entry)) (now (out .exit)) at n (when (not on) (eventOctets (now (prefix .entry)) (now (r .entry)) 0)) ⌝ }
-{
-    if on {
-        return 0;
-    }
-    events::put_event(out, at, prefix, r, 0)
 }
 
 // Empties the window of a row: its ticks, packets and sum, and the latest packet. The kept RSSI between them stays.
@@ -131,32 +49,14 @@ fn advance(r: &mut [u8], period: u8)
     let silent = octets::get16(r, State::SILENT_AT);
     let ticks = r[State::TICKS_AT];
     octets::put16(r, State::SILENT_AT, silent + 1);
-    if !windowed(period) {
+    if !tells::windowed(period) {
         return;
     }
-    if closes(period, ticks) {
+    if tells::closes(period, ticks) {
         empty_window(r);
         return;
     }
     r[State::TICKS_AT] = ticks + 1;
-}
-
-// Appends what a tick writes for a row: the report of its window, or the stop event of its watch, or nothing.
-fn tell(
-    r: &[u8],
-    out: &mut [u8],
-    at: usize,
-    on: bool,
-    period: u8,
-    filter: u8,
-    prefix: &[u8],
-) -> usize
-    requires { ⌜ (length (now r) ≡ pairSize) × (length (now prefix) ≤ mostPrefix) × (at + reportMost ≤ length (now out)) ⌝ }
-    ensures { λ n. ⌜ Appended (now (out .entry)) (now (out .exit)) at n (toldOn on period filter (now (prefix .entry)) (now (r .entry))) ⌝ }
-{
-    let report = tell_window(r, out, at, on, period, filter);
-    let stop = tell_stop(r, out, at + report, on, prefix);
-    report + stop
 }
 
 // Moves a row down.
@@ -224,7 +124,7 @@ fn tick_row(
     let period = octet_at(periods, handle);
     let silent = Ticks(octets::get16(t, start + State::SILENT_AT));
     let on = stays(silent, run);
-    let wrote = at + tell(&t[start..end], out, at, on, period, filter, prefix);
+    let wrote = at + tells::tell(&t[start..end], out, at, on, period, filter, prefix);
     if on {
         keep_row(t, kept, i, period);
         let next = kept + 1;

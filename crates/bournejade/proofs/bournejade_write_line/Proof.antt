@@ -2,7 +2,7 @@ use Rattle.lines.specs.Hex.{textOf}
 use mathlib.Core.Path.{_≡_, refl, sym, ap, _∙_}
 use Rattle.bournejade.specs.Gives.{numberIn, countIn}
 use Rattle.lines.specs.Answers.{afterWrite}
-use Rattle.lines.specs.declared.Wrote.{Wrote}
+use Rattle.refusals.specs.declared.Wrote.{Wrote}
 use borrow.Author.Needs.{needs}
 use Rattle.bournejade.proofs.bournejade_write_line.Statement.{statement}
 use Rattle.bournejade.proofs.bournejade_write_line.Tie as tie

@@ -4,7 +4,7 @@ use Rattle.bournejade.proofs.start_number.Statement.{statement}
 use Rattle.bournejade.proofs.start_number.Tie as tie
 use Rattle.bournejade.proofs.start_number.Reads as reads
 use Rattle.bournejade.proofs.start_number.Lts as lts
-use Rattle.lines.proofs.number_of.Reads as number-of-reads
+use Rattle.refusals.proofs.number_of.Reads as number-of-reads
 
 -- src/lib.rt:58:25
 enum-told : tie.Need-enum-told

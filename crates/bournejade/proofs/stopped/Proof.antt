@@ -4,7 +4,7 @@ use Rattle.bournejade.proofs.stopped.Statement.{statement}
 use Rattle.bournejade.proofs.stopped.Tie as tie
 use Rattle.bournejade.proofs.stopped.Reads as reads
 use Rattle.bournejade.proofs.stopped.Lts as lts
-use Rattle.lines.proofs.number_of.Reads as number-of-reads
+use Rattle.refusals.proofs.number_of.Reads as number-of-reads
 
 -- src/lib.rt:48:22
 enum-told : tie.Need-enum-told

@@ -5,7 +5,7 @@ use Rattle.bournejade.proofs.told.Statement.{statement}
 use Rattle.bournejade.proofs.told.Tie as tie
 use Rattle.bournejade.proofs.told.Reads as reads
 use Rattle.bournejade.proofs.told.Lts as lts
-use Rattle.lines.proofs.number_of.Reads as number-of-reads
+use Rattle.refusals.proofs.number_of.Reads as number-of-reads
 
 -- src/lib.rt:32:21
 enum-known-r : tie.Need-enum-known-r

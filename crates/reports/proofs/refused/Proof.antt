@@ -8,7 +8,7 @@ use Rattle.reports.proofs.refused.Statement.{statement}
 use Rattle.reports.proofs.refused.Tie as tie
 use Rattle.reports.proofs.refused.Reads as reads
 use Rattle.reports.proofs.refused.Lts as lts
-use Rattle.lines.proofs.number_of.Reads as number-of-reads
+use Rattle.refusals.proofs.number_of.Reads as number-of-reads
 use Rattle.reports.proofs.messages.refused.Reads as refused-reads
 use Rattle.reports.proofs.words.blank.Reads as blank-reads
 use Rattle.reports.proofs.words.with.Reads as with-reads

@@ -8,7 +8,7 @@ use Rattle.reports.proofs.stop.Statement.{statement}
 use Rattle.reports.proofs.stop.Tie as tie
 use Rattle.reports.proofs.stop.Reads as reads
 use Rattle.reports.proofs.stop.Lts as lts
-use Rattle.lines.proofs.number_of.Reads as number-of-reads
+use Rattle.refusals.proofs.number_of.Reads as number-of-reads
 use Rattle.reports.proofs.messages.found_in.Reads as found-in-reads
 use Rattle.reports.proofs.messages.stopped.Reads as stopped-reads
 use Rattle.reports.proofs.words.blank.Reads as blank-reads

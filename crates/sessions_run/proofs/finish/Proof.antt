@@ -6,7 +6,7 @@ use Rattle.sessions_run.proofs.finish.Tie as tie
 use Rattle.sessions_run.proofs.finish.Reads as reads
 use Rattle.sessions_run.proofs.finish.Lts as lts
 use Rattle.engine.proofs.save.Reads as save-reads
-use Rattle.lines.proofs.number_of.Reads as number-of-reads
+use Rattle.refusals.proofs.number_of.Reads as number-of-reads
 use Rattle.sessions_run.proofs.add.Reads as add-reads
 use Rattle.sessions_run.proofs.digest.Reads as digest-reads
 use Rattle.sessions_run.proofs.show.Reads as show-reads

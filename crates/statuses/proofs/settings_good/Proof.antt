@@ -1,3 +1,4 @@
+use Rattle.model.specs.Levels.{most-levels}
 use Rattle.model.specs.Monitors.{settingsGood, ordered}
 use borrow.Author.Needs.{needs}
 use Rattle.statuses.proofs.settings_good.Statement.{statement}
@@ -23,6 +24,7 @@ returns c = rw (
   c .before
       .level-of .ensures,
   c .level-of2 .ensures,
+  most-levels (c .before .before .before .before .args .low) (c .before .before .before .before .args .high),
 )
 
 pub settings-good-spec : {M : Type 1} → statement M

@@ -15,8 +15,8 @@ use Rattle.ticks.proofs.advance.Lts as lts
 use Rattle.octets.proofs.get16.Reads as get16-reads
 use Rattle.octets.proofs.put16.Reads as put16-reads
 use Rattle.ticks.proofs.empty_window.Reads as empty-window-reads
-use Rattle.ticks.proofs.closes.Reads as closes-reads
-use Rattle.ticks.proofs.windowed.Reads as windowed-reads
+use Rattle.ticks.proofs.tells.closes.Reads as closes-reads
+use Rattle.ticks.proofs.tells.windowed.Reads as windowed-reads
 use Rattle.model.specs.Layout.{silentAt, ticksAt}
 
 -- src/lib.rt:104:9

@@ -10,7 +10,7 @@ use Rattle.octets.proofs.get16.Reads as get16-reads
 use Rattle.ticks.proofs.keep_row.Reads as keep-row-reads
 use Rattle.ticks.proofs.octet_at.Reads as octet-at-reads
 use Rattle.ticks.proofs.stays.Reads as stays-reads
-use Rattle.ticks.proofs.tell.Reads as tell-reads
+use Rattle.ticks.proofs.tells.tell.Reads as tell-reads
 use Rattle.state.proofs.Seconds.ticks.Reads as ticks-reads
 use Rattle.model.specs.Layout.{pairSize}
 
