@@ -12,7 +12,7 @@
  *  - a buffer that a call may write overlaps no other buffer of that call;
  *  - a state is used by one call at a time. Different states may be used by different threads at once.
  *
- * A state is a block of 4,825 octets of the caller's, lent to each call and changed in place. It has no pointers and no
+ * A state is a block of 5,225 octets of the caller's, lent to each call and changed in place. It has no pointers and no
  * padding: it may be copied by memcpy and compared by memcmp, and two states are equal exactly when all their octets
  * are. Any octets in it are met: a block that is not a sound state is refused by 7.
  *
@@ -23,8 +23,8 @@
  * examples/gateway does it, docs/FORMATS.md has the formats octet by octet.
  *
  * What a call needs. Octets of stack, measured over journals (reference/stack): write_line none, save 144, submit
- * 2,056, submit_line 2,600, replay and replay_to 2,712, begin 4,872, restore 14,960. No memory beside that and the
- * caller's buffers: a state of 4,825 octets, outputs of 2,880, 9,898 and 527. The code is 25 KB and reentrant. By the
+ * 2,064, submit_line 2,608, replay and replay_to 2,720, begin 4,808, restore 14,768. No memory beside that and the
+ * caller's buffers: a state of 5,225 octets, outputs of 2,880, 10,698 and 527. The code is 25 KB and reentrant. By the
  * System V calling convention it uses the general registers and those of SSE2 (xmm0 to xmm15), no x87, MMX or AVX: a
  * kernel or an interrupt handler saves these first. Every call's work is bounded, that of the replays by the length
  * of the journal. Its time may depend on all that it is given: where a monitor's condition is a key (type 3), tables
@@ -51,9 +51,9 @@ extern "C" {
 
 /* Octets of a state, and the octets that an output must have, whatever is written: of a frame's answer, of an image,
  * of a line. An output that is shorter is refused by 3. */
-#define BOURNEJADE_STATE_SIZE 4825
+#define BOURNEJADE_STATE_SIZE 5225
 #define BOURNEJADE_ANSWER_SIZE 2880
-#define BOURNEJADE_IMAGE_SIZE 9898
+#define BOURNEJADE_IMAGE_SIZE 10698
 #define BOURNEJADE_LINE_SIZE 527
 
 /* The most octets of a frame (kind, number, payload) and of an event prefix. */

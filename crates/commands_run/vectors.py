@@ -51,6 +51,10 @@ def poke(at, row):
     return "01" + at.to_bytes(2, "little").hex().upper() + row.hex().upper() + "\n"
 
 
+# Places in the block (docs/DESIGN.md): a monitor's row, what version 2 adds in it, a pair's row, the number of pairs.
+ROWS, ROW, ADDED, PAIRS, PAIR, COUNT = 40, 96, 71, 1576, 57, 5224
+
+
 def session(image, commands):
     """The program's lines: an empty block, the rows of the image, the commands, the image."""
     lines, pairs = ["00\n"], 0
@@ -58,13 +62,16 @@ def session(image, commands):
         row = octets(text)[1:]
         if text.startswith("A0"):
             lines.append(poke(0, row))
-        elif text.startswith("A1"):
-            lines.append(poke(40 + 71 * row[0], row))
+        elif text.startswith(("A1", "A5")):
+            end = 7 + row[6]
+            lines.append(poke(ROWS + ROW * row[0], row[:end]))
+            if row[end:]:
+                lines.append(poke(ROWS + ROW * row[0] + ADDED, row[end:]))
         elif text.startswith("A3"):
-            lines.append(poke(1176 + 57 * pairs, row))
+            lines.append(poke(PAIRS + PAIR * pairs, row))
             pairs += 1
         else:
-            lines.append(poke(4824, row[1:]))
+            lines.append(poke(COUNT, row[1:]))
     lines += ["02" + params.hex().upper() + "\n" for params in commands]
     return "".join(lines + ["03\n"])
 
@@ -79,6 +86,24 @@ def pattern(size):
 
 
 ADD = "03" + GOOD + ADDRESS
+NAMED = "010103090041"
+PEER, KEY = "060504030201", "9B" * 16
+
+
+def second(options="20", reports="02", settings=GOOD, peer_type="00", key="00" * 16, condition=NAMED):
+    """Version 2 of the monitor command (document 02, T-13)."""
+    return "0F" + settings + options + reports + PEER + peer_type + key + condition
+
+
+# Both sides of what the tables of 0F forbid, each condition with its type.
+SECONDS = [second(options) for options in "00 40 80 C0 01 04 05 10 15 20 E0 02 08 0A 22 3F".split()]
+SECONDS += [second(options, key=KEY) for options in "00 40 02 08 0A 22 3F".split()]
+SECONDS += [second("02", key="00" * 15 + "01"), second("08", key="01" + "00" * 15)]
+SECONDS += [second(options, key=KEY, condition=condition) for condition in ("03" + KEY, ADDRESS, "02011810")
+            for options in "01 02 04 08 0F 10 20 30 F0".split()]
+SECONDS += [second(reports=reports, settings="C4B003" + sampling) for reports in "00 01 02 03 04 08 FE FF".split()
+            for sampling in ("00", "01", "FE", "FF")]
+SECONDS += [second(options, peer_type=kind) for options in ("20", "01") for kind in ("00", "01", "02", "FF")]
 
 THRESHOLDS = (
     "8081 8180 8181 8281 1413 1414 1514 1415 1314 7F00 007F 00FF FF00 1481 1581 1480"
@@ -92,7 +117,7 @@ CONDITIONS += ["000605040302", "0006050403020100"]
 
 def edges():
     """Sessions of commands, from document 01, Commands, with the edge on both sides."""
-    yield b"", ["00", "0000", "01", "0102", "02", "06", "0F", "0F00", "FF", "80AABB"]
+    yield b"", ["00", "0000", "01", "0102", "02", "06", "0E", "0E00", "10", "FF", "80AABB"]
     yield bytes(range(1, 33)), ["00", "000000"]
     # lengths of 03, 04 and 05
     yield b"MS", ["03", "03C4", "03C4B0", "03C4B003", "03C4B00300", "03C4B0030004", ADD]
@@ -121,6 +146,16 @@ def edges():
     # keys of none, 15, 16 and 17 octets; of zeros; twice the same; with 16 monitors live a key of 15 is 0x12 still, one of 16 is 0x07
     yield b"MS", ["03" + GOOD + "03" + "9B" * size for size in (0, 1, 15, 16, 17, 64, 65)] + ["03" + GOOD + "03" + "00" * 16] * 2
     yield b"MS", ["03" + GOOD + "03" + "9B" * 16] * 17 + ["03" + GOOD + "03" + "9B" * size for size in (0, 15, 17, 65)]
+    # 0F: its lengths, 03's checks, what its tables forbid, each cancelled at once so that there is room; with 16 monitors live
+    yield b"MS", ["0F", second()[:12], second(condition=""), second(condition="01"), second(), "0400", second(condition="0101")]
+    for settings in ("15B00300", "C4800300", "C4C50300", "C4C40300", "C4B00000", "C4B03C00", "C4B03D00"):
+        yield b"MS", [second(settings=settings)]
+    yield b"MS", [second(condition=kind + "0103090041") for kind in ("00", "01", "02", "03", "04", "05")]
+    yield b"MS", [second(condition=pattern(size)) for size in (64, 65, 224)] + [second("40", condition=pattern(65))]
+    for start in range(0, len(SECONDS), 16):
+        yield b"MS", [command for each in SECONDS[start:start + 16] for command in (each, "0400")]
+    yield b"MS", [ADD, second()] * 8 + SECONDS[::3] + ["0403", second("E1", "F7", peer_type="01", key=KEY), "0404", ADD, "0403"]
+    yield b"MS", [second("FF", "FF", key=KEY), second(), second("10", "00"), "0401", second("01", "03"), ADD]
     # the order of 03's statuses: a threshold, the order, the interval, the type come before a key's length
     yield b"MS", ["0315B0030003", "03C4B0000003", "03B0C4030003", "0315B0000005", "03C4B0003D0400", "0315"]
 
@@ -164,7 +199,7 @@ def with_pairs(count):
         images.sort(key=len)
         step = max(1, len(images) // count)
         for image in images[::step][:count] + images[-1:]:
-            live = [line[2:4] for line in image.split() if line.startswith("A1")]
+            live = [line[2:4] for line in image.split() if line.startswith(("A1", "A5"))]
             yield image, [octets("04" + handle) for handle in live[1::2]]
             yield image, [octets("04" + handle) for handle in reversed(live)] + [octets("03" + GOOD + ADDRESS)]
 
@@ -172,8 +207,8 @@ def with_pairs(count):
 def main():
     given, told = [], []
     plans = [(fresh(prefix), [octets(c) for c in commands]) for prefix, commands in edges()]
-    plans += [(fresh(prefix), commands) for prefix, commands in made_up(260)]
-    plans += list(with_pairs(5))
+    plans += [(fresh(prefix), commands) for prefix, commands in made_up(220)]
+    plans += list(with_pairs(4))
     for image, commands in plans:
         answers = replayed(image, commands)
         if answers.strip() == "10":

@@ -80,11 +80,17 @@ fn main() {
     let window = b"A003000000011EFC024D53\nA100C4B00302040700060504030201\nA10FC4B03CFE0203011218\n\
         A3000006050403020101000102000000C4FFFFFFFFFFFFFFC40302AABB\nAF0201\n"
         .to_vec();
+    // Version 2 (document 02, T-13): an A5 line among A1 lines, and the packet that its pair keeps.
+    let second = b"A004000000011EFC024D53\nA100C4B00300040700060504030201\n\
+        A502C4B0030001050103090041E1F30605040302010109090909090909090909090909090909\n\
+        A10FC4B03CFE0203011218\nA30200060504030201000000000000000000000000000000C40303020941\nAF0301\n"
+        .to_vec();
     let largest = image::text(&states::largest(&mut Random::new(1)));
     let mut rows: Vec<(u8, Vec<u8>)> = vec![(b'S', fresh), (b'S', session.clone()), (b'S', window.clone())];
+    rows.push((b'S', second.clone()));
     rows.push((b'L', largest.clone()));
     rows.push((b'T', [&largest[..], b"\n"].concat()));
-    for text in [&session, &window] {
+    for text in [&session, &window, &second] {
         rows.extend(arranged(text).into_iter().map(|t| (b'T', t)));
     }
     let mut index = 0;

@@ -46,6 +46,13 @@ def monitor(handle=0, high=-60, low=-80, interval=60, sampling=4, condition=of_d
     return line(bytes([0xA1, handle, high & 255, low & 255, interval, sampling, condition[0], length]) + octets)
 
 
+def second(options=0x20, reports=2, peer_type=0, irk=bytes(16), sampling=0, condition=NAMED, handle=0):
+    """An A5 line."""
+    octets = condition[1:]
+    head_of = bytes([0xA5, handle, -60 & 255, -80 & 255, 60, sampling, condition[0], len(octets)])
+    return line(head_of + octets + bytes([options, reports]) + address(1) + bytes([peer_type]) + irk)
+
+
 def pair(handle=0, kind=0, device=1, silent=0, ticks=0, packets=0, total=0, event=0, data=b"", length=None, kept=-60):
     """An A3 line. A length that is given stands for that of the data."""
     length = len(data) if length is None else length
@@ -59,10 +66,10 @@ def end(monitors=1, pairs=1):
 
 
 def longest_image():
-    """The image of 9,898 characters."""
+    """The image of 10,698 characters."""
     condition = bytes([1, 1, 62, 9, 0]) + b"A" * 60
     text = head(prefix=bytes(range(32)))
-    text += "".join(monitor(handle, condition=condition) for handle in range(16))
+    text += "".join(second(condition=condition, sampling=4, handle=handle) for handle in range(16))
     for i in range(64):
         text += pair(i % 16, device=i // 16, ticks=3, packets=1, total=-50, data=long_data(i))
     return text + end(16, 64)
@@ -115,6 +122,25 @@ IMAGES = (
     ("kept RSSI -128", head() + monitor() + pair(kept=-128) + end(), False),
     ("kept RSSI 21", head() + monitor() + pair(kept=21) + end(), False),
     ("an A2 line", head() + monitor() + line(b"\xA2\x00\x00" + address(1) + bytes(17)) + end(), False),
+    ("version 2", head() + second() + pair() + end(), True),
+    ("version 2 between others", head() + monitor() + second(handle=4) + monitor(9) + pair(4) + end(3, 1), True),
+    ("version 2 out of order", head() + second(handle=4) + monitor() + end(2, 0), False),
+    ("options 0", head() + second(options=0) + pair() + end(), False),
+    ("all added octets 0", head() + line(bytes.fromhex("A500C4B03C0001050103090041") + bytes(25)) + end(1, 0), False),
+    ("options with reserved bits alone", head() + second(options=0xC0) + pair() + end(), False),
+    ("options with reserved bits", head() + second(options=0xE0) + pair() + end(), True),
+    ("a zero IRK", head() + second(options=0x22) + pair() + end(), False),
+    ("an IRK", head() + second(options=0x22, irk=KEY) + pair() + end(), True),
+    ("an address beside the peer", head() + second(options=0x21, condition=of_device(1)) + pair() + end(), False),
+    ("an address without the peer", head() + second(options=0x30, condition=of_device(1)) + pair() + end(), True),
+    ("peer address type 2", head() + second(peer_type=2) + pair() + end(), False),
+    ("duplicates and sampling", head() + second(reports=1, sampling=1) + end(1, 0), False),
+    ("duplicates, no packet", head() + second(reports=3) + pair(event=255) + end(), True),
+    ("duplicates, no packet with data", head() + second(reports=3) + pair(event=255, data=SMALL) + end(), False),
+    ("duplicates, a packet", head() + second(reports=3) + pair(event=3, data=SMALL) + end(), True),
+    ("duplicates, event type 4", head() + second(reports=3) + pair(event=4, data=SMALL) + end(), False),
+    ("no duplicates, event type 255", head() + second(reports=2) + pair(event=255) + end(), False),
+    ("no duplicates, a packet", head() + second(reports=2) + pair(event=3, data=SMALL) + end(), False),
     ("event type 3", head() + monitor() + pair(packets=1, event=3) + end(), True),
     ("event type 4", head() + monitor() + pair(packets=1, event=4) + end(), False),
     ("no packets, a sum", head() + monitor() + pair(total=1) + end(), False),

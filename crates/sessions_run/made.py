@@ -27,6 +27,11 @@ class Session:
     def add(self, condition, interval=3, sampling=0, high=-60, low=-80):
         self.command(bytes([3, high & 255, low & 255, interval, sampling]) + condition)
 
+    def second(self, condition, options=0x20, reports=2, sampling=0, interval=3, peer=bytes(7), irk=bytes(16)):
+        """Version 2 of the monitor command; the peer is its address and its type."""
+        head = bytes([15, -60 & 255, -80 & 255, interval, sampling, options, reports])
+        self.command(head + peer + irk + condition)
+
     def cancel(self, handle):
         self.command(bytes([4, handle]))
 

@@ -14,6 +14,7 @@ import tempfile
 sys.dont_write_bytecode = True
 from edges import characters, conditions, images
 from made import KEY, NAMED, OPCODE, PRIVATE, SMALL, Session, address, line, long_data, of_device
+from second import filtered, options, seconds
 
 PRIME = 2**54 - 33
 ROOM = 65536
@@ -378,7 +379,7 @@ def written(expected):
     for row in expected.splitlines():
         if len(row) < 3:
             number = int(row)
-        elif row[:2] in ("A0", "A1", "A3", "AF"):
+        elif row[:2] in ("A0", "A1", "A3", "A5", "AF"):
             image += row + "\n"
         else:
             answers += bytes.fromhex(row)
@@ -403,7 +404,7 @@ def read(path):
 def main():
     reference, sessions, lines = sys.argv[1], [], []
     kinds = (in_full, full, strongest, sixteen, windows, samplings, equal, switched, scans, private, ends, longest)
-    kinds += (counted, refused)
+    kinds += (counted, refused, seconds, options, filtered)
     with tempfile.TemporaryDirectory() as folder:
         for kind in kinds + (conditions, characters, images):
             for made in kind():
@@ -426,7 +427,7 @@ def main():
                 sessions.append((image, journal))
                 lines.append(written(read(stem + ".expected").decode("ascii"))[0])
     print(len(sessions), "in all")
-    assert all(len(image) <= 9899 and len(journal) <= ROOM for image, journal in sessions)
+    assert all(len(image) <= 10699 and len(journal) <= ROOM for image, journal in sessions)
     with open("stdin", "wb") as file:
         for image, journal in sessions:
             file.write(b"%06d %06d\n" % (len(image), len(journal)) + image + journal)

@@ -20,7 +20,7 @@ static void look(const bournejade_state *state, uint8_t places, struct known *k)
     struct call c = {.kind = SAVE, .room = BOURNEJADE_IMAGE_SIZE, .places = places, .filler = places};
     perform(&c, state, &saved);
     k->sound = saved.number == 0;
-    hold(saved.number != BOURNEJADE_SHORT, "9,898 octets are enough for an image");
+    hold(saved.number != BOURNEJADE_SHORT, "10,698 octets are enough for an image");
     k->position = position_of(state, places);
     if (!k->sound)
         return;

@@ -1,6 +1,6 @@
-//! The state as the block of 4,825 octets that the proved calls are given (docs/DESIGN.md, "The block"): the
-//! fields of A0, a row for each handle, the pairs' rows in start order, their number; the rows hold the fields of A1
-//! and A3, whatever is not in use is 0.
+//! The state as the block of 5,225 octets that the proved calls are given (docs/DESIGN.md, "The block"): the
+//! fields of A0, a row for each handle, the pairs' rows in start order, their number; the rows hold the fields of A5
+//! (condition in 64 octets; the added ones 0 for an A1) and of A3, whatever is not in use is 0.
 //!
 //! `of` and `state` undo each other: `of(&state(&b))` is `Some(b)` for any octets, and where `of(&s)` is
 //! `Some(b)`, `state(&b)` is `s`. So a block is sound exactly where its record is.
@@ -13,7 +13,7 @@ pub const SIZE: usize = COUNT_AT + 1;
 
 const PREFIX_AT: usize = 8;
 const MONITORS_AT: usize = 40;
-const MONITOR_ROW: usize = 71;
+const MONITOR_ROW: usize = 96;
 const PAIRS_AT: usize = MONITORS_AT + MONITOR_ROW * MONITORS;
 const PAIR_ROW: usize = 57;
 const COUNT_AT: usize = PAIRS_AT + PAIR_ROW * PAIRS;
@@ -78,7 +78,8 @@ fn part<const N: usize>(octets: &[u8], at: usize) -> [u8; N] {
     octets[at..at + N].try_into().expect("N octets")
 }
 
-/// Handle, high, low, interval, sampling, type, condition length, condition.
+/// Handle, high, low, interval, sampling, type, condition length, condition (64), options, report filter, the peer's
+/// address (6) and its type, its IRK (16).
 fn monitor_row(m: &Monitor) -> [u8; MONITOR_ROW] {
     let mut row = [0; MONITOR_ROW];
     row[..7].copy_from_slice(&[
@@ -90,7 +91,11 @@ fn monitor_row(m: &Monitor) -> [u8; MONITOR_ROW] {
         m.kind,
         m.length,
     ]);
-    row[7..].copy_from_slice(&m.octets);
+    row[7..71].copy_from_slice(&m.octets);
+    row[71..73].copy_from_slice(&[m.options, m.reports]);
+    row[73..79].copy_from_slice(&m.peer.address);
+    row[79] = m.peer.kind;
+    row[80..].copy_from_slice(&m.irk);
     row
 }
 
@@ -104,6 +109,10 @@ fn monitor(row: &[u8; MONITOR_ROW]) -> Monitor {
         kind: row[5],
         length: row[6],
         octets: part(row, 7),
+        options: row[71],
+        reports: row[72],
+        peer: Device { kind: row[79], address: part(row, 73) },
+        irk: part(row, 80),
     }
 }
 

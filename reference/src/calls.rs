@@ -83,7 +83,8 @@ fn crowded(calls: &[Call]) -> usize {
     let mut adds = |call: &Call| {
         let full = follower.state().monitor_count as usize == MONITORS;
         let executed = script::call(&mut follower, call).refusal == 0;
-        full && executed && given(call).is_some_and(|frame| frame[0] == 1 && frame.get(8) == Some(&0x03))
+        full && executed
+            && given(call).is_some_and(|frame| frame[0] == 1 && matches!(frame.get(8), Some(0x03 | 0x0F)))
     };
     calls.iter().filter(|call| adds(call)).count()
 }

@@ -4,7 +4,8 @@ use crate::condition::{form, Form};
 use crate::coverage::{hit, Rule};
 use crate::fault::Fault;
 use crate::limits::{rssi_in_range, CONDITION, INTERVAL_LEAST, INTERVAL_MOST, MONITORS};
-use crate::state::Monitor;
+use crate::options;
+use crate::state::{Device, Monitor};
 
 /// What a command looks at.
 pub struct View<'a> {
@@ -29,12 +30,13 @@ pub struct Answer {
     pub change: Change,
 }
 
-/// The fixed table: sub-opcode, parameter length counting the sub-opcode (03: the least), answer length
+/// The fixed table: sub-opcode, parameter length counting the sub-opcode (03 and 0F: the least), answer length
 /// (00: less its prefix).
-const TABLE: [(u8, usize, usize); 4] = [(0x00, 1, 11), (0x03, 6, 3), (0x04, 2, 2), (0x05, 2, 2)];
+const TABLE: [(u8, usize, usize); 5] =
+    [(0x00, 1, 11), (0x03, 6, 3), (0x04, 2, 2), (0x05, 2, 2), (0x0F, 31, 3)];
 
-/// RSSI monitoring and advertisement monitoring of legacy advertisements.
-const FEATURES: u64 = 0x0C;
+/// RSSI monitoring and advertisement monitoring of legacy advertisements, and version 2 of the monitor command.
+const FEATURES: u64 = 0x040C;
 
 const UNKNOWN_COMMAND: u8 = 0x01;
 const MEMORY_EXCEEDED: u8 = 0x07;
@@ -49,10 +51,11 @@ pub fn answer(view: &View, parameters: &[u8], fault: Fault) -> Answer {
         let named = if fault == Fault::OtherSubZero { 0 } else { sub };
         return Answer { returns: vec![UNKNOWN_COMMAND, named], change: Change::Nothing };
     };
-    let right_length = if sub == 0x03 { parameters.len() >= *length } else { parameters.len() == *length };
+    let adds = sub == 0x03 || sub == 0x0F;
+    let right_length = if adds { parameters.len() >= *length } else { parameters.len() == *length };
     let outcome = match sub {
         0x00 => read_features(right_length),
-        0x03 => add(view, parameters, right_length, fault),
+        0x03 | 0x0F => add(view, parameters, right_length, fault),
         0x04 => cancel(view, parameters, right_length, fault),
         _ => enable(view, parameters, right_length, fault),
     };
@@ -65,7 +68,8 @@ pub fn answer(view: &View, parameters: &[u8], fault: Fault) -> Answer {
             octets[0] = *status;
             octets
         }
-        (Err(status), 0x03) if fault != Fault::FailedAddShort => vec![*status, sub, 0x00],
+        (Err(status), 0x0F) if fault == Fault::SecondAnswersFirst => vec![*status, 0x03, 0x00],
+        (Err(status), _) if adds && fault != Fault::FailedAddShort => vec![*status, sub, 0x00],
         (Err(status), _) => vec![*status, sub],
     };
     if fault == Fault::None {
@@ -78,7 +82,7 @@ pub fn answer(view: &View, parameters: &[u8], fault: Fault) -> Answer {
 
 /// 00, 00, features (8), prefix length, prefix.
 fn features(view: &View, fault: Fault) -> Vec<u8> {
-    let bits = if fault == Fault::ReservedFeature { FEATURES | 0x400 } else { FEATURES };
+    let bits = if fault == Fault::FeatureMissing { FEATURES & !0x400 } else { FEATURES };
     let mut octets = vec![0x00, 0x00];
     octets.extend(bits.to_le_bytes());
     octets.push(view.prefix.len() as u8);
@@ -95,18 +99,38 @@ fn read_features(right_length: bool) -> Result<Change, u8> {
     Ok(Change::Nothing)
 }
 
-/// 03, its failures in the document's order.
+/// The monitor that the parameters of 03 or 0F ask for, with no handle yet, and its condition of any length.
+fn wanted(parameters: &[u8]) -> (Monitor, &[u8]) {
+    let mut monitor = Monitor {
+        high: parameters[1] as i8,
+        low: parameters[2] as i8,
+        interval: parameters[3],
+        sampling: parameters[4],
+        ..Monitor::NONE
+    };
+    let mut rest = &parameters[5..];
+    if parameters[0] == 0x0F {
+        (monitor.options, monitor.reports) = (rest[0], rest[1]);
+        monitor.peer = Device { kind: rest[8], address: rest[2..8].try_into().unwrap() };
+        monitor.irk = rest[9..25].try_into().unwrap();
+        rest = &rest[25..];
+    }
+    monitor.kind = rest[0];
+    (monitor, &rest[1..])
+}
+
+/// 03 and 0F, their failures in the document's order.
 fn add(view: &View, parameters: &[u8], right_length: bool, fault: Fault) -> Result<Change, u8> {
     let fail = |rule, status| {
         hit(rule);
         Err(status)
     };
+    let second = parameters[0] == 0x0F;
     if !right_length {
-        return fail(Rule::AddShort, INVALID_PARAMETERS);
+        return fail(if second { Rule::SecondShort } else { Rule::AddShort }, INVALID_PARAMETERS);
     }
-    let (high, low) = (parameters[1] as i8, parameters[2] as i8);
-    let (interval, sampling, kind) = (parameters[3], parameters[4], parameters[5]);
-    let condition = &parameters[6..];
+    let (mut monitor, condition) = wanted(parameters);
+    let Monitor { high, low, interval, kind, .. } = monitor;
     if !threshold_in_range(high, fault) || !threshold_in_range(low, fault) {
         return fail(Rule::AddThreshold, INVALID_PARAMETERS);
     }
@@ -124,6 +148,15 @@ fn add(view: &View, parameters: &[u8], right_length: bool, fault: Fault) -> Resu
     if kind == 3 && fault == Fault::KeyRefused {
         return Err(INVALID_PARAMETERS);
     }
+    if second && full && fault == Fault::FullBeforeForbidden {
+        return Err(MEMORY_EXCEEDED);
+    }
+    if second && options::forbidden(&monitor, fault) {
+        return fail(
+            if full { Rule::SecondForbiddenFull } else { Rule::SecondForbidden },
+            INVALID_PARAMETERS,
+        );
+    }
     if condition.len() > CONDITION && fault == Fault::LongBeforeMalformed {
         return Err(MEMORY_EXCEEDED);
     }
@@ -136,29 +169,26 @@ fn add(view: &View, parameters: &[u8], right_length: bool, fault: Fault) -> Resu
     if full {
         return fail(Rule::AddFull, MEMORY_EXCEEDED);
     }
-    hit(Rule::AddSuccess);
-    if high == low {
-        hit(Rule::AddEqual);
+    count_added(view, &monitor);
+    monitor.handle = new_handle(view.live, fault);
+    monitor.length = condition.len() as u8;
+    monitor.octets[..condition.len()].copy_from_slice(condition);
+    if fault == Fault::ReservedDropped {
+        (monitor.options, monitor.reports) = (monitor.options & 0x3F, monitor.reports & 0x0F);
     }
-    if kind == 3 {
-        hit(Rule::AddKey);
-    }
-    if view.live.leading_zeros() < view.live.count_zeros() {
-        hit(Rule::AddReused);
-    }
-    let mut octets = [0; CONDITION];
-    octets[..condition.len()].copy_from_slice(condition);
-    let handle = new_handle(view.live, fault);
-    Ok(Change::Add(Monitor {
-        handle,
-        high,
-        low,
-        interval,
-        sampling,
-        kind,
-        length: condition.len() as u8,
-        octets,
-    }))
+    Ok(Change::Add(monitor))
+}
+
+/// Count what an accepted command reaches.
+fn count_added(view: &View, monitor: &Monitor) {
+    let rules = [
+        (true, Rule::AddSuccess),
+        (monitor.high == monitor.low, Rule::AddEqual),
+        (monitor.kind == 3, Rule::AddKey),
+        (monitor.second(), Rule::SecondSuccess),
+        (view.live.leading_zeros() < view.live.count_zeros(), Rule::AddReused),
+    ];
+    rules.iter().filter(|(reached, _)| *reached).for_each(|(_, rule)| hit(*rule));
 }
 
 fn threshold_in_range(threshold: i8, fault: Fault) -> bool {

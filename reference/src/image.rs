@@ -5,11 +5,11 @@ use crate::limits::{CONDITION, DATA, MONITORS, PAIRS, PREFIX};
 use crate::lines;
 use crate::state::{Device, Monitor, Pair, State};
 
-/// The text of a state: A0, the A1s, the A3s, AF.
+/// The text of a state: A0, the A1s and A5s, the A3s, AF.
 pub fn text(state: &State) -> Vec<u8> {
     let mut text = lines::write(&a0(state));
     for monitor in state.monitors() {
-        text.extend(lines::write(&a1(monitor)));
+        text.extend(lines::write(&a1_or_a5(monitor)));
     }
     for pair in state.pairs() {
         text.extend(lines::write(&a3(pair)));
@@ -29,11 +29,19 @@ fn a0(state: &State) -> Vec<u8> {
     octets
 }
 
-/// A1: handle, high, low, interval, sampling, type, condition length, condition.
-fn a1(m: &Monitor) -> Vec<u8> {
+/// A1: handle, high, low, interval, sampling, type, condition length, condition. A5: the same, then Monitor_options,
+/// Advertisement_report_filtering_options, the peer's address (6), its type, its IRK (16).
+fn a1_or_a5(m: &Monitor) -> Vec<u8> {
+    let record = if m.second() { 0xA5 } else { 0xA1 };
     let mut octets =
-        vec![0xA1, m.handle, m.high as u8, m.low as u8, m.interval, m.sampling, m.kind, m.length];
+        vec![record, m.handle, m.high as u8, m.low as u8, m.interval, m.sampling, m.kind, m.length];
     octets.extend(m.condition());
+    if m.second() {
+        octets.extend([m.options, m.reports]);
+        octets.extend(m.peer.address);
+        octets.push(m.peer.kind);
+        octets.extend(m.irk);
+    }
     octets
 }
 
@@ -82,13 +90,13 @@ impl Fields {
     }
 }
 
-/// The records of a text, if it is lines A0, A1s, A3s, AF with right lengths and counts and nothing after
+/// The records of a text, if it is lines A0, A1s and A5s, A3s, AF with right lengths and counts and nothing after
 /// (READINGS 24). Whether they are those of a sound state is another question.
 pub fn read(text: &[u8], fault: Fault) -> Option<State> {
     let mut rest = text.split_inclusive(|c| *c == lines::LF).peekable();
     let mut state = read_a0(rest.next()?)?;
     let mut monitors = Vec::new();
-    while let Some(monitor) = rest.peek().and_then(|line| read_a1(line)) {
+    while let Some(monitor) = rest.peek().and_then(|line| read_a1(line).or_else(|| read_a5(line))) {
         monitors.push(monitor);
         rest.next();
     }
@@ -131,7 +139,21 @@ fn read_a1(line: &[u8]) -> Option<Monitor> {
     let mut fields = Fields::of(line, 0xA1)?;
     let [handle, high, low, interval, sampling, kind, length] = fields.take()?;
     let octets = fields.rest::<CONDITION>(length)?;
-    Some(Monitor { handle, high: high as i8, low: low as i8, interval, sampling, kind, length, octets })
+    let (high, low) = (high as i8, low as i8);
+    Some(Monitor { handle, high, low, interval, sampling, kind, length, octets, ..Monitor::NONE })
+}
+
+/// With options 0 it would be no monitor of version 2.
+fn read_a5(line: &[u8]) -> Option<Monitor> {
+    let Fields(all) = Fields::of(line, 0xA5)?;
+    let (first, added) = all.split_at_checked(all.len().checked_sub(25)?)?;
+    let mut monitor = read_a1(&lines::write(&[&[0xA1], first].concat()))?;
+    let mut fields = Fields(added.to_vec());
+    [monitor.options, monitor.reports] = fields.take()?;
+    monitor.peer.address = fields.take()?;
+    monitor.peer.kind = fields.octet()?;
+    monitor.irk = fields.take()?;
+    monitor.second().then_some(monitor)
 }
 
 fn read_a3(line: &[u8]) -> Option<Pair> {

@@ -20,6 +20,7 @@ pub mod history;
 pub mod image;
 pub mod limits;
 pub mod lines;
+pub mod options;
 pub mod private;
 pub mod program;
 pub mod random;

@@ -16,7 +16,7 @@ pub const FRAME_MOST: usize = 263;
 /// Octets that must be lent for writing a line, for an answer, for an image.
 pub const LINE: usize = 527;
 pub const ANSWER: usize = 2880;
-pub const IMAGE: usize = 9898;
+pub const IMAGE: usize = 10698;
 /// RSSI is signed, -127 to 20.
 pub const RSSI_LEAST: i8 = -127;
 pub const RSSI_MOST: i8 = 20;

@@ -1,7 +1,8 @@
-//! The state as document 01's records: what the lines A0, A1 and A3 hold ("The image"), in places of
+//! The state as document 01's records: what the lines A0, A1, A3 and A5 hold ("The image"), in places of
 //! fixed size, so that every unused octet and place can be asked to be 0 ("Sound").
 
 use crate::limits::{CONDITION, DATA, MONITORS, PAIRS, PREFIX};
+use crate::private::Key;
 
 /// A device is an address type and an address (READINGS 17).
 #[derive(Clone, Copy, PartialEq, Eq, PartialOrd, Ord, Debug, Default)]
@@ -10,7 +11,8 @@ pub struct Device {
     pub address: [u8; 6],
 }
 
-/// An A1 record: a monitor as its 0x03 command gave it.
+/// An A1 record: a monitor as its 0x03 command gave it. An A5 record: as its 0x0F command did (document 02, T-13), with
+/// Monitor_options, Advertisement_report_filtering_options, the peer's address and IRK; these are 0 in an A1 record.
 #[derive(Clone, Copy, PartialEq, Eq, Debug)]
 pub struct Monitor {
     pub handle: u8,
@@ -21,9 +23,14 @@ pub struct Monitor {
     pub kind: u8,
     pub length: u8,
     pub octets: [u8; CONDITION],
+    pub options: u8,
+    pub reports: u8,
+    pub peer: Device,
+    pub irk: Key,
 }
 
-/// An A3 record: a pair under watch. `rssi` is its latest matching RSSI (document 02, T-05).
+/// An A3 record: a pair under watch. `rssi` is its latest matching RSSI (document 02, T-05). Of a monitor that filters
+/// duplicates the last fields keep the last packet that was a reason for a report, event type 0xFF for none (T-13).
 #[derive(Clone, Copy, PartialEq, Eq, Debug)]
 pub struct Pair {
     pub handle: u8,
@@ -63,7 +70,16 @@ impl Monitor {
         kind: 0,
         length: 0,
         octets: [0; CONDITION],
+        options: 0,
+        reports: 0,
+        peer: Device { kind: 0, address: [0; 6] },
+        irk: [0; 16],
     };
+
+    /// Is it of version 2? Its options are then not 0.
+    pub fn second(&self) -> bool {
+        self.options != 0
+    }
 
     /// The condition, without the unused octets.
     pub fn condition(&self) -> &[u8] {
@@ -90,6 +106,9 @@ impl Pair {
         n: 0,
         data: [0; DATA],
     };
+
+    /// The event type that says that there is no packet.
+    pub const NO_PACKET: u8 = 0xFF;
 
     /// The data of the latest packet in the window.
     pub fn latest(&self) -> &[u8] {

@@ -42,9 +42,9 @@ fn the_block_of_the_session_in_full() {
     let mut expected = [0; SIZE];
     expected[..10].copy_from_slice(&[2, 0, 0, 0, 0, 0x1E, 0xFC, 2, 0x4D, 0x53]);
     expected[40..54].copy_from_slice(&[0, 0xC4, 0xB0, 3, 0, 4, 7, 0, 6, 5, 4, 3, 2, 1]);
-    expected[1176..1184].copy_from_slice(&[0, 0, 6, 5, 4, 3, 2, 1]);
-    expected[1176 + 23] = 0xC4;
-    expected[4824] = 1;
+    expected[1576..1584].copy_from_slice(&[0, 0, 6, 5, 4, 3, 2, 1]);
+    expected[1576 + 23] = 0xC4;
+    expected[5224] = 1;
     assert_eq!(block::of(&engine.state()), Some(expected));
     assert_eq!(block::state(&expected), engine.state());
 }
@@ -63,19 +63,23 @@ fn fields_and_places() {
     let octets = block::of(&s).unwrap();
     assert_eq!(octets[..4], [1, 2, 3, 4]);
     assert_eq!(octets[39], 8);
-    let row = 1176 + 57;
+    let row = 1576 + 57;
     assert_eq!(octets[row + 8..row + 10], [1, 2]);
     assert_eq!(octets[row + 11..row + 15], [1, 2, 3, 4]);
     assert_eq!(octets[row + 15..row + 23], [0xFE, 0xFF, 0xFF, 0xFF, 0xFF, 0xFF, 0xFF, 0xFF]);
     assert_eq!(octets[row + 23] as i8, s.pairs[1].rssi);
-    assert_eq!(octets[4823], 9);
+    assert_eq!(octets[5223], 9);
     for m in state.monitors() {
-        let row = 40 + 71 * m.handle as usize;
+        let row = 40 + 96 * m.handle as usize;
         assert_eq!(
             octets[row..row + 7],
             [m.handle, m.high as u8, m.low as u8, m.interval, m.sampling, m.kind, m.length]
         );
         assert_eq!(octets[row + 7..row + 71], m.octets);
+        assert_eq!(octets[row + 71..row + 73], [m.options, m.reports]);
+        assert_eq!(octets[row + 73..row + 79], m.peer.address);
+        assert_eq!(octets[row + 79], m.peer.kind);
+        assert_eq!(octets[row + 80..row + 96], m.irk);
     }
 }
 
@@ -115,12 +119,17 @@ fn broken_states_stay_broken() {
 fn unused(state: &State) -> Vec<usize> {
     let mut places: Vec<usize> = (8 + state.prefix_length as usize..40).collect();
     for handle in 0..16 {
-        let row = 40 + 71 * handle;
-        let used = state.monitor(handle as u8).map_or(0, |m| 7 + m.length as usize);
+        let row = 40 + 96 * handle;
+        let monitor = state.monitor(handle as u8);
+        let used = monitor.map_or(0, |m| 7 + m.length as usize);
         places.extend(row + used..row + 71);
+        // With options that are not 0 it is another monitor, of version 2.
+        let first = if monitor.is_some() { 72 } else { 71 };
+        let end = if monitor.is_some_and(|m| m.options != 0) { first } else { 96 };
+        places.extend(row + first..row + end);
     }
     for place in 0..64 {
-        let row = 1176 + 57 * place;
+        let row = 1576 + 57 * place;
         let used = state.pairs().get(place).map_or(0, |p| 26 + p.n as usize);
         places.extend(row + used..row + 57);
     }
@@ -148,10 +157,10 @@ fn rows_at_other_places() {
     for index in 0..300 {
         let (mut random, state) = drawn(25, index);
         let octets = block::of(&state).unwrap();
-        let (one, other) = (40 + 71 * random.below(16), 40 + 71 * random.below(16));
+        let (one, other) = (40 + 96 * random.below(16), 40 + 96 * random.below(16));
         let mut changed = octets;
-        changed[one..one + 71].copy_from_slice(&octets[other..other + 71]);
-        changed[other..other + 71].copy_from_slice(&octets[one..one + 71]);
+        changed[one..one + 96].copy_from_slice(&octets[other..other + 96]);
+        changed[other..other + 96].copy_from_slice(&octets[one..one + 96]);
         assert_eq!(sound_block(&changed), changed == octets);
         moved += (changed != octets) as u32;
     }

@@ -37,8 +37,8 @@ fn lent_outputs() {
         assert_eq!(host.give_lending(&octets("00"), 2879), Err(3), "3 before 4");
         assert_eq!(host.give_lending(&octets("0300000000"), 0), Err(3), "3 before 1");
         assert_eq!(host.give_lending(&octets("0301000000"), 2880), Ok(vec![]));
-        assert_eq!(host.engine.save(&mut [0; 9897]).unwrap_err().number(), 3);
-        assert!(host.engine.save(&mut [0; 9898]).is_ok());
+        assert_eq!(host.engine.save(&mut [0; 10697]).unwrap_err().number(), 3);
+        assert!(host.engine.save(&mut [0; 10698]).is_ok());
     });
     let frame = octets("0301000000");
     assert_eq!(write_line(&frame, &mut [0; 526], Fault::None).unwrap_err().number(), 3);
@@ -143,7 +143,7 @@ fn payloads() {
         assert_eq!(host.give(&octets("0101000000030C0100")), Err(6), "HCI_Reset's opcode");
         assert_eq!(host.give(&octets("01010000001FFC0100")), Err(6));
         assert_eq!(host.give(&octets("01010000001EFD0100")), Err(6));
-        let features = "0E10011EFC 00 00 0C00000000000000 02 4D53";
+        let features = "0E10011EFC 00 00 0C04000000000000 02 4D53";
         assert_eq!(host.give(&octets("01010000001EFC0100")), Ok(octets(features)));
         for (frame, rssi) in
             [("0202000000 03 01 060504030201 00 81", -127), ("0203000000 03 01 060504030201 00 14", 20)]
@@ -186,7 +186,7 @@ fn unsound_comes_first() {
 fn command_returns() {
     both(|host| {
         let mut rows = vec![
-            ("00", "0000 0C00000000000000 02 4D53"),
+            ("00", "0000 0C04000000000000 02 4D53"),
             ("0000", "1200"),
             ("04", "1204"),
             ("0400", "1204"),
@@ -198,7 +198,9 @@ fn command_returns() {
             ("05FF", "1205"),
             ("01", "0101"),
             ("02C4B00300", "0102"),
-            ("0F", "010F"),
+            ("0E", "010E"),
+            ("0F", "120F00"),
+            ("10C4B00300", "0110"),
             ("FF0102", "01FF"),
             ("03", "120300"),
             ("03C4B00300", "120300"),

@@ -45,9 +45,9 @@ fn is_image(text: &[u8]) -> bool {
 fn largest_image_and_longest_answer() {
     let state = states::largest(&mut Random::new(1));
     let text = image::text(&state);
-    assert_eq!(text.len(), 9898);
+    assert_eq!(text.len(), 10698);
     let lengths: Vec<usize> = lines::split(&text).map(<[u8]>::len).collect();
-    assert_eq!(lengths, [vec![83], vec![145; 16], vec![117; 64], vec![7]].concat());
+    assert_eq!(lengths, [vec![83], vec![195; 16], vec![117; 64], vec![7]].concat());
     for mut engine in engines() {
         engine.restore(&text).unwrap();
         assert_eq!(engine.state(), state);

@@ -17,10 +17,10 @@ use Rattle.rule.specs.Engine.{find}
 use Rattle.rule.specs.Finds.{find-all}
 use Rattle.model.specs.Types.{Model, Monitor, Pair}
 use Rattle.model.specs.Level.{sumInRange}
-use Rattle.model.specs.Monitors.{runOf, windowed}
+use Rattle.model.specs.Monitors.{runOf, sifts, windowed}
 use Rattle.model.specs.Accepted.{Accepted, accepted, accepts-run-most}
 use Rattle.model.specs.Image.{headRow, monitorRow, pairRow, pairIn}
-use Rattle.model.specs.Sound.{soundWindow, soundEmpty, soundPair}
+use Rattle.model.specs.Sound.{soundWindow, soundLatest, soundEmpty, soundPair}
 use Rattle.blocks.specs.Rows.{headRow-octets, monitorRow-octets, pairRow-octets, pairIn-row}
 use Rattle.blocks.specs.Facts.{SoundMonitor, SoundPair, SoundModel, pair-facts}
 use Rattle.model.specs.Layout.{mostData, mostMonitors}
@@ -38,7 +38,7 @@ pub record Window (position : ℕ) (q : Pair) : Type 0 where
   pub packets-most : q .packets ≤ position
   pub sum-most : q .sum < 18446744073709551616
 
-pub window-facts : (position : ℕ) (m : Monitor) (q : Pair) → soundWindow position m q ≡ true → soundEmpty q ≡ true
+pub window-facts : (position : ℕ) (m : Monitor) (q : Pair) → soundWindow position m q ≡ true → soundEmpty m q ≡ true
     → Window position q
 unfolding soundWindow soundEmpty windowed pick
 window-facts position m q = go (leb 1 (m .sampling)) (leb (m .sampling) 254) refl
@@ -59,25 +59,42 @@ window-facts position m q = go (leb 1 (m .sampling)) (leb (m .sampling) 254) ref
           sum-most = ltb-true (q .sum) 18446744073709551616 (and-right (a && b) c e2);
         }
 
-    idle : (eqb (q .ticks) 0 && eqb (q .packets) 0) ≡ true
-        → (leb 1 (q .packets) || (eqb (q .sum) 0 && eqb (q .event) 0 && eqb (length (q .adv)) 0)) ≡ true
-        → Window position q
+    Empty : Type 0
+    Empty = pick (leb 1 (q .packets)) (leb (q .event) 3) (eqb (q .sum) 0 && soundLatest (sifts m) (q .event) (q .adv)) ≡ true
+
+    idle : (eqb (q .ticks) 0 && eqb (q .packets) 0) ≡ true → Empty → Window position q
     idle e z =
         let t : q .ticks ≡ 0 = eqb-true (q .ticks) 0 (and-left (eqb (q .ticks) 0) (eqb (q .packets) 0) e) in
         let p : q .packets ≡ 0 = eqb-true (q .packets) 0 (and-right (eqb (q .ticks) 0) (eqb (q .packets) 0) e) in
-        let y : (eqb (q .sum) 0 && eqb (q .event) 0 && eqb (length (q .adv)) 0) ≡ true = rw p at z in
-        let s1 = and-left (eqb (q .sum) 0 && eqb (q .event) 0) (eqb (length (q .adv)) 0) y in
-        let s : q .sum ≡ 0 = eqb-true (q .sum) 0 (and-left (eqb (q .sum) 0) (eqb (q .event) 0) s1) in
+        let y : (eqb (q .sum) 0 && soundLatest (sifts m) (q .event) (q .adv)) ≡ true = rw p at z in
+        let s : q .sum ≡ 0 = eqb-true (q .sum) 0 (and-left (eqb (q .sum) 0) (soundLatest (sifts m) (q .event) (q .adv)) y) in
         record { ticks-most = omega arith; packets-most = omega arith; sum-most = omega arith }
 
     go : (s t : Bool) → leb (m .sampling) 254 ≡ t
         → pick (s && t) (ltb (q .ticks) (m .sampling) && leb (q .packets) position && ltb (q .sum) 18446744073709551616
         && sumInRange (q .sum) (q .packets)) (eqb (q .ticks) 0 && eqb (q .packets) 0) ≡ true
-        → (leb 1 (q .packets) || (eqb (q .sum) 0 && eqb (q .event) 0 && eqb (length (q .adv)) 0)) ≡ true
-        → Window position q
+        → Empty → Window position q
     go true true h e z = tested (leb-true (m .sampling) 254 h) e
     go true false h e z = idle e z
     go false t h e z = idle e z
+
+-- the event type is an octet: 0 to 3, or 0xFF
+latest-event : (t : Bool) (event : ℕ) (adv : List ℕ) → soundLatest t event adv ≡ true → event < 256
+unfolding soundLatest
+latest-event true event adv e = go (leb event 3) refl e
+  where
+    go : (b : Bool) → leb event 3 ≡ b → (b || (eqb event 255 && eqb (length adv) 0)) ≡ true → event < 256
+    go true h z = let n : event ≤ 3 = leb-true event 3 h in omega arith
+    go false h z = let n : event ≡ 255 = eqb-true event 255 (and-left (eqb event 255) (eqb (length adv) 0) z) in omega arith
+latest-event false event adv e = let n : event ≡ 0 = eqb-true event 0 (and-left (eqb event 0) (eqb (length adv) 0) e) in omega arith
+
+pub empty-event : (m : Monitor) (q : Pair) → soundEmpty m q ≡ true → q .event < 256
+unfolding soundEmpty pick
+empty-event m q = go (leb 1 (q .packets))
+  where
+    go : (t : Bool) → pick t (leb (q .event) 3) (eqb (q .sum) 0 && soundLatest (sifts m) (q .event) (q .adv)) ≡ true → q .event < 256
+    go true e = let n : q .event ≤ 3 = leb-true (q .event) 3 e in omega arith
+    go false e = latest-event (sifts m) (q .event) (q .adv) (and-right (eqb (q .sum) 0) (soundLatest (sifts m) (q .event) (q .adv)) e)
 
 -- the monitor of a live handle
 pub live-handle : (m : Model) → SoundModel m → (h : ℕ) (n : Monitor) → find (m .mons) h ≡ some n → h < mostMonitors
@@ -97,7 +114,7 @@ pub record Fits (q : Pair) : Type 0 where
   pub packets-most : q .packets ≤ 4294967295
   pub sum-most : q .sum < 18446744073709551616
   pub kept-octet : q .kept < 256
-  pub event-most : q .event ≤ 3
+  pub event-octet : q .event < 256
   pub adv-most : length (q .adv) ≤ mostData
   pub adv-octets : every isOctet (q .adv) ≡ true
 
@@ -116,7 +133,7 @@ pair-fits m f q s =
       packets-most = omega (arith, w .packets-most, f .position-most);
       sum-most = w .sum-most;
       kept-octet = s .fields .kept-octet;
-      event-most = s .fields .event-most;
+      event-octet = empty-event (s .mon) q (s .fields .empty);
       adv-most = s .fields .adv-most;
       adv-octets = s .fields .adv-octets;
     }
@@ -147,7 +164,7 @@ fits-pairRow q f =
     pairRow-octets q (omega (arith, f .handle-most)) (omega (arith, f .kind-most)) (f .address-octets)
     (omega (arith, f .ticks-most))
     (f .kept-octet)
-    (omega (arith, f .event-most)) (omega (arith, f .adv-most)) (f .adv-octets)
+    (f .event-octet) (omega (arith, f .adv-most)) (f .adv-octets)
 
 -- a sound state's head row is octets
 pub sound-headRow : (m : Model) → SoundModel m → every isOctet (headRow m) ≡ true

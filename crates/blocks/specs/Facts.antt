@@ -19,7 +19,7 @@ use Rattle.sessions.specs.Machine.{lastNumber}
 use Rattle.model.specs.Types.{Model, Monitor, Pair}
 use Rattle.model.specs.Level.{inRange}
 use Rattle.model.specs.Monitors.{accepts, runOf}
-use Rattle.model.specs.Sound.{octetsUpTo, soundSettings, soundMonitor, soundMonitors, soundWindow, soundEmpty}
+use Rattle.model.specs.Sound.{octetsUpTo, soundSettings, soundExtra, soundMonitor, soundMonitors, soundWindow, soundEmpty}
 use Rattle.model.specs.Sound.{soundFields, soundOf, soundPair, apart, soundModel}
 use Rattle.model.specs.Layout.{mostData, mostMonitors, mostPairs, mostPrefix}
 
@@ -34,13 +34,14 @@ pub to-up : (n : ℕ) (l : List ℕ) → length l ≤ n → every isOctet l ≡ 
 unfolding octetsUpTo
 to-up n l h e = and-both (le-leb (length l) n h) e
 
--- "every monitor as 0x03 would accept it"
+-- "every monitor as 0x03 would accept it", or 0x0F
 pub record SoundMonitor (m : Monitor) : Type 0 where
   pub accept : accepts m ≡ true
   pub high-octet : m .high < 256
   pub low-octet : m .low < 256
   pub sampling-octet : m .sampling < 256
   pub condition-octets : every isOctet (m .condition) ≡ true
+  pub extra-sound : soundExtra (m .extra) ≡ true
 
 pub monitor-facts : (m : Monitor) → soundMonitor m ≡ true → SoundMonitor m
 unfolding soundMonitor
@@ -50,7 +51,9 @@ monitor-facts m e =
     let l = isOctet (m .low) in
     let s = isOctet (m .sampling) in
     let c = every isOctet (m .condition) in
-    let e3 = and-left (a && h && l && s) c e in
+    let x = soundExtra (m .extra) in
+    let e4 = and-left (a && h && l && s && c) x e in
+    let e3 = and-left (a && h && l && s) c e4 in
     let e2 = and-left (a && h && l) s e3 in
     let e1 = and-left (a && h) l e2 in
     record {
@@ -58,7 +61,8 @@ monitor-facts m e =
       high-octet = ltb-true (m .high) 256 (and-right a h e1);
       low-octet = ltb-true (m .low) 256 (and-right (a && h) l e2);
       sampling-octet = ltb-true (m .sampling) 256 (and-right (a && h && l) s e3);
-      condition-octets = and-right (a && h && l && s) c e;
+      condition-octets = and-right (a && h && l && s) c e4;
+      extra-sound = and-right (a && h && l && s && c) x e;
     }
 
 pub facts-monitor : (m : Monitor) → SoundMonitor m → soundMonitor m ≡ true
@@ -70,8 +74,9 @@ facts-monitor m f =
       lt-ltb (m .low) 256 (f .low-octet),
       lt-ltb (m .sampling) 256
           (f .sampling-octet),
+      f .condition-octets,
     )
-    (f .condition-octets)
+    (f .extra-sound)
 
 -- "monitors held in rising handle order, handles 0 to 15"; each handle at least k
 pub record SoundMonitors (k : ℕ) (l : List (ℕ × Monitor)) : Type 0 where
@@ -148,14 +153,13 @@ pub record SoundOf (position : ℕ) (m : Monitor) (q : Pair) : Type 0 where
   pub kind-most : q .kind ≤ 1
   pub address-length : length (q .address) ≡ 6
   pub address-octets : every isOctet (q .address) ≡ true
-  pub event-most : q .event ≤ 3
   pub adv-most : length (q .adv) ≤ mostData
   pub adv-octets : every isOctet (q .adv) ≡ true
   pub kept-octet : q .kept < 256
   pub kept-range : inRange (q .kept) ≡ true
   pub silent-below : q .silent < runOf m
   pub window : soundWindow position m q ≡ true
-  pub empty : soundEmpty q ≡ true
+  pub empty : soundEmpty m q ≡ true
 
 pub of-facts : (position : ℕ) (m : Monitor) (q : Pair) → soundOf position (some m) q ≡ true → SoundOf position m q
 unfolding soundOf soundFields
@@ -163,28 +167,25 @@ of-facts position m q e =
     let k = leb (q .kind) 1 in
     let l = eqb (length (q .address)) 6 in
     let a = every isOctet (q .address) in
-    let v = leb (q .event) 3 in
     let d = octetsUpTo mostData (q .adv) in
     let o = isOctet (q .kept) in
     let r = inRange (q .kept) in
     let s = ltb (q .silent) (runOf m) in
     let w = soundWindow position m q in
-    let z = soundEmpty q in
+    let z = soundEmpty m q in
     let f = soundFields q in
     let e2 = and-left (f && s && w) z e in
     let e1 = and-left (f && s) w e2 in
     let g4 = and-left f s e1 in
-    let g5 = and-right (k && l && a && v && d) (o && r) g4 in
-    let g6 = and-left (k && l && a && v && d) (o && r) g4 in
-    let g3 = and-left (k && l && a && v) d g6 in
-    let g2 = and-left (k && l && a) v g3 in
+    let g5 = and-right (k && l && a && d) (o && r) g4 in
+    let g3 = and-left (k && l && a && d) (o && r) g4 in
+    let g2 = and-left (k && l && a) d g3 in
     let g1 = and-left (k && l) a g2 in
-    let u = up-to mostData (q .adv) (and-right (k && l && a && v) d g6) in
+    let u = up-to mostData (q .adv) (and-right (k && l && a) d g3) in
     record {
       kind-most = leb-true (q .kind) 1 (and-left k l g1);
       address-length = eqb-true (length (q .address)) 6 (and-right k l g1);
       address-octets = and-right (k && l) a g2;
-      event-most = leb-true (q .event) 3 (and-right (k && l && a) v g3);
       adv-most = u .0;
       adv-octets = u .1;
       kept-octet = ltb-true (q .kept) 256 (and-left o r g5);
@@ -201,7 +202,6 @@ facts-of position m q f =
       le-leb (q .kind) 1 (f .kind-most),
       eq-eqb (length (q .address)) 6 (f .address-length),
       f .address-octets,
-      le-leb (q .event) 3 (f .event-most),
       to-up mostData (q .adv) (f .adv-most) (f .adv-octets),
       lt-ltb (q .kept) 256 (f .kept-octet),
       f .kept-range,

@@ -2,26 +2,35 @@
 -- Assumes nothing.
 use Prim.Native.Nat.{ℕ, _+_, _-_, _≤_}
 use mathlib.Core.Path.{_≡_, refl, sym, ap, _∙_}
+use mathlib.Core.Bool.{false}
 use mathlib.Core.List.{List, [], _∷_, _++_, append-assoc, append-nil}
 use native.Mathlib.Omega.{arith}
 use lib.ListN.{length, take, replicate, length-append, length-replicate, drop-of-length-le, replicate-append-replicate}
+use Rattle.laws.specs.Tests.{pick}
+use Rattle.laws.specs.Loops.{when}
 use Rattle.laws.specs.Put.{put, put-left, put-right}
 use Rattle.octets.specs.Little.{octetsOf, length-octets}
 use Rattle.model.specs.Types.{Packet, Pair}
 use Rattle.model.specs.Level.{addRssi}
 use Rattle.model.specs.Image.{pairRow}
-use Rattle.model.specs.Watch.{withSilent, withTicks, withKept, gathered, emptied, startPair}
+use Rattle.model.specs.Watch.{withSilent, withTicks, withKept, withLatest, gathered, emptied, startLike}
 use Rattle.model.specs.Block.{padTo}
 use Rattle.blocks.specs.Rows.{length-pairRow}
 use Rattle.model.specs.Layout.{countsSize, dataAt, dataRoom, eventAt, latestSize, mostData, packetsAt, pairSize, rssiAt, silentAt, spareSize, ticksAt, timesSize, windowSize}
 
--- a pair's key, its window from the packets on, and all that follows the key, with zeros behind the data up to a room
+-- a pair's key, its latest packet, its window from the packets on, and all that follows the key, with zeros behind the data up to a room
 abbrev pub keyOf : Pair → List ℕ
 keyOf q = q .handle ∷ q .kind ∷ q .address
 
+abbrev pub latestIn : ℕ → ℕ → List ℕ → List ℕ
+latestIn room event adv = event ∷ length adv ∷ (adv ++ replicate (room - length adv) 0)
+
+abbrev pub latestOf : ℕ → List ℕ → List ℕ
+latestOf event adv = latestIn mostData event adv
+
 abbrev pub windowIn : ℕ → ℕ → ℕ → ℕ → ℕ → List ℕ → List ℕ
 windowIn room packets sum kept event adv =
-    octetsOf 4 packets ++ (octetsOf 8 sum ++ (kept ∷ event ∷ length adv ∷ (adv ++ replicate (room - length adv) 0)))
+    octetsOf 4 packets ++ (octetsOf 8 sum ++ (kept ∷ latestIn room event adv))
 
 abbrev pub windowOf : ℕ → ℕ → ℕ → ℕ → List ℕ → List ℕ
 windowOf packets sum kept event adv = windowIn mostData packets sum kept event adv
@@ -70,6 +79,9 @@ pub length-window : (packets sum kept event : ℕ) (adv : List ℕ) → length a
     → length (windowOf packets sum kept event adv) ≡ windowSize
 length-window packets sum kept event adv h = simp (length-append, length-octets, length-replicate) (omega arith)
 
+pub length-latest : (event : ℕ) (adv : List ℕ) → length adv ≤ mostData → length (latestOf event adv) ≡ latestSize
+length-latest event adv h = simp (length-append, length-replicate) (omega arith)
+
 length-times : (q : Pair) → length (q .adv) ≤ mostData → length (timesIn mostData q) ≡ timesSize
 length-times q h = simp (length-append, length-octets, length-replicate) (omega arith)
 
@@ -113,6 +125,15 @@ module _ (q : Pair) (h : length (q .address) ≡ 6) where
       let a : length w ≡ windowSize = length-window (q .packets + 1) (addRssi (q .sum) (p .rssi)) (p .rssi) (p .event) (p .adv) k in
       put-times q (gathered p q) h h refl 3 w (put-last q (gathered p q) l k 3 w (omega arith) refl)
 
+  -- the packet kept for duplicates
+  pub put-latest : (event : ℕ) (adv : List ℕ) → length (q .adv) ≤ mostData → length adv ≤ mostData
+      → put (padTo pairSize (pairRow q)) eventAt (latestOf event adv) ≡ padTo pairSize (pairRow (withLatest event adv q))
+  unfolding withLatest octetsOf
+  put-latest event adv l k =
+      let w : List ℕ = latestOf event adv in
+      let a : length w ≡ latestSize = length-latest event adv k in
+      put-times q (withLatest event adv q) h h refl 16 w (put-last q (withLatest event adv q) l k 16 w (omega arith) refl)
+
 -- a pair whose window has no ticks, packets and sum, and the latest packet still
 uncounted : Pair → Pair
 uncounted q =
@@ -147,14 +168,14 @@ module _ (q : Pair) (h : length (q .address) ≡ 6) where
       ≡ padTo pairSize (pairRow (emptied q))
   put-emptied l = ap (λ (x : List ℕ). put x eventAt (replicate latestSize 0)) put-uncounted ∙ put-forgotten l
 
--- a pair at its start: its key over an empty row, and its RSSI
+-- a pair at its start, of a monitor that does not filter duplicates: its key over an empty row, and its RSSI
 put-key : (n : ℕ) (p : Packet) → length (p .address) ≡ 6
-    → put (replicate pairSize 0) 0 (n ∷ p .kind ∷ p .address) ≡ padTo pairSize (pairRow (withKept (startPair n p) 0))
-unfolding put startPair withKept octetsOf
-put-key n p h = rw h (sym (place-split (withKept (startPair n p) 0) h))
+    → put (replicate pairSize 0) 0 (n ∷ p .kind ∷ p .address) ≡ padTo pairSize (pairRow (withKept (startLike false false n p) 0))
+unfolding put startLike withKept octetsOf pick when
+put-key n p h = rw h (sym (place-split (withKept (startLike false false n p) 0) h))
 
 pub put-start : (n : ℕ) (p : Packet) → length (p .address) ≡ 6
-    → put (put (replicate pairSize 0) 0 (n ∷ p .kind ∷ p .address)) rssiAt (p .rssi ∷ []) ≡ padTo pairSize (pairRow (startPair n p))
-unfolding startPair withKept
+    → put (put (replicate pairSize 0) 0 (n ∷ p .kind ∷ p .address)) rssiAt (p .rssi ∷ []) ≡ padTo pairSize (pairRow (startLike false false n p))
+unfolding startLike withKept
 put-start n p h =
-    ap (λ (x : List ℕ). put x rssiAt (p .rssi ∷ [])) (put-key n p h) ∙ put-kept (withKept (startPair n p) 0) h (p .rssi)
+    ap (λ (x : List ℕ). put x rssiAt (p .rssi ∷ [])) (put-key n p h) ∙ put-kept (withKept (startLike false false n p) 0) h (p .rssi)

@@ -4,6 +4,7 @@ pub mod Facts
 pub mod Bounds
 pub mod Tables
 pub mod Monitors
+pub mod Added
 pub mod Pairs
 pub mod Block
 pub mod Laid

@@ -1,14 +1,16 @@
 -- The monitor table of the block: its length, its rows, the monitors read from it, and a row written in it. Document
 -- 01, The image (A1; "every unused octet and place of the state 0"). Assumes nothing.
-use Prim.Native.Nat.{ℕ, zero, suc, _+_, _-_, _*_, _≤_, _<_}
+use Prim.Native.Nat.{ℕ, zero, suc, _+_, _-_, _*_, _%_, _≤_, _<_}
 use mathlib.Core.Path.{_≡_, refl, sym, ap, _∙_}
-use mathlib.Core.Bool.{true, false, not}
-use mathlib.Core.List.{List, [], _∷_, _++_, map}
+use mathlib.Core.Bool.{Bool, true, false, not, _&&_, false≢true}
+use mathlib.Core.List.{List, [], _∷_, _++_, append-assoc, map}
 use mathlib.Core.Option.{Option, none, some}
 use native.Mathlib.Omega.{arith}
-use lib.ListN.{length, replicate}
-use borrow.Author.Tests.{eq-eqb, ne-eqb}
-use Rattle.laws.specs.Tests.{cases-le}
+use lib.Dec.{leb, eqb}
+use lib.ListN.{length, take, drop, getD, replicate, length-append}
+use lib.Seq.{drop-at, take-all}
+use borrow.Author.Tests.{eqb-true, eq-eqb, ne-eqb}
+use Rattle.laws.specs.Tests.{pick, and-left, and-right, cases-le}
 use Rattle.laws.specs.Put.{put}
 use Rattle.laws.specs.Loops.{every, keep, only, upTo}
 use Rattle.laws.specs.Rows.{row, rows}
@@ -19,22 +21,36 @@ use Rattle.rule.specs.Finds.{find-all, find-above, find-insert-same, find-inser
 use Rattle.rule.specs.Finds.{find-remove-other, all-insert, all-remove}
 use Rattle.model.specs.Types.{Monitor}
 use Rattle.model.specs.Accepted.{Accepted, accepted}
-use Rattle.model.specs.Image.{monitorRow, monitorIn}
-use Rattle.model.specs.Block.{padTo, monitorPlace, monitorBlock, inUse}
-use Rattle.blocks.specs.Rows.{length-monitorRow, length-padTo, monitorIn-row, padTo-octets, octets-zeros}
+use Rattle.model.specs.Monitors.{accepts, allowed, noKey, noOption, options, parameters, parametersOf, peerType, sampledSifting, twoDevices}
+use Rattle.model.specs.Sound.{soundExtra}
+use Rattle.model.specs.Image.{monitorRow, extraIn, monitorFrom, monitorIn}
+use Rattle.model.specs.Block.{padTo, extraRow, monitorPlace, monitorBlock, inUse}
+use Rattle.blocks.specs.Rows.{length-monitorRow, length-padTo, monitorFrom-row, padTo-octets, octets-zeros}
 use Rattle.blocks.specs.Rows.{octets-append}
 use Rattle.blocks.specs.Facts.{SoundMonitor, SoundMonitors, monitors-tail, monitors-from, monitors-over}
 use Rattle.blocks.specs.Bounds.{sound-monitorRow}
 use Rattle.blocks.specs.Tables.{from, length-places, row-places, rows-places, put-places}
-use Rattle.model.specs.Layout.{monitorSize, monitorsSize, mostCondition, mostMonitors}
+use Rattle.model.specs.Layout.{extraAt, extraSize, monitorSize, monitorsSize, mostCondition, mostMonitors}
 
--- conditions of at most 64 octets: what the rows have room for
+-- conditions of at most 64 octets, 25 octets behind their room: what the rows have room for
+pub record Sized (m : Monitor) : Type 0 where
+  pub short : length (m .condition) ≤ mostCondition
+  pub extra : length (extraRow (m .extra)) ≡ extraSize
+
 abbrev pub Short : List (ℕ × Monitor) → Type 0
-Short l = All (λ x. length (x .1 .condition) ≤ mostCondition) l
+Short l = All (λ x. Sized (x .1)) l
+
+extra-length : (o : Option (List ℕ)) → soundExtra o ≡ true → length (extraRow o) ≡ extraSize
+unfolding soundExtra extraRow
+extra-length none e = refl
+extra-length (some l) e = eqb-true (length l) extraSize (and-left (eqb (length l) extraSize) (every isOctet l) e)
+
+pub sound-sized : (m : Monitor) → SoundMonitor m → Sized m
+sound-sized m f = record { short = accepted m (f .accept) .short; extra = extra-length (m .extra) (f .extra-sound) }
 
 short-of : (l : List (ℕ × Monitor)) → All (λ x. SoundMonitor (x .1)) l → Short l
 short-of [] a = tt
-short-of (x ∷ l) a = (accepted (x .1) (a .0 .accept) .short, short-of l (a .1))
+short-of (x ∷ l) a = (sound-sized (x .1) (a .0), short-of l (a .1))
 
 pub mons-short : (k : ℕ) (l : List (ℕ × Monitor)) → SoundMonitors k l → Short l
 mons-short k l f = short-of l (f .monitors)
@@ -43,9 +59,17 @@ mons-short k l f = short-of l (f .monitors)
 abbrev pub placeIn : List (ℕ × Monitor) → ℕ → List ℕ
 placeIn l h = monitorPlace h (find l h)
 
--- every row has 71 octets
-pub length-full : (x : ℕ × Monitor) → length (x .1 .condition) ≤ mostCondition → length (padTo monitorSize (monitorRow x)) ≡ monitorSize
-length-full x s = let n = length-monitorRow x in length-padTo monitorSize (monitorRow x) (omega arith)
+-- every row has 96 octets: A1's fields with the room of the condition, and what is added
+abbrev pub rowOf : ℕ → Monitor → List ℕ
+rowOf h m = padTo extraAt (monitorRow (h, m)) ++ extraRow (m .extra)
+
+pub length-fields : (x : ℕ × Monitor) → Sized (x .1) → length (padTo extraAt (monitorRow x)) ≡ extraAt
+length-fields x s = let n = length-monitorRow x in length-padTo extraAt (monitorRow x) (omega (arith, s .short))
+
+pub length-full : (h : ℕ) (m : Monitor) → Sized m → length (rowOf h m) ≡ monitorSize
+length-full h m s =
+    let n = length-fields (h, m) s in
+    length-append (padTo extraAt (monitorRow (h, m))) (extraRow (m .extra)) ∙ omega (arith, s .extra)
 
 pub length-place : (l : List (ℕ × Monitor)) → Short l → (h : ℕ) → length (placeIn l h) ≡ monitorSize
 unfolding monitorPlace
@@ -53,7 +77,7 @@ length-place l s h = go (find l h) refl
   where
     go : (o : Option Monitor) → find l h ≡ o → length (monitorPlace h o) ≡ monitorSize
     go none e = refl
-    go (some m) e = length-full (h, m) (find-all (λ x. length (x .1 .condition) ≤ mostCondition) l h m s e)
+    go (some m) e = length-full h m (find-all (λ x. Sized (x .1)) l h m s e)
 
 -- the table: 16 rows, the row of handle h at place h
 pub length-monitorBlock : (l : List (ℕ × Monitor)) → Short l → length (monitorBlock l) ≡ monitorsSize
@@ -81,9 +105,51 @@ inUse-some h m f =
     let a : Accepted m = accepted m (f .accept) in
     ap not (ne-eqb (m .interval) 0 (λ (e : m .interval ≡ 0). omega (arith, a .interval-least)))
 
-pub monitorIn-some : (h : ℕ) (m : Monitor) → monitorIn (monitorPlace h (some m)) ≡ (h, m)
-unfolding monitorPlace padTo
-monitorIn-some h m = monitorIn-row (h, m) (replicate (monitorSize - length (monitorRow (h, m))) 0)
+-- the added parameters are read from their octets: Monitor_options is not 0 in version 2, which forbids it
+read-added : (l : List ℕ) → not (noOption l) ≡ true → extraIn l ≡ some l
+unfolding extraIn noOption options pick
+read-added l e = go (getD l 0 0) (eqb (getD l 0 0) 0) refl e
+  where
+    go : (o : ℕ) (t : Bool) → eqb o 0 ≡ t → not (eqb (o % 64) 0) ≡ true → pick t none (some l) ≡ some l
+    go o true z x = absurd (false≢true (rw (eqb-true o 0 z) at x))
+    go o false z x = refl
+
+option-of : (a : List ℕ) (sampling kind : ℕ) → allowed a sampling kind ≡ true → not (noOption a) ≡ true
+unfolding allowed
+option-of a sampling kind e =
+    let n = not (noOption a) in
+    let k = not (noKey a) in
+    let d = not (twoDevices a kind) in
+    let s = not (sampledSifting a sampling) in
+    and-left n k (and-left (n && k) d (and-left (n && k && d) s (and-left (n && k && d && s) (leb (peerType a) 1) e)))
+
+none-read : extraIn (replicate extraSize 0) ≡ none
+unfolding extraIn pick
+none-read = refl
+
+extra-read : (o : Option (List ℕ)) (sampling kind : ℕ) → allowed (parametersOf o) sampling kind ≡ true → extraIn (extraRow o) ≡ o
+unfolding extraRow parametersOf
+extra-read none sampling kind e = none-read
+extra-read (some l) sampling kind e = read-added l (option-of l sampling kind e)
+
+pub monitor-extra : (m : Monitor) → accepts m ≡ true → extraIn (extraRow (m .extra)) ≡ m .extra
+unfolding parameters
+monitor-extra m e = extra-read (m .extra) (m .sampling) (m .kind) (accepted m e .permitted)
+
+-- the part of a row behind the condition's room
+pub drop-fields : (h : ℕ) (m : Monitor) → Sized m → take extraSize (drop extraAt (rowOf h m)) ≡ extraRow (m .extra)
+drop-fields h m s =
+    ap (λ (l : List ℕ). take extraSize l) (drop-at (padTo extraAt (monitorRow (h, m))) (extraRow (m .extra)) extraAt (length-fields (h, m) s))
+    ∙ take-all extraSize (extraRow (m .extra)) (omega (arith, s .extra))
+
+pub monitorIn-some : (h : ℕ) (m : Monitor) → SoundMonitor m → monitorIn (monitorPlace h (some m)) ≡ (h, m)
+unfolding monitorPlace monitorIn padTo
+monitorIn-some h m f =
+    let z : List ℕ = replicate (extraAt - length (monitorRow (h, m))) 0 in
+    let a : List ℕ = take extraSize (drop extraAt (rowOf h m)) in
+    ap (λ (r : List ℕ). monitorFrom r a) (append-assoc (monitorRow (h, m)) z (extraRow (m .extra)))
+    ∙ monitorFrom-row (h, m) (z ++ extraRow (m .extra)) a
+    (ap extraIn (drop-fields h m (sound-sized m f)) ∙ monitor-extra m (f .accept))
 
 -- the monitors read from the rows of handles k on
 read-from : (l : List (ℕ × Monitor)) (n k : ℕ) (r : List (ℕ × Monitor)) → k + n ≡ mostMonitors → SoundMonitors k r
@@ -112,7 +178,7 @@ read-from l (suc n) k (x ∷ r) e f q =
         → map monitorIn (keep inUse (from (λ h. monitorPlace h (find l h)) k (suc n))) ≡ x ∷ r
     here i ih =
         let s : find l k ≡ some (x .1) = q k (omega arith) ∙ rw (eq-eqb (x .0) k (sym i)) in
-        rw (s, inUse-some k (x .1) (f .monitors .0), monitorIn-some k (x .1), ih i, i)
+        rw (s, inUse-some k (x .1) (f .monitors .0), monitorIn-some k (x .1) (f .monitors .0), ih i, i)
 
     above : k < x .0 → map monitorIn (keep inUse (from (λ h. monitorPlace h (find l h)) (suc k) n)) ≡ x ∷ r
         → map monitorIn (keep inUse (from (λ h. monitorPlace h (find l h)) k (suc n))) ≡ x ∷ r
@@ -134,6 +200,11 @@ every-places f zero h = refl
 every-places f (suc k) h =
     octets-append (upTo f k) (f k) (every-places f k (λ i b. h i (omega arith))) (h k (omega arith))
 
+extra-octets : (o : Option (List ℕ)) → soundExtra o ≡ true → every isOctet (extraRow o) ≡ true
+unfolding soundExtra extraRow
+extra-octets none e = octets-zeros extraSize
+extra-octets (some l) e = and-right (eqb (length l) extraSize) (every isOctet l) e
+
 pub monitorBlock-octets : (l : List (ℕ × Monitor)) → SoundMonitors 0 l → every isOctet (monitorBlock l) ≡ true
 unfolding monitorBlock monitorPlace
 monitorBlock-octets l f = every-places (placeIn l) mostMonitors (λ h b. go h b (find l h) refl)
@@ -141,8 +212,9 @@ monitorBlock-octets l f = every-places (placeIn l) mostMonitors (λ h b. go h b 
     go : (h : ℕ) → h < mostMonitors → (o : Option Monitor) → find l h ≡ o → every isOctet (monitorPlace h o) ≡ true
     go h b none e = octets-zeros monitorSize
     go h b (some m) e =
-        padTo-octets monitorSize (monitorRow (h, m)) (sound-monitorRow (h, m) (omega arith)
-        (find-all (λ x. SoundMonitor (x .1)) l h m (f .monitors) e))
+        let s : SoundMonitor m = find-all (λ x. SoundMonitor (x .1)) l h m (f .monitors) e in
+        octets-append (padTo extraAt (monitorRow (h, m))) (extraRow (m .extra))
+        (padTo-octets extraAt (monitorRow (h, m)) (sound-monitorRow (h, m) (omega arith) s)) (extra-octets (m .extra) (s .extra-sound))
 
 -- a row written in the table: the table of other monitors, where these agree at every other handle
 pub put-monitorBlock : (l r : List (ℕ × Monitor)) → Short l → Short r → (h : ℕ) → h < mostMonitors
@@ -154,13 +226,12 @@ put-monitorBlock l r s t h b q =
     (λ j c n. ap (monitorPlace j) (sym (q j n)))
 
 -- a monitor's row written, and a row cleared
-pub put-insert : (l : List (ℕ × Monitor)) → Short l → (h : ℕ) (x : Monitor) → h < mostMonitors → length (x .condition) ≤ mostCondition
-    → find l h ≡ none
-    → put (monitorBlock l) (monitorSize * h) (padTo monitorSize (monitorRow (h, x))) ≡ monitorBlock (insert h x l)
+pub put-insert : (l : List (ℕ × Monitor)) → Short l → (h : ℕ) (x : Monitor) → h < mostMonitors → Sized x → find l h ≡ none
+    → put (monitorBlock l) (monitorSize * h) (rowOf h x) ≡ monitorBlock (insert h x l)
 unfolding monitorPlace
 put-insert l s h x b c e =
     rw (find-insert-same h x l e) at (
-    put-monitorBlock l (insert h x l) s (all-insert (λ y. length (y .1 .condition) ≤ mostCondition) h x l c s) h b
+    put-monitorBlock l (insert h x l) s (all-insert (λ y. Sized (y .1)) h x l c s) h b
     (λ g n. find-insert-other h g x l (λ i. n (sym i))))
 
 pub put-remove : (l : List (ℕ × Monitor)) → Short l → (h : ℕ) → h < mostMonitors
@@ -168,5 +239,5 @@ pub put-remove : (l : List (ℕ × Monitor)) → Short l → (h : ℕ) → h < m
 unfolding monitorPlace
 put-remove l s h b =
     rw (find-remove-same h l) at (
-    put-monitorBlock l (remove h l) s (all-remove (λ y. length (y .1 .condition) ≤ mostCondition) h l s) h b
+    put-monitorBlock l (remove h l) s (all-remove (λ y. Sized (y .1)) h l s) h b
     (λ g n. find-remove-other h g l (λ i. n (sym i))))

@@ -3,6 +3,7 @@
 use Prim.Native.Nat.{ℕ, zero, suc, _+_, _-_, _^_, _≤_, _<_}
 use mathlib.Core.Path.{_≡_, refl, ap, _∙_}
 use mathlib.Core.Bool.{true}
+use mathlib.Core.Option.{Option}
 use mathlib.Core.List.{List, [], _∷_, _++_, append-assoc}
 use native.Mathlib.Omega.{arith}
 use native.Mathlib.Nat.{mod-eq-of-lt}
@@ -14,7 +15,7 @@ use Rattle.laws.specs.Loops.{every, every-append}
 use Rattle.octets.specs.Little.{little, octetsOf, isOctet, value, little-value, value-octets, length-octets}
 use Rattle.octets.specs.Little.{octets-octets}
 use Rattle.model.specs.Types.{Model, Monitor, Pair}
-use Rattle.model.specs.Image.{headRow, monitorRow, pairRow, monitorIn, pairIn}
+use Rattle.model.specs.Image.{headRow, monitorRow, pairRow, extraIn, monitorFrom, pairIn}
 use Rattle.model.specs.Block.{padTo}
 use Rattle.model.specs.Layout.{dataAt, lengthAt}
 
@@ -35,10 +36,16 @@ pub length-padTo : (n : ℕ) (r : List ℕ) → length r ≤ n → length (padTo
 unfolding padTo
 length-padTo n r h = simp (length-append, length-replicate) (omega arith)
 
--- a monitor's row holds the monitor, whatever stands behind it
-pub monitorIn-row : (x : ℕ × Monitor) (zs : List ℕ) → monitorIn (monitorRow x ++ zs) ≡ x
-unfolding monitorIn monitorRow
-monitorIn-row x zs = rw (take-append-seam (x .1 .condition) zs)
+-- two monitors with the same fields are one
+pub monitor-eq : {e : Option (List ℕ)} {c : List ℕ} (x : ℕ × Monitor) → c ≡ x .1 .condition → e ≡ x .1 .extra
+    → _≡_ {A = ℕ × Monitor}
+    (x .0, record { high = x .1 .high; low = x .1 .low; interval = x .1 .interval; sampling = x .1 .sampling; kind = x .1 .kind; condition = c; extra = e }) x
+monitor-eq x f g = rw (f, g)
+
+-- a monitor's row holds the monitor, whatever stands behind it, with what is added in another list
+pub monitorFrom-row : (x : ℕ × Monitor) (zs a : List ℕ) → extraIn a ≡ x .1 .extra → monitorFrom (monitorRow x ++ zs) a ≡ x
+unfolding monitorFrom monitorRow
+monitorFrom-row x zs a e = monitor-eq x (take-append-seam (x .1 .condition) zs) e
 
 -- reading past the first elements of a list
 module _ (p xs : List ℕ) (n : ℕ) (e : length p ≡ n) where

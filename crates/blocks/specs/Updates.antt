@@ -14,13 +14,13 @@ use Rattle.rule.specs.Base.{All}
 use Rattle.rule.specs.Engine.{find, insert, remove}
 use Rattle.rule.specs.Finds.{all-insert, all-remove}
 use Rattle.model.specs.Types.{Model, Monitor, Pair, withLists, withFilter, moved}
-use Rattle.model.specs.Image.{headRow, monitorRow}
+use Rattle.model.specs.Image.{headRow}
 use Rattle.model.specs.Block.{padTo, monitorBlock, pairBlock, padded, advanced}
 use Rattle.blocks.specs.Bounds.{Fits}
-use Rattle.blocks.specs.Monitors.{length-full, length-monitorBlock, put-insert, put-remove}
+use Rattle.blocks.specs.Monitors.{Sized, rowOf, length-full, length-monitorBlock, put-insert, put-remove}
 use Rattle.blocks.specs.Pairs.{length-pairBlock}
 use Rattle.blocks.specs.Block.{Measured, tables, ending, length-head, read-position}
-use Rattle.model.specs.Layout.{countAt, filterAt, headSize, monitorSize, monitorsAt, monitorsSize, mostCondition, mostMonitors, mostPairs, pairsAt, pairsSize, positionAt}
+use Rattle.model.specs.Layout.{countAt, filterAt, headSize, monitorSize, monitorsAt, monitorsSize, mostMonitors, mostPairs, pairsAt, pairsSize, positionAt}
 
 -- one frame further
 pub put-position : (m : Model) → put (padded m) 0 (octetsOf 4 (m .position + 1)) ≡ padded (moved m)
@@ -54,13 +54,13 @@ unfolding withFilter
 measured-filter m f on =
     record { prefix-most = f .prefix-most; short = f .short; fit = f .fit; pairs-most = f .pairs-most }
 
-pub measured-insert : (m : Model) → Measured m → (h : ℕ) (x : Monitor) → length (x .condition) ≤ mostCondition
+pub measured-insert : (m : Model) → Measured m → (h : ℕ) (x : Monitor) → Sized x
     → Measured (withLists m (insert h x (m .mons)) (m .pairs))
 unfolding withLists
 measured-insert m f h x c =
     record {
       prefix-most = f .prefix-most;
-      short = all-insert (λ y. length (y .1 .condition) ≤ mostCondition) h x (m .mons) c (f .short);
+      short = all-insert (λ y. Sized (y .1)) h x (m .mons) c (f .short);
       fit = f .fit;
       pairs-most = f .pairs-most;
     }
@@ -70,7 +70,7 @@ unfolding withLists
 measured-remove m f h =
     record {
       prefix-most = f .prefix-most;
-      short = all-remove (λ y. length (y .1 .condition) ≤ mostCondition) h (m .mons) (f .short);
+      short = all-remove (λ y. Sized (y .1)) h (m .mons) (f .short);
       fit = f .fit;
       pairs-most = f .pairs-most;
     }
@@ -98,13 +98,11 @@ room : (h : ℕ) → h < mostMonitors → monitorSize * h + monitorSize ≤ moni
 room h b = omega arith
 
 -- a monitor's row written at a handle not live, and a handle's row cleared
-pub put-monitor : (m : Model) → Measured m → (h : ℕ) (x : Monitor) → h < mostMonitors → length (x .condition) ≤ mostCondition
-    → find (m .mons) h ≡ none
-    → put (padded m) (monitorsAt + monitorSize * h) (padTo monitorSize (monitorRow (h, x))) ≡ padded
-    (withLists m (insert h x (m .mons)) (m .pairs))
+pub put-monitor : (m : Model) → Measured m → (h : ℕ) (x : Monitor) → h < mostMonitors → Sized x → find (m .mons) h ≡ none
+    → put (padded m) (monitorsAt + monitorSize * h) (rowOf h x) ≡ padded (withLists m (insert h x (m .mons)) (m .pairs))
 put-monitor m f h x b c e =
-    let n : length (padTo monitorSize (monitorRow (h, x))) ≡ monitorSize = length-full (h, x) c in
-    put-monitors m f (insert h x (m .mons)) (monitorSize * h) (padTo monitorSize (monitorRow (h, x))) (omega arith)
+    let n : length (rowOf h x) ≡ monitorSize = length-full h x c in
+    put-monitors m f (insert h x (m .mons)) (monitorSize * h) (rowOf h x) (omega arith)
     (put-insert (m .mons) (f .short) h x b c e)
 
 pub clear-monitor : (m : Model) → Measured m → (h : ℕ) → h < mostMonitors

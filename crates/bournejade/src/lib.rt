@@ -1,5 +1,5 @@
 // The library for firmware in C: the calls of document 01 on numbers and octets, for `rt staticlib bournejade`. The header
-// is include/bournejade.h. The state is the caller's block of 4,825 octets, lent to each call and changed in place; any octets in it are
+// is include/bournejade.h. The state is the caller's block of 5,225 octets, lent to each call and changed in place; any octets in it are
 // met. Each call returns 0 or the refusal's number, and gives the counts of octets through the last parameters.
 ghost use mathlib.Core.Path.{_≡_};
 ghost use lib.ListN.{length};

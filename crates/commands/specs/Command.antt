@@ -26,7 +26,8 @@ use Rattle.steps.specs.Executed.{commanded-same}
 use Rattle.steps.specs.Stepped.{Steps}
 use Rattle.statuses.specs.Answers.{octet-at}
 use Rattle.commands.specs.Replies.{Replied}
-use Rattle.commands.specs.Ran.{Ran, Runs, ran-failed, opcode-at}
+use Rattle.statuses.specs.Statuses.{addsBy}
+use Rattle.commands.specs.Ran.{Ran, Runs, adds-of, failure-other, ran-failed, opcode-at}
 use Rattle.model.specs.Layout.{blockSize, opcodeAt, positionAt}
 
 -- the sub-opcode that was read
@@ -37,18 +38,16 @@ sub-is l n g e = sym (octet-at l 0 g) ∙ e
 -- every other sub-opcode
 pub other-failed : (m : Model) (s l out : List ℕ) {after wrote : List ℕ} {n o k : ℕ} → soundModel m ≡ true → s
     ≡ padded m
-    → o ≡ numberAt 2 s opcodeAt → k ≡ numberAt 1 l 0 → (k ≡ 0 → ⊥) → (k ≡ 3 → ⊥) → (k ≡ 4 → ⊥) → (k ≡ 5 → ⊥) → after ≡ s
+    → o ≡ numberAt 2 s opcodeAt → k ≡ numberAt 1 l 0 → (k ≡ 0 → ⊥) → addsBy k ≡ false → (k ≡ 4 → ⊥) → (k ≡ 5 → ⊥) → after ≡ s
     → Replied out wrote n (complete o (1 ∷ k ∷ [])) → Ran m l after out wrote n
-unfolding status failure subOf
+unfolding status
 other-failed m s l out {after} {wrote} {n} {o} {k} e q p g a b c d w r =
-    let u : subOf l ≡ k = sym (octet-at l 0 g) in
+    let u : subOf l ≡ k = sub-is l k g refl in
     let t : status m l ≡ 1 =
-    pick-false _ _ (ne-eqb (subOf l) 0 (λ y. a (sym u ∙ y))) ∙ pick-false _ _ (ne-eqb (subOf l) 3 (λ y. b (sym u ∙ y)))
+    pick-false _ _ (ne-eqb (subOf l) 0 (λ y. a (sym u ∙ y))) ∙ pick-false _ _ (adds-of l (sym u) b)
     ∙ pick-false _ _ (ne-eqb (subOf l) 4 (λ y. c (sym u ∙ y))) ∙ pick-false _ _ (ne-eqb (subOf l) 5 (λ y. d (sym u
     ∙ y))) in
-    let f : failure (status m l) l ≡ 1 ∷ k ∷ [] =
-    pick-false _ _ (ne-eqb (subOf l) 3 (λ y. b (sym u ∙ y))) ∙ ap (λ (x : ℕ). x ∷ subOf l ∷ []) t
-    ∙ ap (λ (x : ℕ). 1 ∷ x ∷ []) u in
+    let f : failure (status m l) l ≡ 1 ∷ k ∷ [] = failure-other (status m l) l k u b ∙ ap (λ (x : ℕ). x ∷ k ∷ []) t in
     ran-failed m l out (λ (y : status m l ≡ 0). omega arith) f (w ∙ q) (rw (opcode-at m s e q p) at r)
 
 -- the position moved

@@ -1,5 +1,5 @@
 -- What a status of 0 says of the parameters: what the changes ask for. Document 01, Commands. Assumes nothing.
-use Prim.Native.Nat.{ℕ, _-_, _≤_, _<_}
+use Prim.Native.Nat.{ℕ, _+_, _-_, _≤_, _<_}
 use mathlib.Core.Path.{_≡_, refl, sym, ap, _∙_}
 use mathlib.Core.Logic.{inl, inr}
 use mathlib.Core.Bool.{Bool, true, false, not, false≢true}
@@ -9,12 +9,13 @@ use lib.Dec.{ltb, eqb}
 use lib.ListN.{length, drop, length-drop}
 use borrow.Author.Tests.{eqb-true, eq-eqb, ltb-true, ltb-false}
 use Rattle.laws.specs.Tests.{pick, both}
-use Rattle.model.specs.Monitors.{faultOf, monitorOf, accepts, invalid, full}
+use Rattle.model.specs.Monitors.{faultOf, monitorOf, typeIn, accepts, invalid, full, unknown}
 use Rattle.model.specs.Accepted.{Accepted, accepted, pick-none}
-use Rattle.model.specs.Commands.{table, paramsIn}
-use Rattle.statuses.specs.Statuses.{addOf, cancelOf}
+use Rattle.model.specs.Commands.{table, paramsIn, subOf}
+use Rattle.statuses.specs.Statuses.{addsBy, typeBy, addOf, cancelOf}
+use Rattle.statuses.specs.Second.{type-said, type-least, type-five, type-last}
+use Rattle.commands.specs.Stored.{Enough}
 use Rattle.commands.specs.Handles.{liveAt}
-use Rattle.model.specs.Layout.{paramsMost}
 use Rattle.model.specs.Layout.{mostMonitors}
 
 -- a status that is none: the test held, and what it then gives is none
@@ -23,41 +24,51 @@ unfolding pick
 pick-zero true a b h e = (refl, e)
 pick-zero false a b h e = absurd (omega arith)
 
--- 03: room, and parameters that fit the row
+-- 03 and 0F: room, and parameters that fit the row
+record Said (h : ℕ) (l : List ℕ) : Type 0 where
+  enough : ltb (length l) (paramsIn table (subOf l)) ≡ false
+  fault : faultOf (monitorOf l) ≡ 0
+  room : ltb h mostMonitors ≡ true
+
 module _ (h : ℕ) (l : List ℕ) {r : ℕ} (f : r ≡ addOf (ltb h mostMonitors) l) (z : r ≡ 0) where
-  said : (ltb (length l) (paramsIn table 3) ≡ false) × (faultOf (monitorOf l) ≡ 0) × (ltb h mostMonitors ≡ true)
+  said : Said h l
   unfolding addOf
   said =
-      let n : ℕ = faultOf (monitorOf l) in
-      let a = pick-none (ltb (length l) (paramsIn table 3)) invalid _ (omega arith) (sym f ∙ z) in
-      go n refl (a .0) (a .1)
+      let b = pick-none (not (addsBy (subOf l))) unknown _ (omega arith) (sym f ∙ z) in
+      let a = pick-none (ltb (length l) (paramsIn table (subOf l))) invalid _ (omega arith) (b .1) in
+      go (a .0) (a .1)
     where
-      go : (n : ℕ) → faultOf (monitorOf l) ≡ n → ltb (length l) (paramsIn table 3) ≡ false
-          → pick (not (eqb (faultOf (monitorOf l)) 0)) (faultOf (monitorOf l)) (pick (ltb h mostMonitors) 0 full) ≡ 0
-          → (ltb (length l) (paramsIn table 3) ≡ false) × (faultOf (monitorOf l) ≡ 0) × (ltb h mostMonitors ≡ true)
-      go n e a b = elim (both (eqb (faultOf (monitorOf l)) 0)) [
-        | inl t ↦ (
-          a,
-          eqb-true (faultOf (monitorOf l)) 0 t,
-          pick-zero (ltb h mostMonitors) 0 full (omega arith) (sym (Rattle.laws.specs.Tests.pick-false _ _ (ap not t)) ∙ b) .0,
-        )
+      go : ltb (length l) (paramsIn table (subOf l)) ≡ false
+          → pick (not (eqb (faultOf (monitorOf l)) 0)) (faultOf (monitorOf l)) (pick (ltb h mostMonitors) 0 full) ≡ 0 → Said h l
+      go a b = elim (both (eqb (faultOf (monitorOf l)) 0)) [
+        | inl t ↦ record {
+          enough = a;
+          fault = eqb-true (faultOf (monitorOf l)) 0 t;
+          room =
+              pick-zero (ltb h mostMonitors) 0 full (omega arith) (sym (Rattle.laws.specs.Tests.pick-false _ _ (ap not t)) ∙ b) .0;
+        }
         | inr t ↦ absurd (false≢true (sym t ∙ eq-eqb (faultOf (monitorOf l)) 0
             (sym (Rattle.laws.specs.Tests.pick-true _ _ (ap not t)) ∙ b)))
       ]
 
   pub add-handle : h < mostMonitors
-  add-handle = ltb-true h mostMonitors (said .2)
+  add-handle = ltb-true h mostMonitors (said .room)
 
-  pub add-enough : 6 ≤ length l
-  unfolding table paramsIn pick
-  add-enough = ltb-false (length l) 6 (said .0)
-
-  pub add-most : length l ≤ paramsMost
+  pub add-enough : {sub at : ℕ} → sub ≡ subOf l → addsBy sub ≡ true → at ≡ typeBy sub → Enough at l
   unfolding accepts monitorOf
-  add-most =
-      let a : Accepted (monitorOf l) = accepted (monitorOf l) (eq-eqb (faultOf (monitorOf l)) 0 (said .1)) in
-      let n : length (drop 6 l) ≡ length l - 6 = length-drop 6 l in
-      omega (arith, a .short)
+  add-enough {sub} {at} u t e =
+      let a : Accepted (monitorOf l) = accepted (monitorOf l) (eq-eqb (faultOf (monitorOf l)) 0 (said .fault)) in
+      let p : at ≡ typeIn l = e ∙ type-said l u in
+      let n : length (drop (typeIn l + 1) l) ≡ length l - (typeIn l + 1) = length-drop (typeIn l + 1) l in
+      let g : typeBy sub + 1 ≡ paramsIn table (subOf l) = type-least sub t ∙ ap (paramsIn table) u in
+      let m : paramsIn table (subOf l) ≤ length l = ltb-false (length l) (paramsIn table (subOf l)) (said .enough) in
+      record {
+        place = p;
+        least = omega (arith, type-five sub);
+        last = omega (arith, type-last sub);
+        type = omega arith;
+        most = omega (arith, a .short);
+      }
 
 -- 04: a handle that is live
 module _ (s l : List ℕ) (h : ℕ) {t : Bool} {r : ℕ} (v : t ≡ liveAt s h) (f : r ≡ cancelOf t l) (z : r ≡ 0) where

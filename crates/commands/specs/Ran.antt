@@ -1,12 +1,12 @@
 -- What a command leaves, before the position moves: each command with each outcome. Document 01, Commands. Assumes
 -- nothing.
-use Prim.Native.Nat.{ℕ, _+_, _-_, _*_, _≤_, _<_}
+use Prim.Native.Nat.{ℕ, _+_, _*_, _<_}
 use mathlib.Core.Path.{_≡_, refl, sym, ap, _∙_}
-use mathlib.Core.Bool.{Bool, true, false}
+use mathlib.Core.Bool.{Bool, true, false, false≢true}
 use mathlib.Core.List.{List, [], _∷_}
 use native.Mathlib.Omega.{arith}
 use lib.Dec.{ltb, eqb}
-use lib.ListN.{length, drop, getD, set, length-drop}
+use lib.ListN.{length, getD, set}
 use borrow.Author.Tests.{eq-eqb, ne-eqb}
 use Rattle.laws.specs.Tests.{pick, pick-true, pick-false}
 use Rattle.laws.specs.Put.{put}
@@ -14,23 +14,23 @@ use Rattle.octets.specs.Numbers.{numberAt, number-of}
 use Rattle.rule.specs.Engine.{find}
 use Rattle.model.specs.Types.{Model, withFilter}
 use Rattle.model.specs.Monitors.{monitorOf}
-use Rattle.model.specs.Image.{monitorRow}
-use Rattle.model.specs.Commands.{present, subOf, readStatus, addStatus, cancelStatus, enableStatus}
+use Rattle.model.specs.Commands.{present, subOf, adds, readStatus, addStatus, cancelStatus, enableStatus}
 use Rattle.model.specs.Commands.{status}
 use Rattle.model.specs.Commands.{newHandle, success, failure, returned, cancelled, added, changed, commanded}
 use Rattle.model.specs.Events.{complete}
 use Rattle.model.specs.Sound.{soundModel}
-use Rattle.model.specs.Block.{padTo, padded}
+use Rattle.model.specs.Block.{padded}
 use Rattle.blocks.specs.Facts.{SoundModel, sound-facts}
 use Rattle.blocks.specs.Block.{measured, padded-length, opcode-read, read-filter}
+use Rattle.blocks.specs.Monitors.{rowOf}
 use Rattle.blocks.specs.Updates.{put-monitor, set-filter}
-use Rattle.statuses.specs.Statuses.{addOf, cancelOf, enableOf, add-of, cancel-of, enable-of}
+use Rattle.statuses.specs.Statuses.{addsBy, addOf, cancelOf, enableOf, add-of, cancel-of, enable-of}
 use Rattle.statuses.specs.Answers.{octet-at}
 use Rattle.steps.specs.Stepped.{Within}
 use Rattle.commands.specs.Handles.{liveAt, lowest, live-present, slot-room, slot-handle, slot-free}
 use Rattle.commands.specs.Handles.{slot-added}
 use Rattle.commands.specs.Replies.{Replied, featuresOf, prefixIn, prefix-read}
-use Rattle.model.specs.Layout.{paramsMost}
+use Rattle.commands.specs.Stored.{Enough, enough-sized}
 use Rattle.model.specs.Layout.{blockSize, filterAt, monitorSize, monitorsAt, mostMonitors, opcodeAt}
 
 -- The command l took the block of the state m to `after`, but for the position, and the output from `out` to `wrote`.
@@ -43,62 +43,71 @@ abbrev pub Runs : List ℕ → List ℕ → List ℕ → List ℕ → List ℕ �
 Runs l s after out wrote n =
     ((m : Model) → soundModel m ≡ true → s ≡ padded m → Ran m l after out wrote n) × Within out wrote n
 
+-- a monitor's command is no other
+pub adds-of : (l : List ℕ) {sub : ℕ} {t : Bool} → sub ≡ subOf l → addsBy sub ≡ t → adds l ≡ t
+unfolding adds addsBy
+adds-of l e f = rw (sym e) f
+
+pub adds-read : (l : List ℕ) → adds l ≡ true → eqb (subOf l) 0 ≡ false
+unfolding adds
+adds-read l e = ne-eqb (subOf l) 0 (λ z. false≢true (rw z at e))
+
 -- what each sub-opcode says
 module _ (m : Model) (l : List ℕ) where
   status-read : subOf l ≡ 0 → status m l ≡ readStatus l
   unfolding status pick
   status-read e = rw e
 
-  status-add : subOf l ≡ 3 → status m l ≡ addStatus m l
-  unfolding status pick
-  status-add e = rw e
+  status-add : adds l ≡ true → status m l ≡ addStatus m l
+  unfolding status
+  status-add e = pick-false (readStatus l) _ (adds-read l e) ∙ pick-true (addStatus m l) _ e
 
   status-cancel : subOf l ≡ 4 → status m l ≡ cancelStatus m l
-  unfolding status pick
+  unfolding status adds pick
   status-cancel e = rw e
 
   status-enable : subOf l ≡ 5 → status m l ≡ enableStatus m l
-  unfolding status pick
+  unfolding status adds pick
   status-enable e = rw e
 
   success-read : subOf l ≡ 0 → success m l ≡ featuresOf (m .prefix)
   unfolding success featuresOf pick
   success-read e = rw e
 
-  success-add : subOf l ≡ 3 → success m l ≡ 0 ∷ 3 ∷ newHandle m ∷ []
-  unfolding success pick
-  success-add e = rw e
+  success-add : adds l ≡ true → success m l ≡ 0 ∷ subOf l ∷ newHandle m ∷ []
+  unfolding success
+  success-add e = pick-false _ _ (adds-read l e) ∙ pick-true _ (0 ∷ subOf l ∷ []) e
 
   success-cancel : subOf l ≡ 4 → success m l ≡ 0 ∷ 4 ∷ []
-  unfolding success pick
+  unfolding success adds pick
   success-cancel e = rw e
 
   success-enable : subOf l ≡ 5 → success m l ≡ 0 ∷ 5 ∷ []
-  unfolding success pick
+  unfolding success adds pick
   success-enable e = rw e
 
   changed-read : subOf l ≡ 0 → changed m l ≡ m
-  unfolding changed pick
+  unfolding changed adds pick
   changed-read e = rw e
 
-  changed-add : subOf l ≡ 3 → changed m l ≡ added m (monitorOf l)
-  unfolding changed pick
-  changed-add e = rw e
+  changed-add : adds l ≡ true → changed m l ≡ added m (monitorOf l)
+  unfolding changed
+  changed-add e = pick-true (added m (monitorOf l)) _ e
 
   changed-cancel : subOf l ≡ 4 → changed m l ≡ cancelled m (getD l 1 0)
-  unfolding changed pick
+  unfolding changed adds pick
   changed-cancel e = rw e
 
   changed-enable : subOf l ≡ 5 → changed m l ≡ withFilter m (getD l 1 0)
-  unfolding changed pick
+  unfolding changed adds pick
   changed-enable e = rw e
 
-failure-add : (s : ℕ) (l : List ℕ) → subOf l ≡ 3 → failure s l ≡ s ∷ 3 ∷ 0 ∷ []
-unfolding failure pick
-failure-add s l e = rw e
-
-failure-other : (s : ℕ) (l : List ℕ) (k : ℕ) → subOf l ≡ k → eqb k 3 ≡ false → failure s l ≡ s ∷ k ∷ []
+failure-add : (s : ℕ) (l : List ℕ) → adds l ≡ true → failure s l ≡ s ∷ subOf l ∷ 0 ∷ []
 unfolding failure
+failure-add s l e = pick-true (s ∷ subOf l ∷ 0 ∷ []) _ e
+
+pub failure-other : (s : ℕ) (l : List ℕ) (k : ℕ) → subOf l ≡ k → addsBy k ≡ false → failure s l ≡ s ∷ k ∷ []
+unfolding failure adds addsBy
 failure-other s l k e t = rw e (pick-false _ _ t)
 
 -- success and failure, whatever the command
@@ -136,9 +145,9 @@ module _ (m : Model) (s l : List ℕ) (e : soundModel m ≡ true) (q : s ≡ pad
   low : {h : ℕ} → h ≡ lowest s mostMonitors 0 → h ≡ lowest (padded m) mostMonitors 0
   low g = g ∙ ap (λ (x : List ℕ). lowest x mostMonitors 0) q
 
-  add-said : {h r : ℕ} → subOf l ≡ 3 → h ≡ lowest s mostMonitors 0 → r ≡ addOf (ltb h mostMonitors) l → status m l ≡ r
+  add-said : {h r : ℕ} → adds l ≡ true → h ≡ lowest s mostMonitors 0 → r ≡ addOf (ltb h mostMonitors) l → status m l ≡ r
   add-said u g f =
-      status-add m l u ∙ add-of m l ∙ ap (λ (t : Bool). addOf t l) (sym (slot-room m (sound-facts m e) (low g))) ∙ sym f
+      status-add m l u ∙ add-of m l u ∙ ap (λ (t : Bool). addOf t l) (sym (slot-room m (sound-facts m e) (low g))) ∙ sym f
 
   cancel-said : {h r : ℕ} {t : Bool} → subOf l ≡ 4 → h ≡ numberAt 1 l 1 → t ≡ liveAt s h → r ≡ cancelOf t l
       → status m l ≡ r
@@ -168,31 +177,33 @@ module _ (m : Model) (s l : List ℕ) (e : soundModel m ≡ true) (q : s ≡ pad
 
     pub read-failed : subOf l ≡ 0 → r ≡ readStatus l → (r ≡ 0 → ⊥) → after ≡ s
         → Replied out wrote n (complete o (r ∷ 0 ∷ [])) → Ran m l after out wrote n
+    unfolding addsBy
     read-failed u f z b w =
         let t : status m l ≡ r = status-read m l u ∙ sym f in
         ran-failed m l out (λ y. z (sym t ∙ y)) (failure-other (status m l) l 0 u refl
         ∙ ap (λ (x : ℕ). x ∷ 0 ∷ []) t) (b ∙ q)
         (opened out _ p w)
 
-    -- 03
-    pub add-done : {h : ℕ} → subOf l ≡ 3 → h ≡ lowest s mostMonitors 0 → r ≡ addOf (ltb h mostMonitors) l → r ≡ 0 → h < mostMonitors → length l ≤ paramsMost
-        → 6 ≤ length l → after ≡ put s (monitorsAt + monitorSize * h) (padTo monitorSize (monitorRow (h, monitorOf l)))
-        → Replied out wrote n (complete o (0 ∷ 3 ∷ h ∷ [])) → Ran m l after out wrote n
-    unfolding monitorOf
-    add-done {h} u g f z b c k w y =
-        let d : length (drop 6 l) ≡ length l - 6 = length-drop 6 l in
+    -- 03 and 0F
+    pub add-done : {h sub at : ℕ} → sub ≡ subOf l → addsBy sub ≡ true → h ≡ lowest s mostMonitors 0 → r ≡ addOf (ltb h mostMonitors) l
+        → r ≡ 0 → h < mostMonitors → Enough at l
+        → after ≡ put s (monitorsAt + monitorSize * h) (rowOf h (monitorOf l))
+        → Replied out wrote n (complete o (0 ∷ sub ∷ h ∷ [])) → Ran m l after out wrote n
+    add-done {h} {sub} {at} i t g f z b c w y =
+        let u : adds l ≡ true = adds-of l i t in
         let a : SoundModel m = sound-facts m e in
         ran-done m l out (add-said u g f ∙ z) (changed-add m l u ∙ slot-added m a (low g) (monitorOf l) b)
-        (success-add m l u ∙ ap (λ (x : ℕ). 0 ∷ 3 ∷ x ∷ []) (slot-handle m a (low g) b))
-        (w ∙ ap (λ (x : List ℕ). put x (monitorsAt + monitorSize * h) (padTo monitorSize (monitorRow (h, monitorOf l)))) q
-        ∙ put-monitor m (measured m e) h (monitorOf l) b (omega arith) (slot-free m a (low g) b)) (opened out _ p y)
+        (success-add m l u ∙ ap (λ (x : ℕ). 0 ∷ subOf l ∷ x ∷ []) (slot-handle m a (low g) b) ∙ ap (λ (x : ℕ). 0 ∷ x ∷ h ∷ []) (sym i))
+        (w ∙ ap (λ (x : List ℕ). put x (monitorsAt + monitorSize * h) (rowOf h (monitorOf l))) q
+        ∙ put-monitor m (measured m e) h (monitorOf l) b (enough-sized at l c) (slot-free m a (low g) b)) (opened out _ p y)
 
-    pub add-failed : {h : ℕ} → subOf l ≡ 3 → h ≡ lowest s mostMonitors 0 → r ≡ addOf (ltb h mostMonitors) l → (r ≡ 0 → ⊥) → after ≡ s
-        → Replied out wrote n (complete o (r ∷ 3 ∷ 0 ∷ [])) → Ran m l after out wrote n
-    add-failed u g f z b w =
+    pub add-failed : {h sub : ℕ} → sub ≡ subOf l → addsBy sub ≡ true → h ≡ lowest s mostMonitors 0 → r ≡ addOf (ltb h mostMonitors) l
+        → (r ≡ 0 → ⊥) → after ≡ s → Replied out wrote n (complete o (r ∷ sub ∷ 0 ∷ [])) → Ran m l after out wrote n
+    add-failed {h} {sub} i v g f z b w =
+        let u : adds l ≡ true = adds-of l i v in
         let t : status m l ≡ r = add-said u g f in
         ran-failed m l out (λ y. z (sym t ∙ y)) (failure-add (status m l) l u
-        ∙ ap (λ (x : ℕ). x ∷ 3 ∷ 0 ∷ []) t) (b ∙ q)
+        ∙ ap (λ (x : ℕ). x ∷ subOf l ∷ 0 ∷ []) t ∙ ap (λ (x : ℕ). r ∷ x ∷ 0 ∷ []) (sym i)) (b ∙ q)
         (opened out _ p w)
 
     -- 04
@@ -204,6 +215,7 @@ module _ (m : Model) (s l : List ℕ) (e : soundModel m ≡ true) (q : s ≡ pad
 
     pub cancel-failed : {h : ℕ} {t : Bool} → subOf l ≡ 4 → h ≡ numberAt 1 l 1 → t ≡ liveAt s h → r ≡ cancelOf t l
         → (r ≡ 0 → ⊥) → after ≡ s → Replied out wrote n (complete o (r ∷ 4 ∷ [])) → Ran m l after out wrote n
+    unfolding addsBy
     cancel-failed u g v f z b w =
         let t : status m l ≡ r = cancel-said u g v f in
         ran-failed m l out (λ y. z (sym t ∙ y)) (failure-other (status m l) l 4 u refl
@@ -222,6 +234,7 @@ module _ (m : Model) (s l : List ℕ) (e : soundModel m ≡ true) (q : s ≡ pad
 
     pub enable-failed : subOf l ≡ 5 → r ≡ enableOf (getD s filterAt 0) l → (r ≡ 0 → ⊥) → after ≡ s
         → Replied out wrote n (complete o (r ∷ 5 ∷ [])) → Ran m l after out wrote n
+    unfolding addsBy
     enable-failed u f z b w =
         let t : status m l ≡ r = enable-said u f in
         ran-failed m l out (λ y. z (sym t ∙ y)) (failure-other (status m l) l 5 u refl

@@ -15,6 +15,8 @@ use Rattle.octets.specs.Little.{octetsOf, length-octets}
 use Rattle.octets.specs.Numbers.{atMost, at-is}
 use Rattle.model.specs.Types.{Model}
 use Rattle.model.specs.Commands.{table, answerIn, features}
+use Rattle.statuses.specs.Statuses.{addsBy}
+use Rattle.statuses.specs.Second.{adds-cases}
 use Rattle.model.specs.Events.{complete}
 use Rattle.model.specs.Sound.{soundModel}
 use Rattle.model.specs.Block.{padded}
@@ -57,9 +59,17 @@ pub answer-enable : answerIn table 5 ≡ 2
 unfolding table answerIn pick
 answer-enable = refl
 
-pub answer-handle : {n : ℕ} → n ≡ answerIn table 3 → n ≡ 3
+answer-first : answerIn table 0x03 ≡ 3
 unfolding table answerIn pick
-answer-handle e = e
+answer-first = refl
+
+answer-second : answerIn table 0x0F ≡ 3
+unfolding table answerIn pick
+answer-second = refl
+
+pub answer-add : (sub : ℕ) → addsBy sub ≡ true → answerIn table sub ≡ 3
+answer-add sub e =
+    adds-cases sub e (λ q. ap (answerIn table) q ∙ answer-first) (λ q. ap (answerIn table) q ∙ answer-second)
 
 -- the head and the return parameters
 pub complete-of : (opcode : ℕ) (ret : List ℕ) (n : ℕ) → n ≡ length ret → headOf opcode n ++ ret ≡ complete opcode ret

@@ -9,18 +9,20 @@ ghost use mathlib.Core.Bool.{true};
 ghost use lib.ListN.{length};
 ghost use Rattle.laws.specs.Put.{put};
 ghost use Rattle.model.specs.Monitors.{monitorOf};
-ghost use Rattle.model.specs.Image.{monitorRow};
 ghost use Rattle.model.specs.Types.{Model};
 ghost use Rattle.model.specs.Commands.{subOf, cancelled};
 ghost use Rattle.model.specs.Sound.{soundModel};
-ghost use Rattle.model.specs.Block.{padTo, padded};
+ghost use Rattle.model.specs.Block.{padded};
+ghost use Rattle.blocks.specs.Monitors.{rowOf};
+ghost use Rattle.statuses.specs.Statuses.{addsBy};
+ghost use Rattle.commands.specs.Stored.{Enough, fieldsOf, addedOf};
 ghost use Rattle.commands.specs.Handles.{busyAt, liveAt, lowest};
 ghost use Rattle.commands.specs.Kept.{keptOctets, keptCount};
 ghost use Rattle.commands.specs.Cancelled.{Compacted, Forgotten};
 ghost use Rattle.commands.specs.Ran.{Runs};
 ghost use Rattle.model.specs.Frames.{command as vendor};
 ghost use Rattle.steps.specs.Stepped.{Taken};
-ghost use Rattle.model.specs.Layout.{paramsMost, blockSize, monitorSize, monitorsAt, mostMonitors, mostPairs, pairSize, pairsAt};
+ghost use Rattle.model.specs.Layout.{extraSize, mostCondition, secondTypeIn, blockSize, monitorSize, monitorsAt, mostMonitors, mostPairs, pairSize, pairsAt};
 ghost use Rattle.sessions.specs.Machine.{answerRoom};
 
 // Whether the monitor row of a handle is in use.
@@ -57,19 +59,39 @@ fn free_handle(s: &[u8]) -> usize
     State::MONITORS
 }
 
-// Writes the row of a monitor under a handle, from the parameters of 03.
-fn put_monitor(s: &mut [u8], h: usize, params: &[u8])
-    requires { ⌜ (length (now s) ≡ blockSize) × (h < mostMonitors) × (6 ≤ length (now params)) × (length (now params) ≤ paramsMost) ⌝ }
-    ensures { λ _. ⌜ now (s .exit) ≡ put (now (s .entry)) (monitorsAt + monitorSize * h)
-        (padTo monitorSize (monitorRow (h, monitorOf (now (params .entry))))) ⌝ }
+// Writes A1's fields in a monitor's row, from the parameters of 03 or 0F, whose condition type stands at an index; zeros
+// up to the end of the condition's room.
+fn put_fields(s: &mut [u8], row: usize, h: u8, params: &[u8], at: usize)
+    requires { ⌜ (row + monitorSize ≤ length (now s)) × (5 ≤ at) × (at < length (now params)) × (length (now params) ≤ at + 1 + mostCondition) ⌝ }
+    ensures { λ _. ⌜ now (s .exit) ≡ put (now (s .entry)) row (fieldsOf h at (now (params .entry))) ⌝ }
 {
-    let at = State::MONITORS_AT + State::MONITOR_ROW * h;
-    let n = params.len();
-    s[at] = h as u8;
-    parts::copy(s, at + State::HIGH_AT, &params[1..6]);
-    s[at + State::CONDITION_LENGTH_AT] = (n - 6) as u8;
-    parts::copy(s, at + State::CONDITION_AT, &params[6..]);
-    parts::fill(s, at + 1 + n, State::MONITOR_REST - n, 0);
+    let k = params.len() - at - 1;
+    s[row] = h;
+    parts::copy(s, row + State::HIGH_AT, &params[1..5]);
+    s[row + State::TYPE_AT] = params[at];
+    s[row + State::CONDITION_LENGTH_AT] = k as u8;
+    parts::copy(s, row + State::CONDITION_AT, &params[at + 1..]);
+    parts::fill(s, row + State::CONDITION_AT + k, State::CONDITION - k, 0);
+}
+
+// Writes what version 2 adds: the parameters between the sampling period and the condition type, zeros in version 1.
+fn put_added(s: &mut [u8], to: usize, params: &[u8], at: usize)
+    requires { ⌜ (to + extraSize ≤ length (now s)) × (5 ≤ at) × (at ≤ secondTypeIn) × (at < length (now params)) ⌝ }
+    ensures { λ _. ⌜ now (s .exit) ≡ put (now (s .entry)) to (addedOf at (now (params .entry))) ⌝ }
+{
+    let k = at - 5;
+    parts::copy(s, to, &params[5..at]);
+    parts::fill(s, to + k, State::EXTRA - k, 0);
+}
+
+// Writes the row of a monitor under a handle, from the parameters of 03 or 0F.
+fn put_monitor(s: &mut [u8], h: usize, params: &[u8], at: usize)
+    requires { ⌜ (length (now s) ≡ blockSize) × (h < mostMonitors) × Enough at (now params) ⌝ }
+    ensures { λ _. ⌜ now (s .exit) ≡ put (now (s .entry)) (monitorsAt + monitorSize * h) (rowOf h (monitorOf (now (params .entry)))) ⌝ }
+{
+    let row = State::MONITORS_AT + State::MONITOR_ROW * h;
+    put_fields(s, row, h as u8, params, at);
+    put_added(s, row + State::OPTIONS_AT, params, at);
 }
 
 // Moves pair row i to place k, but for a pair of the handle; answers the next place.
@@ -150,9 +172,9 @@ fn read_features(s: &[u8], params: &[u8], out: &mut [u8]) -> usize
     replies::reply(out, opcode, status, 0x00)
 }
 
-// 03: adds a monitor under the lowest handle not live.
-fn add_monitor(s: &mut [u8], params: &[u8], out: &mut [u8]) -> usize
-    requires { ⌜ (length (now s) ≡ blockSize) × (answerRoom ≤ length (now out)) × (subOf (now params) ≡ 3) ⌝ }
+// 03 and 0F: adds a monitor under the lowest handle not live.
+fn add_monitor(s: &mut [u8], params: &[u8], sub: u8, out: &mut [u8]) -> usize
+    requires { ⌜ (length (now s) ≡ blockSize) × (answerRoom ≤ length (now out)) × (sub ≡ subOf (now params)) × (addsBy sub ≡ true) ⌝ }
     ensures { λ r. ⌜ Runs (now (params .entry)) (now (s .entry)) (now (s .exit)) (now (out .entry))
         (now (out .exit)) r ⌝ }
 {
@@ -161,10 +183,11 @@ fn add_monitor(s: &mut [u8], params: &[u8], out: &mut [u8]) -> usize
     let room = h < State::MONITORS;
     let status = statuses::add_status(params, room);
     if status == 0 {
-        put_monitor(s, h, params);
-        return replies::reply_handle(out, opcode, 0, h as u8);
+        let at = statuses::type_at(sub);
+        put_monitor(s, h, params, at);
+        return replies::reply_handle(out, opcode, 0, sub, h as u8);
     }
-    replies::reply_handle(out, opcode, status, 0)
+    replies::reply_handle(out, opcode, status, sub, 0)
 }
 
 // 04: cancels a monitor.
@@ -209,8 +232,8 @@ fn execute(s: &mut [u8], params: &[u8], out: &mut [u8]) -> usize
     if sub == 0x00 {
         return read_features(s, params, out);
     }
-    if sub == 0x03 {
-        return add_monitor(s, params, out);
+    if statuses::is_add(sub) {
+        return add_monitor(s, params, sub, out);
     }
     if sub == 0x04 {
         return cancel_monitor(s, params, out);
@@ -222,7 +245,7 @@ fn execute(s: &mut [u8], params: &[u8], out: &mut [u8]) -> usize
 }
 
 // Executes the vendor command with these parameters, the first of them the sub-opcode: changes the block, writes the
-// Command Complete at the front of the output, and answers its length. Where the block is not of 4,825 octets or at the
+// Command Complete at the front of the output, and answers its length. Where the block is not of 5,225 octets or at the
 // last frame number, or the output has under 2,880 octets, nothing is done and the answer is 0. Of a block that is of no
 // sound state the contents, what is written and how much are free; the lengths stay, the answer is at most the output's
 // length, and the octets past it are as they were.

@@ -44,20 +44,21 @@ pub(super) fn reply_done(out: &mut [u8], opcode: u16, sub: u8) -> usize
     7
 }
 
-// Writes an answer to 03: a status and a handle.
-pub(super) fn reply_handle(out: &mut [u8], opcode: u16, status: u8, handle: u8) -> usize
-    requires { ⌜ answerRoom ≤ length (now out) ⌝ }
-    ensures { λ r. ⌜ Replied (now (out .entry)) (now (out .exit)) r (complete opcode (status ∷ 3 ∷ handle ∷ [])) ⌝ }
+// Writes an answer to 03 or 0F: a status and a handle.
+pub(super) fn reply_handle(out: &mut [u8], opcode: u16, status: u8, sub: u8, handle: u8) -> usize
+    requires { ⌜ (answerRoom ≤ length (now out)) × (answerIn table sub ≡ 3) ⌝ }
+    ensures { λ r. ⌜ Replied (now (out .entry)) (now (out .exit)) r (complete opcode (status ∷ sub ∷ handle ∷ [])) ⌝ }
 {
-    put_head(out, opcode, statuses::answer_of(0x03));
+    put_head(out, opcode, statuses::answer_of(sub));
     out[5] = status;
-    out[6] = 0x03;
+    out[6] = sub;
     out[7] = handle;
     8
 }
 
-// Status and sub-opcode of 00, and the features: RSSI monitoring and advertisement monitoring of legacy advertisements.
-const FEATURES: [u8; 10] = [0x00, 0x00, 0x0C, 0, 0, 0, 0, 0, 0, 0];
+// Status and sub-opcode of 00, and the features: RSSI monitoring and advertisement monitoring of legacy advertisements,
+// and version 2 of the monitor command.
+const FEATURES: [u8; 10] = [0x00, 0x00, 0x0C, 0x04, 0, 0, 0, 0, 0, 0];
 
 // Writes the answer to 00: the features and the prefix.
 pub(super) fn reply_features(s: &[u8], out: &mut [u8], opcode: u16) -> usize

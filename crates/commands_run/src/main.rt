@@ -49,69 +49,13 @@ fn poke(o: &[u8], s: &mut [u8]) {
     }
 }
 
-// A line of the image.
-fn show_row(kind: u8, row: &[u8]) {
-    let mut r = [0u8; 80];
-    let n = row.len();
-    if n <= 79 {
-        r[0] = kind;
-        parts::copy(&mut r, 1, row);
-        show(&r[..n + 1]);
-    }
-}
-
-// The first octets of the block from an index on, of which there are fixed ones and as many more as the octet at a
-// place says.
-fn part(kind: u8, s: &[u8], at: usize, fixed: usize)
-    requires { ⌜ (at ≤ 4825) × (1 ≤ fixed) × (fixed ≤ 26) ⌝ }
-{
-    let end = at + fixed;
-    if end <= s.len() {
-        let more = s[end - 1] as usize;
-        if more <= s.len() - end {
-            show_row(kind, &s[at..end + more]);
-        }
-    }
-}
-
-// The rows of the monitors; answers how many there are.
-fn monitors(s: &[u8]) -> u8
-    ensures { λ r. ⌜ r ≤ 16 ⌝ }
-{
-    let mut n = 0;
-    let mut h = 0usize;
-    while h < 16 {
-        if octets::get8(s, State::INTERVALS_AT + State::MONITOR_ROW * h) != 0 {
-            part(0xA1, s, State::MONITORS_AT + State::MONITOR_ROW * h, 7);
-            n += 1;
-        }
-        h += 1;
-    }
-    n
-}
-
-fn pairs(s: &[u8], count: usize) {
-    let mut i = 0;
-    while i < 64 {
-        if i < count {
-            part(
-                0xA3,
-                s,
-                State::PAIRS_AT + State::PAIR_ROW * i,
-                State::DATA_AT,
-            );
-        }
-        i += 1;
-    }
-}
-
+// The image of the state.
 fn image(s: &[u8]) {
-    let count = octets::get8(s, State::COUNT_AT);
-    part(0xA0, s, 0, 8);
-    let n = monitors(s);
-    pairs(s, count as usize);
-    let end = [n, count];
-    show_row(0xAF, &end);
+    let mut text = [0u8; State::IMAGE];
+    let n = save::save_image(s, &mut text);
+    if n <= State::IMAGE {
+        io::write_all(1, &text[..n]);
+    }
 }
 
 fn perform(o: &[u8], s: &mut [u8]) {

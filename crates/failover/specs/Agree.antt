@@ -20,7 +20,7 @@ use Rattle.rule.specs.Shows.{Shows}
 use Rattle.model.specs.Types.{Model, Monitor, Packet, Pair, withLists, withFilter, moved}
 use Rattle.model.specs.Frames.{Body, Typed, command, packet as packetFrame, tick as tickFrame, bad, typed}
 use Rattle.model.specs.Monitors.{accepts, faultOf, monitorOf, invalid, full}
-use Rattle.model.specs.Commands.{status, addStatus, cancelStatus, commanded, changed, added, cancelled, ofOther, subOf, paramsIn, table, present}
+use Rattle.model.specs.Commands.{adds, status, addStatus, cancelStatus, commanded, changed, added, cancelled, ofOther, subOf, paramsIn, table, present}
 use Rattle.model.specs.Watch
 use Rattle.model.specs.Step.{stepTyped, refusalTyped}
 use Rattle.sessions.specs.Machine.{lastNumber}
@@ -46,10 +46,11 @@ step-add m x =
     (each-some (map viewPair (m .pairs)))
 
 -- a monitor command
-pub agree-add : (m : Model) (l : List ℕ) → subOf l ≡ 3 → view (commanded m l) ≡ step radio (view m) (coreCommand l)
-unfolding commanded status addStatus changed added coreCommand pick present view withLists accepts
-agree-add m l e =
-    rw e (go (ltb (length l) (paramsIn table 3)) (faultOf (monitorOf l)) (eqb (faultOf (monitorOf l)) 0) refl (slot (m .mons) mostMonitors 0)
+agree-sub : (m : Model) (l : List ℕ) (s : ℕ) → subOf l ≡ s → eqb s 0 ≡ false → (eqb s 3 || eqb s 15) ≡ true
+    → view (commanded m l) ≡ step radio (view m) (coreCommand l)
+unfolding commanded status addStatus changed added adds coreCommand pick present view withLists accepts
+agree-sub m l s e z a =
+    rw (e, z, a) (go (ltb (length l) (paramsIn table s)) (faultOf (monitorOf l)) (eqb (faultOf (monitorOf l)) 0) refl (slot (m .mons) mostMonitors 0)
     (step-add m (monitorOf l)))
   where
     x : Monitor
@@ -64,10 +65,18 @@ agree-add m l e =
     go false f true q (some h) s = rw q (sym s)
     go false f false q o s = rw q (rw q (sym s))
 
+pub agree-add : (m : Model) (l : List ℕ) → adds l ≡ true → view (commanded m l) ≡ step radio (view m) (coreCommand l)
+unfolding adds
+agree-add m l e = go (eqb (subOf l) 3) refl e
+  where
+    go : (t : Bool) → eqb (subOf l) 3 ≡ t → (t || eqb (subOf l) 15) ≡ true → view (commanded m l) ≡ step radio (view m) (coreCommand l)
+    go true h a = agree-sub m l 3 (eqb-true (subOf l) 3 h) refl refl
+    go false h a = agree-sub m l 15 (eqb-true (subOf l) 15 a) refl refl
+
 -- a cancel command
 pub agree-cancel : (m : Model) (l : List ℕ) → every (soundPair m) (m .pairs) ≡ true → subOf l ≡ 4
     → view (commanded m l) ≡ step radio (view m) (coreCommand l)
-unfolding commanded status cancelStatus changed cancelled coreCommand pick present view withLists
+unfolding commanded status cancelStatus changed cancelled adds coreCommand pick present view withLists
 agree-cancel m l s e = rw e (go (eqb (length l) (paramsIn table 4)) (find (m .mons) (getD l 1 0)) refl)
   where
     h : ℕ
@@ -87,7 +96,7 @@ agree-cancel m l s e = rw e (go (eqb (length l) (paramsIn table 4)) (find (m .mo
     go false o f = sym (step-other m)
 
 -- any other command
-pub agree-rest : (m : Model) (l : List ℕ) → eqb (subOf l) 3 ≡ false → eqb (subOf l) 4 ≡ false
+pub agree-rest : (m : Model) (l : List ℕ) → adds l ≡ false → eqb (subOf l) 4 ≡ false
     → view (commanded m l) ≡ step radio (view m) (coreCommand l)
 unfolding commanded changed coreCommand pick view withFilter
 agree-rest m l a b = rw (a, b) (go (eqb (status m l) 0) (eqb (subOf l) 5) ∙ sym (step-other m))
@@ -98,10 +107,10 @@ agree-rest m l a b = rw (a, b) (go (eqb (status m l) 0) (eqb (subOf l) 5) ∙ sy
     go false t = refl
 
 pub agree-command : (m : Model) (l : List ℕ) → every (soundPair m) (m .pairs) ≡ true → view (commanded m l) ≡ step radio (view m) (coreCommand l)
-agree-command m l s = go (eqb (subOf l) 3) (eqb (subOf l) 4) refl refl
+agree-command m l s = go (adds l) (eqb (subOf l) 4) refl refl
   where
-    go : (a b : Bool) → eqb (subOf l) 3 ≡ a → eqb (subOf l) 4 ≡ b → view (commanded m l) ≡ step radio (view m) (coreCommand l)
-    go true b p q = agree-add m l (eqb-true (subOf l) 3 p)
+    go : (a b : Bool) → adds l ≡ a → eqb (subOf l) 4 ≡ b → view (commanded m l) ≡ step radio (view m) (coreCommand l)
+    go true b p q = agree-add m l p
     go false true p q = agree-cancel m l s (eqb-true (subOf l) 4 q)
     go false false p q = agree-rest m l p q
 

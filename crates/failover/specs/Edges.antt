@@ -21,6 +21,7 @@ use Rattle.model.specs.Quoted.{codes}
 use Rattle.model.specs.InFull.{Told, opcodeInFull, prefixInFull, ticksText, answerLines, ranThrough, saves, pictured, replayed, toldRight, inFull}
 use Rattle.model.specs.Rows.{Row, Reply, replyOf, same, imaged, answered, reached, right, allRight, session}
 use Rattle.model.specs.Requests.{equalAdded, equalStart, equalLow, equalGood, t06sizes, t06events, t06texts, t06straddle, t06off, t06window, t06start, t03sizes, t05full, t05two, t05first, t05kept, requests}
+use Rattle.model.specs.Second.{t13options, t13keys, t13types, t13sampling, t13order, t13peer, t13others, t13unheard, t13directed, t13window, t13twice, t13off, t13none, t13kept, seconds}
 use Rattle.model.specs.Edges.{p2good, p2low, p3, p4sixty, p4image, p4minus, p4plus, p5, p6, p7, p8, readPrefix, forms, p9, p10, edges, edges-hold}
 use Rattle.steps.specs.Keeps.{fresh-sound}
 use Rattle.failover.specs.Blocks.{answer-blocks, given-blocks, given-sound, onReplayed, replay-blocks, replay-sound, encode-blocks, begin-blocks}
@@ -122,6 +123,7 @@ tolds-blocks (t ∷ ts) =
 edges-in-range : every inRange edges ≡ true
 unfolding every inRange edges session p2good p2low p3 p4sixty p4image p4minus p4plus p5 p6 p7 p8 readPrefix forms p9 p10 requests equalAdded equalStart equalLow equalGood soundSettings octetsUpTo
     t06sizes t06events t06texts t06straddle t06off t06window t06start t03sizes t05full t05two t05first t05kept
+    seconds t13options t13keys t13types t13sampling t13order t13peer t13others t13unheard t13directed t13window t13twice t13off t13none t13kept
 edges-in-range = refl
 
 -- P1 to P10 hold of the engine over blocks.

@@ -23,7 +23,7 @@ use Rattle.model.specs.Types.{Model, Monitor, Packet, Pair, watched, device, de
 use Rattle.model.specs.Level.{level}
 use Rattle.model.specs.Levels.{below-levels}
 use Rattle.model.specs.Frames.{Body, Typed, command, packet as packetFrame, tick as tickFrame, bad, typed}
-use Rattle.model.specs.Monitors.{matches, good, strong, runOf, windowed, accepts, faultOf, monitorOf, invalid, full}
+use Rattle.model.specs.Monitors.{allows, matches, good, sifts, strong, runOf, windowed, accepts, faultOf, monitorOf, invalid, full}
 use Rattle.model.specs.Commands.{status, addStatus, cancelStatus, commanded, changed, added, cancelled, ofOther, subOf, paramsIn, table, present}
 use Rattle.model.specs.Watch
 use Rattle.steps.specs.Drops.{keeps-level}
@@ -105,17 +105,17 @@ begins-view m p h qs = rw (held-holds qs h (deviceOf p), fits-view (p .rssi) qs)
 
 pub turn-view : (o : Option Monitor) (p : Packet) (h : ℕ) (qs : List Pair)
     → map viewPair (Watch.turn o p h qs) ≡ started radio o p h (map viewPair qs)
-unfolding pick viewPair Watch.startPair watched deviceOf
+unfolding pick viewPair Watch.startPair Watch.startLike watched deviceOf
 turn-view none p h qs = ap (map viewPair) (turn-none p h qs)
 turn-view (some m) p h qs = ap (map viewPair) (turn-pick m p h qs) ∙ rw (begins-view m p h qs) (go (Watch.begins m p h qs))
   where
     r : ℕ
     r = p .rssi
 
-    go : (b : Bool) → map viewPair (pick b (Watch.staysFor r qs ++ (Watch.startPair h p ∷ [])) qs)
+    go : (b : Bool) → map viewPair (pick b (Watch.staysFor r qs ++ (Watch.startPair m h p ∷ [])) qs)
         ≡ cond b (Engine.roomFor radio (level r) (map viewPair qs) ++ ((h, deviceOf p, zero, level r) ∷ [])) (map viewPair qs)
     go true =
-        map-append viewPair (Watch.staysFor r qs) (Watch.startPair h p ∷ [])
+        map-append viewPair (Watch.staysFor r qs) (Watch.startPair m h p ∷ [])
         ∙ ap (λ (l : List (CorePair radio)). l ++ ((h, deviceOf p, zero, level r) ∷ [])) (stays-view r qs)
     go false = refl
 
@@ -126,25 +126,32 @@ all-turns-view l p zero qs = refl
 all-turns-view l p (suc n) qs =
     turn-view (find l n) p n (Watch.turns l p n qs) ∙ ap (started radio (find l n) p n) (all-turns-view l p n qs)
 
--- a held pair at a packet: a window does not show
+-- a held pair at a packet: a window and the packet kept for duplicates do not show
 pub packet-view : (o : Option Monitor) (p : Packet) (q : Pair) → viewPair (Watch.atPacket o p q) ≡ Engine.atPacket radio o p (viewPair q)
-unfolding Watch.atPacket Watch.windowTakes Watch.refreshed Watch.gathered Watch.withSilent Watch.withKept
+unfolding Watch.atPacket Watch.remembered Watch.withLatest Watch.windowTakes Watch.refreshed Watch.gathered Watch.withSilent Watch.withKept
     Watch.counts viewPair watched pick
 packet-view none p q = refl
-packet-view (some m) p q = go (sames (deviceOf p) (watched q)) (matches m p) (good m p) (windowed m)
+packet-view (some m) p q = go (sames (deviceOf p) (watched q)) (matches m p) (good m p) (windowed m) (sifts m && allows m (p .event))
   where
     k : Pair
     k = Watch.withKept q (p .rssi)
 
-    go : (a b c w : Bool)
-        → viewPair (pick (a && b) (pick w (Watch.gathered p (pick c (Watch.withSilent k 0) k)) (pick c (Watch.withSilent k 0) k)) q)
+    w-of : (c w : Bool) → Pair
+    w-of c w = pick w (Watch.gathered p (pick c (Watch.withSilent k 0) k)) (pick c (Watch.withSilent k 0) k)
+
+    go : (a b c w s : Bool)
+        → viewPair (pick (a && b) (pick s (Watch.withLatest (p .event) (p .adv) (w-of c w)) (w-of c w)) q)
         ≡ (q .handle, watched q, cond (a && (b && c)) zero (q .silent), cond (a && b) (level (p .rssi)) (level (q .kept)))
-    go true true true true = refl
-    go true true true false = refl
-    go true true false true = refl
-    go true true false false = refl
-    go true false c w = refl
-    go false b c w = refl
+    go true true true true true = refl
+    go true true true true false = refl
+    go true true true false true = refl
+    go true true true false false = refl
+    go true true false true true = refl
+    go true true false true false = refl
+    go true true false false true = refl
+    go true true false false false = refl
+    go true false c w s = refl
+    go false b c w s = refl
 
 -- moving every element and dropping none
 pub map-each : {A B : Type 0} (v : A → B) (f : A → A) (g : B → B) (l : List A) → ((x : A) → v (f x) ≡ g (v x))

@@ -29,6 +29,16 @@ a3 = "A30000060504030201000000000000000000000000000000C40000\n"
 abbrev w1 : String
 w1 = "A100C4B00302040700060504030201\n"
 
+-- a monitor of version 2 up to its options, and the peer with its type and its key (T-13)
+abbrev s5 : String
+s5 = "A500C4B0030001050103090041"
+
+abbrev peer : String
+peer = "0605040302010109090909090909090909090909090909\n"
+
+abbrev keyless : String
+keyless = "0605040302010000000000000000000000000000000000\n"
+
 -- texts that save writes of sound states
 unfoldable pub images : List (List String)
 images =
@@ -57,7 +67,20 @@ images =
     (a0 ∷ w1 ∷ "A300000605040302010000000100000081FFFFFFFFFFFFFFC40000\n" ∷ "AF0101\n" ∷ []) ∷
     (a0 ∷ w1 ∷ "A30000060504030201000000010000001400000000000000C40000\n" ∷ "AF0101\n" ∷ []) ∷
     (a0 ∷ w1 ∷ "A30000060504030201000000020000000000000000000000C4001F" ∷
-    "00000000000000000000000000000000000000000000000000000000000000\n" ∷ "AF0101\n" ∷ []) ∷ []
+    "00000000000000000000000000000000000000000000000000000000000000\n" ∷ "AF0101\n" ∷ []) ∷
+    -- T-13: version 2 with reserved bits; before and behind an A1 line; options that match nothing, with no key; a zero address
+    (a0 ∷ s5 ∷ "E1F3" ∷ peer ∷ "AF0100\n" ∷ []) ∷
+    (a0 ∷ s5 ∷ "2002" ∷ peer ∷ "A101C4B00300040700060504030201\n" ∷ "AF0200\n" ∷ []) ∷
+    (a0 ∷ a1 ∷ "A502C4B0030001050103090041" ∷ "2002" ∷ keyless ∷ "AF0200\n" ∷ []) ∷
+    (a0 ∷ s5 ∷ "1400" ∷ keyless ∷ "AF0100\n" ∷ []) ∷
+    (a0 ∷ s5 ∷ "2106" ∷ "00000000000000" ∷ "00000000000000000000000000000000\n" ∷ "AF0100\n" ∷ []) ∷
+    -- type 4 with bits 4 and 5; sampling 1 without duplicate filtering
+    (a0 ∷ "A500C4B00300040700060504030201" ∷ "3003" ∷ keyless ∷ "AF0100\n" ∷ []) ∷
+    (a0 ∷ "A500C4B0030101050103090041" ∷ "20FE" ∷ keyless ∷ "AF0100\n" ∷ []) ∷
+    -- a monitor that filters duplicates: no packet kept, one of event type 3, one without data
+    (a0 ∷ s5 ∷ "2003" ∷ keyless ∷ "A30000060504030201000000000000000000000000000000C4FF00\n" ∷ "AF0101\n" ∷ []) ∷
+    (a0 ∷ s5 ∷ "2001" ∷ keyless ∷ "A30000060504030201000000000000000000000000000000C40303020941\n" ∷ "AF0101\n" ∷ []) ∷
+    (a0 ∷ s5 ∷ "2003" ∷ keyless ∷ "A30000060504030201000000000000000000000000000000C40000\n" ∷ "AF0101\n" ∷ []) ∷ []
 
 -- texts that save writes of no sound state
 unfoldable pub others : List (List String)
@@ -135,7 +158,29 @@ others =
     -- an empty window with a sum, an event type, data
     (a0 ∷ w1 ∷ "A30000060504030201000000000000000100000000000000C40000\n" ∷ "AF0101\n" ∷ []) ∷
     (a0 ∷ w1 ∷ "A30000060504030201000000000000000000000000000000C40100\n" ∷ "AF0101\n" ∷ []) ∷
-    (a0 ∷ w1 ∷ "A30000060504030201000000000000000000000000000000C4000100\n" ∷ "AF0101\n" ∷ []) ∷ []
+    (a0 ∷ w1 ∷ "A30000060504030201000000000000000000000000000000C4000100\n" ∷ "AF0101\n" ∷ []) ∷
+    -- T-13: options 0, with all else 0 too; reserved bits alone; bit 1 and bit 3 without a key; peer type 2
+    (a0 ∷ s5 ∷ "0002" ∷ keyless ∷ "AF0100\n" ∷ []) ∷
+    (a0 ∷ s5 ∷ "0000" ∷ "00000000000000" ∷ "00000000000000000000000000000000\n" ∷ "AF0100\n" ∷ []) ∷
+    (a0 ∷ s5 ∷ "C002" ∷ keyless ∷ "AF0100\n" ∷ []) ∷
+    (a0 ∷ s5 ∷ "2202" ∷ keyless ∷ "AF0100\n" ∷ []) ∷
+    (a0 ∷ s5 ∷ "0802" ∷ keyless ∷ "AF0100\n" ∷ []) ∷
+    (a0 ∷ s5 ∷ "2002" ∷ "0605040302010209090909090909090909090909090909\n" ∷ "AF0100\n" ∷ []) ∷
+    -- type 4 with bit 0, type 3 with bit 2; duplicate filtering with sampling 1
+    (a0 ∷ "A500C4B00300040700060504030201" ∷ "3103" ∷ keyless ∷ "AF0100\n" ∷ []) ∷
+    (a0 ∷ "A500C4B0030003109B7D390AA610103405ADC857A33402EC" ∷ "2402" ∷ keyless ∷ "AF0100\n" ∷ []) ∷
+    (a0 ∷ "A500C4B0030101050103090041" ∷ "20FF" ∷ keyless ∷ "AF0100\n" ∷ []) ∷
+    -- an octet of the key too few, too many; A1 with what version 2 adds, A5 without; handles that fall
+    (a0 ∷ s5 ∷ "2002" ∷ "06050403020101090909090909090909090909090909\n" ∷ "AF0100\n" ∷ []) ∷
+    (a0 ∷ s5 ∷ "2002" ∷ "060504030201010909090909090909090909090909090909\n" ∷ "AF0100\n" ∷ []) ∷
+    (a0 ∷ "A100C4B0030001050103090041" ∷ "2002" ∷ peer ∷ "AF0100\n" ∷ []) ∷
+    (a0 ∷ s5 ∷ "\n" ∷ "AF0100\n" ∷ []) ∷
+    (a0 ∷ "A101C4B00300040700060504030201\n" ∷ s5 ∷ "2002" ∷ peer ∷ "AF0200\n" ∷ []) ∷
+    -- event type 4 and 254 kept, 255 with data; 255 where duplicates are not filtered
+    (a0 ∷ s5 ∷ "2003" ∷ keyless ∷ "A30000060504030201000000000000000000000000000000C40400\n" ∷ "AF0101\n" ∷ []) ∷
+    (a0 ∷ s5 ∷ "2003" ∷ keyless ∷ "A30000060504030201000000000000000000000000000000C4FE00\n" ∷ "AF0101\n" ∷ []) ∷
+    (a0 ∷ s5 ∷ "2003" ∷ keyless ∷ "A30000060504030201000000000000000000000000000000C4FF0141\n" ∷ "AF0101\n" ∷ []) ∷
+    (a0 ∷ s5 ∷ "2002" ∷ keyless ∷ "A30000060504030201000000000000000000000000000000C4FF00\n" ∷ "AF0101\n" ∷ []) ∷ []
 
 -- Each of the first is an image, and none of the others is.
 pub edges-hold : (every accepted images ≡ true) × (every refused others ≡ true)
@@ -144,10 +189,10 @@ unfolding accepted refused images others codes
     Rattle.model.specs.Types.device Rattle.model.specs.Types.watched
     Rattle.model.specs.Level.level Rattle.model.specs.Level.dBm Rattle.model.specs.Level.raised Rattle.model.specs.Level.signed Rattle.model.specs.Level.wrapped Rattle.model.specs.Level.floorOf Rattle.model.specs.Level.inRange Rattle.model.specs.Level.sumInRange Rattle.model.specs.Level.addRssi Rattle.model.specs.Level.mean
     Rattle.model.specs.Monitors.ordered Rattle.model.specs.Monitors.settingsGood Rattle.model.specs.Monitors.conditionFault Rattle.model.specs.Monitors.faultOf Rattle.model.specs.Monitors.accepts
-    Rattle.model.specs.Monitors.runOf Rattle.model.specs.Monitors.windowed
+    Rattle.model.specs.Monitors.runOf Rattle.model.specs.Monitors.windowed Rattle.model.specs.Monitors.missing Rattle.model.specs.Monitors.parametersOf Rattle.model.specs.Monitors.parameters Rattle.model.specs.Monitors.options Rattle.model.specs.Monitors.filtering Rattle.model.specs.Monitors.peerType Rattle.model.specs.Monitors.peer Rattle.model.specs.Monitors.irk Rattle.model.specs.Monitors.bit Rattle.model.specs.Monitors.siftsBy Rattle.model.specs.Monitors.sifts Rattle.model.specs.Monitors.noOption Rattle.model.specs.Monitors.noKey Rattle.model.specs.Monitors.twoDevices Rattle.model.specs.Monitors.sampledSifting Rattle.model.specs.Monitors.allowed Rattle.model.specs.Monitors.isSecond Rattle.model.specs.Monitors.typeIn Rattle.model.specs.Monitors.extraOf Rattle.model.specs.Monitors.meetsCondition Rattle.model.specs.Monitors.admits Rattle.model.specs.Monitors.letsThrough Rattle.model.specs.Monitors.allows
     Rattle.model.specs.Watch.isPair Rattle.model.specs.Watch.holds
-    Rattle.model.specs.Sound.octetsUpTo Rattle.model.specs.Sound.soundSettings Rattle.model.specs.Sound.soundMonitor
-    Rattle.model.specs.Sound.soundMonitors Rattle.model.specs.Sound.soundWindow Rattle.model.specs.Sound.soundEmpty
+    Rattle.model.specs.Sound.octetsUpTo Rattle.model.specs.Sound.soundSettings Rattle.model.specs.Sound.soundMonitor Rattle.model.specs.Sound.soundExtra
+    Rattle.model.specs.Sound.soundMonitors Rattle.model.specs.Sound.soundWindow Rattle.model.specs.Sound.soundEmpty Rattle.model.specs.Sound.soundLatest
     Rattle.model.specs.Sound.soundFields Rattle.model.specs.Sound.soundOf Rattle.model.specs.Sound.soundPair
     Rattle.model.specs.Sound.apart Rattle.model.specs.Sound.soundModel
     Rattle.laws.specs.Tests.pick Rattle.laws.specs.Tests.sames
@@ -159,10 +204,10 @@ unfolding accepted refused images others codes
     Rattle.advert.specs.Address.addressForm Rattle.advert.specs.Irk.irkForm
     Rattle.advert.specs.Condition.wellFormed Rattle.advert.specs.Condition.formOf Rattle.advert.specs.Condition.formStatus
     Rattle.sessions.specs.Machine.lastNumber
-    Rattle.model.specs.Image.headRow Rattle.model.specs.Image.monitorRow Rattle.model.specs.Image.pairRow
+    Rattle.model.specs.Image.headRow Rattle.model.specs.Image.monitorRow Rattle.model.specs.Image.extraText Rattle.model.specs.Image.nameOf Rattle.model.specs.Image.monitorText Rattle.model.specs.Image.pairRow
     Rattle.model.specs.Image.endRow Rattle.model.specs.Image.records Rattle.model.specs.Image.imageText
-    Rattle.model.specs.Image.monitorIn Rattle.model.specs.Image.pairIn Rattle.model.specs.Image.named
-    Rattle.model.specs.Image.rowsNamed Rattle.model.specs.Image.firstOf Rattle.model.specs.Image.modelIn
+    Rattle.model.specs.Image.monitorIn Rattle.model.specs.Image.extraIn Rattle.model.specs.Image.monitorFrom Rattle.model.specs.Image.monitorOn Rattle.model.specs.Image.pairIn Rattle.model.specs.Image.named
+    Rattle.model.specs.Image.rowsNamed Rattle.model.specs.Image.isMonitor Rattle.model.specs.Image.monitorsOn Rattle.model.specs.Image.firstOf Rattle.model.specs.Image.modelIn
     Rattle.model.specs.Image.heldIn Rattle.model.specs.Image.isImage
     Rattle.octets.specs.Little.little Rattle.octets.specs.Little.octetsOf
     Rattle.lines.specs.Hex.digit Rattle.lines.specs.Hex.isHex Rattle.lines.specs.Hex.nib Rattle.lines.specs.Hex.hexOf

@@ -1,10 +1,11 @@
--- The longest image: a sound state whose image has 9,898 characters, so that no shorter output would do. Document 01,
--- Sizes of the gateway. 16 monitors with conditions of 64 octets, 64 pairs with data of 31 octets, a prefix of 32.
--- Assumes nothing.
+-- The longest image: a sound state whose image has 10,698 characters, so that no shorter output would do. Document 01,
+-- Sizes of the gateway; document 02, T-13. 16 monitors of version 2 with conditions of 64 octets, 64 pairs with data of 31
+-- octets, a prefix of 32. Assumes nothing.
 use Prim.Native.Nat.{ℕ, zero, suc}
 use mathlib.Core.Path.{_≡_, refl, _∙_}
 use mathlib.Core.Bool.{true}
 use mathlib.Core.List.{List, [], _∷_}
+use mathlib.Core.Option.{some}
 use lib.ListN.{length, replicate}
 use Rattle.model.specs.Types.{Model, Monitor, Pair}
 use Rattle.model.specs.Sound.{soundModel}
@@ -12,9 +13,9 @@ use Rattle.model.specs.Image.{imageText}
 use Rattle.images.specs.Sizes.{total, lineLength, headLength, monitorLength, pairLength, endLength, imageLength}
 use Rattle.images.specs.Sizes.{image-length}
 use Rattle.sessions.specs.Machine.{saveRoom}
-use Rattle.model.specs.Layout.{mostData, mostMonitors, mostPairs, mostPrefix}
+use Rattle.model.specs.Layout.{irkSize, mostData, mostMonitors, mostPairs, mostPrefix}
 
--- a monitor with one pattern of 60 octets
+-- a monitor with one pattern of 60 octets, of version 2
 unfoldable pub longMonitor : Monitor
 longMonitor =
     record {
@@ -24,6 +25,7 @@ longMonitor =
       sampling = 1;
       kind = 1;
       condition = 1 ∷ 62 ∷ 0xFF ∷ 0 ∷ replicate 60 0xAA;
+      extra = some (0x21 ∷ 0x02 ∷ 6 ∷ 5 ∷ 4 ∷ 3 ∷ 2 ∷ 1 ∷ 1 ∷ replicate irkSize 0x9B);
     }
 
 -- n monitors, handles from h on
@@ -69,10 +71,10 @@ unfolding longMonitor longMonitors longPair longPairs longest
     Rattle.model.specs.Types.device Rattle.model.specs.Types.watched
     Rattle.model.specs.Level.level Rattle.model.specs.Level.dBm Rattle.model.specs.Level.raised Rattle.model.specs.Level.signed Rattle.model.specs.Level.wrapped Rattle.model.specs.Level.floorOf Rattle.model.specs.Level.inRange Rattle.model.specs.Level.sumInRange Rattle.model.specs.Level.addRssi Rattle.model.specs.Level.mean
     Rattle.model.specs.Monitors.ordered Rattle.model.specs.Monitors.settingsGood Rattle.model.specs.Monitors.conditionFault Rattle.model.specs.Monitors.faultOf Rattle.model.specs.Monitors.accepts
-    Rattle.model.specs.Monitors.runOf Rattle.model.specs.Monitors.windowed
+    Rattle.model.specs.Monitors.runOf Rattle.model.specs.Monitors.windowed Rattle.model.specs.Monitors.missing Rattle.model.specs.Monitors.parametersOf Rattle.model.specs.Monitors.parameters Rattle.model.specs.Monitors.options Rattle.model.specs.Monitors.filtering Rattle.model.specs.Monitors.peerType Rattle.model.specs.Monitors.peer Rattle.model.specs.Monitors.irk Rattle.model.specs.Monitors.bit Rattle.model.specs.Monitors.siftsBy Rattle.model.specs.Monitors.sifts Rattle.model.specs.Monitors.noOption Rattle.model.specs.Monitors.noKey Rattle.model.specs.Monitors.twoDevices Rattle.model.specs.Monitors.sampledSifting Rattle.model.specs.Monitors.allowed Rattle.model.specs.Monitors.isSecond Rattle.model.specs.Monitors.typeIn Rattle.model.specs.Monitors.extraOf Rattle.model.specs.Monitors.meetsCondition Rattle.model.specs.Monitors.admits Rattle.model.specs.Monitors.letsThrough Rattle.model.specs.Monitors.allows
     Rattle.model.specs.Watch.isPair Rattle.model.specs.Watch.holds
-    Rattle.model.specs.Sound.octetsUpTo Rattle.model.specs.Sound.soundSettings Rattle.model.specs.Sound.soundMonitor
-    Rattle.model.specs.Sound.soundMonitors Rattle.model.specs.Sound.soundWindow Rattle.model.specs.Sound.soundEmpty
+    Rattle.model.specs.Sound.octetsUpTo Rattle.model.specs.Sound.soundSettings Rattle.model.specs.Sound.soundMonitor Rattle.model.specs.Sound.soundExtra
+    Rattle.model.specs.Sound.soundMonitors Rattle.model.specs.Sound.soundWindow Rattle.model.specs.Sound.soundEmpty Rattle.model.specs.Sound.soundLatest
     Rattle.model.specs.Sound.soundFields Rattle.model.specs.Sound.soundOf Rattle.model.specs.Sound.soundPair
     Rattle.model.specs.Sound.apart Rattle.model.specs.Sound.soundModel
     Rattle.laws.specs.Tests.pick Rattle.laws.specs.Tests.sames
@@ -89,5 +91,5 @@ longest-sound = refl
 -- The bound is reached.
 pub longest-length : length (imageText longest) ≡ saveRoom
 unfolding longMonitor longMonitors longPair longPairs longest
-    total lineLength headLength monitorLength pairLength endLength imageLength
+    total lineLength headLength monitorLength pairLength endLength imageLength Rattle.model.specs.Image.extraText
 longest-length = image-length longest longest-sound ∙ refl

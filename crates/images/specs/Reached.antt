@@ -1,6 +1,6 @@
--- The longest image in a session: "image 9,770", with T-05 9,898, is reached by frames from a fresh state, and no image is longer. Document
--- 01, Sizes of the gateway. Assumes nothing.
-use Prim.Native.Nat.{ℕ, zero, suc}
+-- The longest image in a session: "image 9,770", with T-05 9,898, with T-13 10,698, is reached by frames from a fresh state, and no image is
+-- longer. Document 01, Sizes of the gateway. Assumes nothing.
+use Prim.Native.Nat.{ℕ, zero, suc, _+_}
 use mathlib.Core.Path.{_≡_, refl, _∙_}
 use mathlib.Core.Bool.{true}
 use mathlib.Core.List.{List, [], _∷_, _++_}
@@ -14,13 +14,14 @@ use Rattle.model.specs.Engine.{models}
 use Rattle.model.specs.Rows.{cmd, reached}
 use Rattle.images.specs.Sizes.{total, lineLength, headLength, monitorLength, pairLength, endLength, imageLength}
 use Rattle.images.specs.Sizes.{image-length}
-use Rattle.model.specs.Layout.{mostData, mostMonitors, mostPrefix}
+use Rattle.model.specs.Layout.{addressSize, irkSize, mostData, mostMonitors, mostPrefix}
 
--- The session: 16 monitors with conditions of 64 octets in three patterns, of which the first matches; four devices, each heard
+-- The session: 16 monitors of version 2 with conditions of 64 octets in three patterns, of which the first matches; four devices, each heard
 -- twice with 31 octets, so that 64 windows hold a packet.
 unfoldable pub longAdd : List ℕ
 longAdd =
-    0x03 ∷ 0xC4 ∷ 0xB0 ∷ 60 ∷ 1 ∷ 1 ∷ 3 ∷ 3 ∷ 0xFF ∷ 0 ∷ 0xAA ∷ 3 ∷ 0xFF ∷ 0 ∷ 0xAA ∷ 54 ∷ 0xFF ∷ 0 ∷ replicate 52 0xAA
+    0x0F ∷ 0xC4 ∷ 0xB0 ∷ 60 ∷ 1 ∷ 0x20 ∷ 0x02 ∷ (replicate (addressSize + 1) 1 ++ (replicate irkSize 0x9B ++ (1
+    ∷ 3 ∷ 3 ∷ 0xFF ∷ 0 ∷ 0xAA ∷ 3 ∷ 0xFF ∷ 0 ∷ 0xAA ∷ 54 ∷ 0xFF ∷ 0 ∷ replicate 52 0xAA)))
 
 unfoldable pub longHeard : ℕ → ℕ → List ℕ
 longHeard n d = 2 ∷ (octetsOf 4 n ++ (3 ∷ 0 ∷ d ∷ 5 ∷ 4 ∷ 3 ∷ 2 ∷ 1 ∷ mostData ∷ 30 ∷ 0xFF ∷ (replicate 29 0xAA ++ (0xC4 ∷ []))))
@@ -64,25 +65,25 @@ unfolding longAdd longHeard longAdds longFrames longReached
     Rattle.model.specs.Monitors.settingsGood Rattle.model.specs.Monitors.conditionFault
     Rattle.model.specs.Monitors.faultOf Rattle.model.specs.Monitors.accepts Rattle.model.specs.Monitors.monitorOf
     Rattle.model.specs.Monitors.matches Rattle.model.specs.Monitors.good Rattle.model.specs.Monitors.strong
-    Rattle.model.specs.Monitors.runOf Rattle.model.specs.Monitors.windowed Rattle.model.specs.Commands.table
+    Rattle.model.specs.Monitors.runOf Rattle.model.specs.Monitors.windowed Rattle.model.specs.Monitors.missing Rattle.model.specs.Monitors.parametersOf Rattle.model.specs.Monitors.parameters Rattle.model.specs.Monitors.options Rattle.model.specs.Monitors.filtering Rattle.model.specs.Monitors.peerType Rattle.model.specs.Monitors.peer Rattle.model.specs.Monitors.irk Rattle.model.specs.Monitors.bit Rattle.model.specs.Monitors.siftsBy Rattle.model.specs.Monitors.sifts Rattle.model.specs.Monitors.noOption Rattle.model.specs.Monitors.noKey Rattle.model.specs.Monitors.twoDevices Rattle.model.specs.Monitors.sampledSifting Rattle.model.specs.Monitors.allowed Rattle.model.specs.Monitors.isSecond Rattle.model.specs.Monitors.typeIn Rattle.model.specs.Monitors.extraOf Rattle.model.specs.Monitors.meetsCondition Rattle.model.specs.Monitors.admits Rattle.model.specs.Monitors.letsThrough Rattle.model.specs.Monitors.allows Rattle.model.specs.Commands.table
     Rattle.model.specs.Commands.paramsIn Rattle.model.specs.Commands.answerIn Rattle.model.specs.Commands.present
-    Rattle.model.specs.Commands.subOf Rattle.model.specs.Commands.readStatus Rattle.model.specs.Commands.addStatus
+    Rattle.model.specs.Commands.subOf Rattle.model.specs.Commands.adds Rattle.model.specs.Commands.readStatus Rattle.model.specs.Commands.addStatus
     Rattle.model.specs.Commands.cancelStatus Rattle.model.specs.Commands.enableStatus
     Rattle.model.specs.Commands.status Rattle.model.specs.Commands.handleOr Rattle.model.specs.Commands.newHandle
     Rattle.model.specs.Commands.features Rattle.model.specs.Commands.success Rattle.model.specs.Commands.failure
     Rattle.model.specs.Commands.returned Rattle.model.specs.Commands.ofOther Rattle.model.specs.Commands.cancelled
     Rattle.model.specs.Commands.added Rattle.model.specs.Commands.changed Rattle.model.specs.Commands.commanded
     Rattle.model.specs.Watch.withSilent Rattle.model.specs.Watch.gathered Rattle.model.specs.Watch.withTicks
-    Rattle.model.specs.Watch.emptied Rattle.model.specs.Watch.counts Rattle.model.specs.Watch.refreshed
-    Rattle.model.specs.Watch.windowTakes Rattle.model.specs.Watch.atPacket Rattle.model.specs.Watch.packetMove
+    Rattle.model.specs.Watch.emptied Rattle.model.specs.Watch.withLatest Rattle.model.specs.Watch.counts Rattle.model.specs.Watch.refreshed
+    Rattle.model.specs.Watch.windowTakes Rattle.model.specs.Watch.atPacket Rattle.model.specs.Watch.duplicate Rattle.model.specs.Watch.remembered Rattle.model.specs.Watch.packetMove
     Rattle.model.specs.Watch.isPair Rattle.model.specs.Watch.holds Rattle.model.specs.Watch.begins
     Rattle.model.specs.Watch.withKept Rattle.model.specs.Watch.smaller Rattle.model.specs.Watch.least
     Rattle.model.specs.Watch.keeps Rattle.model.specs.Watch.firstKeeping Rattle.model.specs.Watch.without Rattle.model.specs.Watch.hasRoom
     Rattle.model.specs.Watch.fits Rattle.model.specs.Watch.goesFor Rattle.model.specs.Watch.staysFor
     Rattle.model.specs.Watch.stopOf Rattle.model.specs.Watch.turnAnswer Rattle.model.specs.Watch.turnsAnswer
-    Rattle.model.specs.Watch.startPair Rattle.model.specs.Watch.startOf Rattle.model.specs.Watch.startsBelow
+    Rattle.model.specs.Watch.startPair Rattle.model.specs.Watch.startLike Rattle.model.specs.Watch.startOf Rattle.model.specs.Watch.startsBelow
     Rattle.model.specs.Watch.turn Rattle.model.specs.Watch.turns Rattle.model.specs.Watch.packetPairs
-    Rattle.model.specs.Watch.startsOf Rattle.model.specs.Watch.wants Rattle.model.specs.Watch.reported
+    Rattle.model.specs.Watch.startsOf Rattle.model.specs.Watch.wants Rattle.model.specs.Watch.reasonFor Rattle.model.specs.Watch.allowsBy Rattle.model.specs.Watch.startTold Rattle.model.specs.Watch.reported
     Rattle.model.specs.Watch.packetAnswer Rattle.model.specs.Watch.goesOn Rattle.model.specs.Watch.closes
     Rattle.model.specs.Watch.windowTick Rattle.model.specs.Watch.atTick Rattle.model.specs.Watch.tickPairs
     Rattle.model.specs.Watch.windowSays Rattle.model.specs.Watch.tickOctets Rattle.model.specs.Watch.tickAnswer
@@ -92,10 +93,10 @@ unfolding longAdd longHeard longAdds longFrames longReached
     Rattle.model.specs.Events.packetReports Rattle.model.specs.Step.stepTyped Rattle.model.specs.Step.answerTyped
     Rattle.model.specs.Step.refusalTyped Rattle.model.specs.Step.actTyped Rattle.model.specs.Step.act
     Rattle.model.specs.Sound.octetsUpTo Rattle.model.specs.Sound.soundSettings
-    Rattle.model.specs.Sound.soundMonitor Rattle.model.specs.Sound.soundMonitors
-    Rattle.model.specs.Sound.soundWindow Rattle.model.specs.Sound.soundEmpty Rattle.model.specs.Sound.soundFields
+    Rattle.model.specs.Sound.soundMonitor Rattle.model.specs.Sound.soundExtra Rattle.model.specs.Sound.soundMonitors
+    Rattle.model.specs.Sound.soundWindow Rattle.model.specs.Sound.soundEmpty Rattle.model.specs.Sound.soundLatest Rattle.model.specs.Sound.soundFields
     Rattle.model.specs.Sound.soundOf Rattle.model.specs.Sound.soundPair Rattle.model.specs.Sound.apart
-    Rattle.model.specs.Sound.soundModel Rattle.model.specs.Image.headRow Rattle.model.specs.Image.monitorRow
+    Rattle.model.specs.Sound.soundModel Rattle.model.specs.Image.headRow Rattle.model.specs.Image.monitorRow Rattle.model.specs.Image.extraText Rattle.model.specs.Image.nameOf Rattle.model.specs.Image.monitorText
     Rattle.model.specs.Image.pairRow Rattle.model.specs.Image.endRow Rattle.model.specs.Image.records
     Rattle.model.specs.Image.imageText Rattle.laws.specs.Rows.rows Rattle.laws.specs.Tests.pick
     Rattle.laws.specs.Tests.sames Rattle.laws.specs.Loops.part Rattle.laws.specs.Loops.every

@@ -1,5 +1,5 @@
--- How long an image is: the sum of its lines, at most 9,898 characters. Document 01, Sizes of the gateway
--- ("image 9,898") and The image. Assumes nothing.
+-- How long an image is: the sum of its lines, at most 10,698 characters. Document 01, Sizes of the gateway
+-- ("image 10,698") and The image. Assumes nothing.
 use Prim.Native.Nat.{ℕ, suc, _+_, _*_, _≤_}
 use mathlib.Core.Path.{_≡_, refl, _∙_}
 use mathlib.Core.Bool.{true}
@@ -13,9 +13,12 @@ use Rattle.lines.specs.Texts.{length-text}
 use Rattle.sessions.specs.Machine.{saveRoom}
 use Rattle.model.specs.Types.{Model, Monitor, Pair}
 use Rattle.model.specs.Sound.{soundModel}
-use Rattle.model.specs.Image.{headRow, monitorRow, pairRow, endRow, records, imageText}
+use Rattle.model.specs.Accepted.{accepted}
+use Rattle.model.specs.Image.{headRow, monitorRow, extraText, monitorText, pairRow, endRow, records, imageText}
 use Rattle.blocks.specs.Rows.{length-headRow, length-monitorRow, length-pairRow}
-use Rattle.images.specs.Fits.{MonitorFits, PairFits, All, Fits, sound-fits}
+use Rattle.rule.specs.Base.{All}
+use Rattle.blocks.specs.Bounds.{Fits as PairFits}
+use Rattle.images.specs.Fits.{MonitorFits, Fits, sound-fits, extra-most}
 use Rattle.model.specs.Layout.{dataAt, monitorLine, pairLine}
 
 -- the sum of a number for each element
@@ -31,9 +34,9 @@ lineLength n = 2 * n + 1
 unfoldable pub headLength : Model → ℕ
 headLength m = lineLength (9 + length (m .prefix))
 
--- A1: its name and 7 octets, then the condition
+-- A1 and A5: their name and 7 octets, then the condition, then in version 2 what is added
 unfoldable pub monitorLength : ℕ × Monitor → ℕ
-monitorLength x = lineLength (8 + length (x .1 .condition))
+monitorLength x = lineLength (8 + length (x .1 .condition) + length (extraText (x .1 .extra)))
 
 -- A3: its name and the fields before the data, then the data
 unfoldable pub pairLength : Pair → ℕ
@@ -67,13 +70,15 @@ length-head : (m : Model) → length (textOf (0xA0 ∷ headRow m)) ≡ headLengt
 unfolding headLength lineLength
 length-head m = length-text (0xA0 ∷ headRow m) ∙ omega (arith, length-headRow m)
 
-length-monitor : (x : ℕ × Monitor) → MonitorFits x → length (textOf (0xA1 ∷ monitorRow x)) ≡ monitorLength x
-unfolding monitorLength lineLength
-length-monitor x f = length-text (0xA1 ∷ monitorRow x) ∙ omega (arith, length-monitorRow x)
+length-monitor : (x : ℕ × Monitor) → MonitorFits x → length (textOf (monitorText x)) ≡ monitorLength x
+unfolding monitorLength monitorText lineLength
+length-monitor x f =
+    length-text (monitorText x)
+    ∙ omega (arith, length-append (monitorRow x) (extraText (x .1 .extra)), length-monitorRow x)
 
 length-pair : (q : Pair) → PairFits q → length (textOf (0xA3 ∷ pairRow q)) ≡ pairLength q
 unfolding pairLength lineLength
-length-pair q f = length-text (0xA3 ∷ pairRow q) ∙ omega (arith, length-pairRow q (f .six))
+length-pair q f = length-text (0xA3 ∷ pairRow q) ∙ omega (arith, length-pairRow q (f .address-length))
 
 length-end : (m : Model) → length (textOf (0xAF ∷ endRow m)) ≡ endLength
 unfolding endLength lineLength endRow
@@ -84,28 +89,32 @@ pub image-length : (m : Model) → soundModel m ≡ true → length (imageText m
 unfolding imageText records imageLength each
 image-length m e =
     let f : Fits m = sound-fits m e in
-    let r : List (List ℕ) = map (λ (x : ℕ × Monitor). 0xA1 ∷ monitorRow x) (m .mons) in
+    let r : List (List ℕ) = map monitorText (m .mons) in
     let p : List (List ℕ) = map (λ (q : Pair). 0xA3 ∷ pairRow q) (m .pairs) in
     let z : List (List ℕ) = (0xAF ∷ endRow m) ∷ [] in
     let a : length (each textOf r) ≡ total monitorLength (m .mons) =
-    length-lines (λ (x : ℕ × Monitor). 0xA1 ∷ monitorRow x) monitorLength MonitorFits (m .mons) length-monitor
-    (f .mons) in
+    length-lines monitorText monitorLength MonitorFits (m .mons) length-monitor (f .mons) in
     let b : length (each textOf p) ≡ total pairLength (m .pairs) =
     length-lines (λ (q : Pair). 0xA3 ∷ pairRow q) pairLength PairFits (m .pairs) length-pair (f .pairs) in
     rw (each-append textOf r (p ++ z), each-append textOf p z)
     (simp length-append (omega (arith, length-head m, length-end m)))
 
--- "image 9,898": the image of a sound state is at most that long.
+monitor-most : (x : ℕ × Monitor) → MonitorFits x → monitorLength x ≤ monitorLine
+unfolding monitorLength lineLength
+monitor-most x f =
+    omega (arith, accepted (x .1) (f .sound .accept) .short, extra-most (x .1 .extra) (f .sound .extra-sound))
+
+-- "image 10,698": the image of a sound state is at most that long.
 pub image-most : (m : Model) → soundModel m ≡ true → length (imageText m) ≤ saveRoom
 unfolding imageLength headLength monitorLength pairLength endLength lineLength
 image-most m e =
     let f : Fits m = sound-fits m e in
     let s : length (imageText m) ≡ imageLength m = image-length m e in
     let a : total monitorLength (m .mons) ≤ monitorLine * length (m .mons) =
-    total-most monitorLength monitorLine MonitorFits (m .mons) (λ x g. omega (arith, g .short)) (f .mons) in
+    total-most monitorLength monitorLine MonitorFits (m .mons) monitor-most (f .mons) in
     let b : total pairLength (m .pairs) ≤ pairLine * length (m .pairs) =
-    total-most pairLength pairLine PairFits (m .pairs) (λ q g. omega (arith, g .short)) (f .pairs) in
-    omega (arith, f .head .short, f .most-mons, f .most-pairs)
+    total-most pairLength pairLine PairFits (m .pairs) (λ q g. omega (arith, g .adv-most)) (f .pairs) in
+    omega (arith, f .facts .prefix-most, f .most-mons, f .facts .pairs-most)
 
 -- so it fits what a save is lent
 pub image-room : (m : Model) → soundModel m ≡ true → length (imageText m) ≤ saveRoom

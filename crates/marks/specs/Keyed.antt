@@ -15,12 +15,12 @@ use Rattle.advert.specs.Condition.{meets}
 use Rattle.advert.specs.Irk.{irkMeets, irk-random}
 use Rattle.model.specs.Types.{scanText}
 use Rattle.model.specs.Frames.{packetOf, scanOf}
-use Rattle.model.specs.Monitors.{matches}
-use Rattle.model.specs.Image.{monitorIn}
+use Rattle.model.specs.Monitors.{meetsCondition}
+use Rattle.model.specs.Image.{monitorFrom, monitorIn}
 use Rattle.marks.specs.Marks.{flag}
 use Rattle.marks.specs.Fields.{Clamped}
 use Rattle.marks.specs.Monitors.{row-field, row-condition, Alike, alike-matches}
-use Rattle.model.specs.Layout.{conditionAt, conditionLengthAt, conditionRoom, monitorSize, monitorsAt, mostMonitors, typeAt}
+use Rattle.model.specs.Layout.{conditionAt, conditionLengthAt, conditionRoom, monitorSize, monitorsAt, mostMonitors}
 
 -- whether a payload's address is a random one with top bits 01
 unfoldable pub privateOf : List ℕ → Bool
@@ -33,7 +33,7 @@ KeyAt s h = getD s (monitorsAt + monitorSize * h + 5) 0 ≡ 3
 -- of the handles before h with a key, 1 where it resolves the packet's address and 0 where not
 abbrev pub Keyed : List ℕ → List ℕ → List ℕ → ℕ → Type 0
 Keyed m s l h = (j : ℕ) → j < h → KeyAt s j
-    → getD m j 0 ≡ flag (matches (monitorIn (row monitorSize j (drop monitorsAt s)) .1) (packetOf l))
+    → getD m j 0 ≡ flag (meetsCondition (monitorIn (row monitorSize j (drop monitorsAt s)) .1) (packetOf l))
 
 -- what the loop over the handles is told: whether the address is such a one, and then what was found for the keys
 pub record Told (private : Bool) (m s l : List ℕ) : Type 0 where
@@ -42,7 +42,7 @@ pub record Told (private : Bool) (m s l : List ℕ) : Type 0 where
 
 -- one handle more
 pub keyed-turn : (m s l : List ℕ) (h x : ℕ) → h < length m → Keyed m s l h
-    → (KeyAt s h → x ≡ flag (matches (monitorIn (row monitorSize h (drop monitorsAt s)) .1) (packetOf l))) → Keyed (set m h x) s l (h + 1)
+    → (KeyAt s h → x ≡ flag (meetsCondition (monitorIn (row monitorSize h (drop monitorsAt s)) .1) (packetOf l))) → Keyed (set m h x) s l (h + 1)
 keyed-turn m s l h x b f e j k q =
     cases-le h j
     (λ z. let i : j ≡ h = omega arith in rw i (getD-set-same m h x 0 b ∙ e (rw i at q)))
@@ -50,9 +50,9 @@ keyed-turn m s l h x b f e j k q =
 
 -- the match of a key is that of the address
 key-matches : (s : List ℕ) (h : ℕ) (l : List ℕ) → KeyAt s h
-    → matches (monitorIn (row monitorSize h (drop monitorsAt s)) .1) (packetOf l)
+    → meetsCondition (monitorIn (row monitorSize h (drop monitorsAt s)) .1) (packetOf l)
     ≡ irkMeets (take (getD (row monitorSize h (drop monitorsAt s)) conditionLengthAt 0) (drop conditionAt (row monitorSize h (drop monitorsAt s)))) (getD l 1 0) (take 6 (drop 2 l))
-unfolding matches monitorIn packetOf meets pick
+unfolding meetsCondition monitorIn monitorFrom packetOf meets pick
 key-matches s h l e =
     let r : List ℕ = row monitorSize h (drop monitorsAt s) in
     ap (λ (k : ℕ). meets k (take (getD r conditionLengthAt 0) (drop conditionAt r)) (getD l 1 0) (take 6 (drop 2 l)) (take (getD l 8 0) (drop 9 l)) (scanText (scanOf l)))
@@ -62,7 +62,7 @@ key-matches s h l e =
 pub key-asked : (s : List ℕ) (h : ℕ) (l : List ℕ) (n : ℕ) {cond adr : List ℕ} {found : Bool} → KeyAt s h → privateOf l ≡ true
     → Clamped (getD s (monitorsAt + monitorSize * h + 6) 0) conditionRoom n
     → cond ≡ take n (drop (monitorsAt + monitorSize * h + 7) s) → adr ≡ take 6 (drop 2 l) → found ≡ resolvesBy cond adr
-    → found ≡ matches (monitorIn (row monitorSize h (drop monitorsAt s)) .1) (packetOf l)
+    → found ≡ meetsCondition (monitorIn (row monitorSize h (drop monitorsAt s)) .1) (packetOf l)
 unfolding privateOf
 key-asked s h l n k p c ec ea f =
     let r : List ℕ = row monitorSize h (drop monitorsAt s) in
@@ -78,7 +78,7 @@ unresolved true true k z e = absurd (false≢true (sym e))
 
 -- no key resolves another address
 pub key-none : (s : List ℕ) (h : ℕ) (l : List ℕ) → KeyAt s h → privateOf l ≡ false
-    → false ≡ matches (monitorIn (row monitorSize h (drop monitorsAt s)) .1) (packetOf l)
+    → false ≡ meetsCondition (monitorIn (row monitorSize h (drop monitorsAt s)) .1) (packetOf l)
 unfolding privateOf irkMeets resolvesBy
 key-none s h l k p =
     let r : List ℕ = row monitorSize h (drop monitorsAt s) in
@@ -88,8 +88,8 @@ key-none s h l k p =
 
 -- what was found for an alike row
 pub key-alike : (s l : List ℕ) (j h : ℕ) {x : ℕ} → Alike s j h → KeyAt s h
-    → (KeyAt s j → x ≡ flag (matches (monitorIn (row monitorSize j (drop monitorsAt s)) .1) (packetOf l)))
-    → x ≡ flag (matches (monitorIn (row monitorSize h (drop monitorsAt s)) .1) (packetOf l))
-unfolding monitorIn
+    → (KeyAt s j → x ≡ flag (meetsCondition (monitorIn (row monitorSize j (drop monitorsAt s)) .1) (packetOf l)))
+    → x ≡ flag (meetsCondition (monitorIn (row monitorSize h (drop monitorsAt s)) .1) (packetOf l))
+unfolding monitorIn monitorFrom
 key-alike s l j h a k f =
     f (sym (row-field s j 5 (omega arith)) ∙ a .kinds ∙ row-field s h 5 (omega arith) ∙ k) ∙ ap flag (alike-matches s j h (packetOf l) a)

@@ -3,3 +3,4 @@ pub mod Marks
 pub mod Fields
 pub mod Monitors
 pub mod Keyed
+pub mod Options

@@ -18,7 +18,7 @@ use Rattle.laws.specs.Rows.{row, put-whole}
 use Rattle.rule.specs.Engine.{find}
 use Rattle.rule.specs.Finds.{find-all}
 use Rattle.model.specs.Types.{Model, Monitor, Packet}
-use Rattle.model.specs.Monitors.{matches, good, strong, windowed}
+use Rattle.model.specs.Monitors.{allows, matches, good, sifts, strong, windowed}
 use Rattle.model.specs.Image.{monitorIn}
 use Rattle.model.specs.Block.{inUse, monitorPlace, padded}
 use Rattle.blocks.specs.Facts.{SoundMonitor, SoundModel}
@@ -29,7 +29,7 @@ use Rattle.model.specs.Layout.{monitorSize, monitorsAt, mostMonitors}
 
 -- what the octet of a packet that matches has beside its tests
 abbrev pub matched : ℕ
-matched = 16
+matched = 64
 
 -- a test as a number
 unfoldable pub flag : Bool → ℕ
@@ -37,7 +37,8 @@ flag true = 1
 flag false = 0
 
 -- What an octet says of the packet: the count of ticks since a good packet starts anew, the window takes the packet,
--- the packet may start a watch, it is reported at once where the pair is under watch, and it matches, so that its RSSI is kept (T-05).
+-- the packet may start a watch, it is reported at once where the pair is under watch, duplicates are filtered (T-13), the report filtering
+-- lets it through (T-13), and it matches, so that its RSSI is kept (T-05).
 unfoldable pub refreshes : ℕ → Bool
 refreshes a = eqb (a % 2) 1
 
@@ -50,15 +51,26 @@ opens a = eqb (a / 4 % 2) 1
 unfoldable pub tells : ℕ → Bool
 tells a = eqb (a / 8 % 2) 1
 
+unfoldable pub sifted : ℕ → Bool
+sifted a = eqb (a / 16 % 2) 1
+
+unfoldable pub allowed : ℕ → Bool
+allowed a = eqb (a / 32 % 2) 1
+
 unfoldable pub keeps : ℕ → Bool
 keeps a = leb matched a
 
-unfoldable pub bits : Bool → Bool → Bool → Bool → ℕ
-bits a b c d = flag a + 2 * flag b + 4 * flag c + 8 * flag d + matched
+unfoldable pub bits : Bool → Bool → Bool → Bool → Bool → Bool → ℕ
+bits a b c d e f = flag a + 2 * flag b + 4 * flag c + 8 * flag d + 16 * flag e + 32 * flag f + matched
 
--- the octet of a packet that matches: good, sampling from 0x01 to 0xFE, RSSI at least high, sampling 0
+-- a packet is reported at once: sampling 0, and the report filtering lets it through
+unfoldable pub instant : Monitor → Packet → Bool
+instant m p = eqb (m .sampling) 0 && allows m (p .event)
+
+-- the octet of a packet that matches: good, sampling from 0x01 to 0xFE, RSSI at least high, reported at once, duplicates filtered, let
+-- through
 unfoldable pub markOf : Monitor → Packet → ℕ
-markOf m p = pick (matches m p) (bits (good m p) (windowed m) (strong m p) (eqb (m .sampling) 0)) 0
+markOf m p = pick (matches m p) (bits (good m p) (windowed m) (strong m p) (instant m p) (sifts m) (allows m (p .event))) 0
 
 -- the octet of a handle: 0 where it has no monitor or the packet does not match
 unfoldable pub mark : Option Monitor → Packet → ℕ
@@ -87,41 +99,56 @@ flag-one true = refl
 flag-one false = refl
 
 -- each test of an octet is the flag it was made with
-module _ (a b c d : Bool) where
-  pub bits-most : bits a b c d ≤ 31
+module _ (a b c d e f : Bool) where
+  pub bits-most : bits a b c d e f ≤ 127
   unfolding bits
-  bits-most = omega (arith, flag-most a, flag-most b, flag-most c, flag-most d)
+  bits-most = omega (arith, flag-most a, flag-most b, flag-most c, flag-most d, flag-most e, flag-most f)
 
-  bits-refreshes : refreshes (bits a b c d) ≡ a
+  bits-refreshes : refreshes (bits a b c d e f) ≡ a
   unfolding refreshes bits
   bits-refreshes =
-      let e : (flag a + 2 * flag b + 4 * flag c + 8 * flag d + matched) % 2 ≡ flag a = omega (arith, flag-most a) in
-      ap (λ (n : ℕ). eqb n 1) e ∙ flag-one a
+      let q : (flag a + 2 * flag b + 4 * flag c + 8 * flag d + 16 * flag e + 32 * flag f + matched) % 2 ≡ flag a =
+      omega (arith, flag-most a) in
+      ap (λ (n : ℕ). eqb n 1) q ∙ flag-one a
 
-  bits-takes : takes (bits a b c d) ≡ b
+  bits-takes : takes (bits a b c d e f) ≡ b
   unfolding takes bits
   bits-takes =
-      let e : (flag a + 2 * flag b + 4 * flag c + 8 * flag d + matched) / 2 % 2 ≡ flag b =
+      let q : (flag a + 2 * flag b + 4 * flag c + 8 * flag d + 16 * flag e + 32 * flag f + matched) / 2 % 2 ≡ flag b =
       omega (arith, flag-most a, flag-most b) in
-      ap (λ (n : ℕ). eqb n 1) e ∙ flag-one b
+      ap (λ (n : ℕ). eqb n 1) q ∙ flag-one b
 
-  bits-opens : opens (bits a b c d) ≡ c
+  bits-opens : opens (bits a b c d e f) ≡ c
   unfolding opens bits
   bits-opens =
-      let e : (flag a + 2 * flag b + 4 * flag c + 8 * flag d + matched) / 4 % 2 ≡ flag c =
+      let q : (flag a + 2 * flag b + 4 * flag c + 8 * flag d + 16 * flag e + 32 * flag f + matched) / 4 % 2 ≡ flag c =
       omega (arith, flag-most a, flag-most b, flag-most c) in
-      ap (λ (n : ℕ). eqb n 1) e ∙ flag-one c
+      ap (λ (n : ℕ). eqb n 1) q ∙ flag-one c
 
-  bits-tells : tells (bits a b c d) ≡ d
+  bits-tells : tells (bits a b c d e f) ≡ d
   unfolding tells bits
   bits-tells =
-      let e : (flag a + 2 * flag b + 4 * flag c + 8 * flag d + matched) / 8 % 2 ≡ flag d =
+      let q : (flag a + 2 * flag b + 4 * flag c + 8 * flag d + 16 * flag e + 32 * flag f + matched) / 8 % 2 ≡ flag d =
       omega (arith, flag-most a, flag-most b, flag-most c, flag-most d) in
-      ap (λ (n : ℕ). eqb n 1) e ∙ flag-one d
+      ap (λ (n : ℕ). eqb n 1) q ∙ flag-one d
 
-  bits-keeps : keeps (bits a b c d) ≡ true
+  bits-sifted : sifted (bits a b c d e f) ≡ e
+  unfolding sifted bits
+  bits-sifted =
+      let q : (flag a + 2 * flag b + 4 * flag c + 8 * flag d + 16 * flag e + 32 * flag f + matched) / 16 % 2 ≡ flag e =
+      omega (arith, flag-most a, flag-most b, flag-most c, flag-most d, flag-most e) in
+      ap (λ (n : ℕ). eqb n 1) q ∙ flag-one e
+
+  bits-allowed : allowed (bits a b c d e f) ≡ f
+  unfolding allowed bits
+  bits-allowed =
+      let q : (flag a + 2 * flag b + 4 * flag c + 8 * flag d + 16 * flag e + 32 * flag f + matched) / 32 % 2 ≡ flag f =
+      omega (arith, flag-most a, flag-most b, flag-most c, flag-most d, flag-most e, flag-most f) in
+      ap (λ (n : ℕ). eqb n 1) q ∙ flag-one f
+
+  bits-keeps : keeps (bits a b c d e f) ≡ true
   unfolding keeps bits
-  bits-keeps = le-leb matched (flag a + 2 * flag b + 4 * flag c + 8 * flag d + matched) (omega arith)
+  bits-keeps = le-leb matched (flag a + 2 * flag b + 4 * flag c + 8 * flag d + 16 * flag e + 32 * flag f + matched) (omega arith)
 
 -- a test of a monitor's octet: the packet matches, and the test of the model holds
 and-true : (t : Bool) → (t && true) ≡ t
@@ -138,30 +165,43 @@ module _ (m : Monitor) (p : Packet) where
   unfolding markOf refreshes
   mark-refreshes =
       at-match refreshes (matches m p) (good m p) _ refl
-      (bits-refreshes (good m p) (windowed m) (strong m p) (eqb (m .sampling) 0))
+      (bits-refreshes (good m p) (windowed m) (strong m p) (instant m p) (sifts m) (allows m (p .event)))
 
   pub mark-takes : takes (markOf m p) ≡ (matches m p && windowed m)
   unfolding markOf takes
   mark-takes =
       at-match takes (matches m p) (windowed m) _ refl
-      (bits-takes (good m p) (windowed m) (strong m p) (eqb (m .sampling) 0))
+      (bits-takes (good m p) (windowed m) (strong m p) (instant m p) (sifts m) (allows m (p .event)))
 
   pub mark-opens : opens (markOf m p) ≡ (matches m p && strong m p)
   unfolding markOf opens
   mark-opens =
       at-match opens (matches m p) (strong m p) _ refl
-      (bits-opens (good m p) (windowed m) (strong m p) (eqb (m .sampling) 0))
+      (bits-opens (good m p) (windowed m) (strong m p) (instant m p) (sifts m) (allows m (p .event)))
 
-  pub mark-tells : tells (markOf m p) ≡ (matches m p && eqb (m .sampling) 0)
+  pub mark-tells : tells (markOf m p) ≡ (matches m p && instant m p)
   unfolding markOf tells
   mark-tells =
-      at-match tells (matches m p) (eqb (m .sampling) 0) _ refl
-      (bits-tells (good m p) (windowed m) (strong m p) (eqb (m .sampling) 0))
+      at-match tells (matches m p) (instant m p) _ refl
+      (bits-tells (good m p) (windowed m) (strong m p) (instant m p) (sifts m) (allows m (p .event)))
+
+  pub mark-sifted : sifted (markOf m p) ≡ (matches m p && sifts m)
+  unfolding markOf sifted
+  mark-sifted =
+      at-match sifted (matches m p) (sifts m) _ refl
+      (bits-sifted (good m p) (windowed m) (strong m p) (instant m p) (sifts m) (allows m (p .event)))
+
+  pub mark-allowed : allowed (markOf m p) ≡ (matches m p && allows m (p .event))
+  unfolding markOf allowed
+  mark-allowed =
+      at-match allowed (matches m p) (allows m (p .event)) _ refl
+      (bits-allowed (good m p) (windowed m) (strong m p) (instant m p) (sifts m) (allows m (p .event)))
 
   pub mark-keeps : keeps (markOf m p) ≡ matches m p
   unfolding markOf keeps
   mark-keeps =
-      at-match keeps (matches m p) true _ refl (bits-keeps (good m p) (windowed m) (strong m p) (eqb (m .sampling) 0))
+      at-match keeps (matches m p) true _ refl
+      (bits-keeps (good m p) (windowed m) (strong m p) (instant m p) (sifts m) (allows m (p .event)))
       ∙ and-true (matches m p)
 
 -- the octet of a row is that of the handle's monitor
@@ -170,7 +210,7 @@ pub mark-place : (h : ℕ) (o : Option Monitor) (p : Packet) → ((m : Monitor) 
 unfolding markRow mark
 mark-place h none p s = pick-false _ 0 (inUse-none h)
 mark-place h (some m) p s =
-    pick-true _ 0 (inUse-some h m (s m refl)) ∙ ap (λ (x : ℕ × Monitor). markOf (x .1) p) (monitorIn-some h m)
+    pick-true _ 0 (inUse-some h m (s m refl)) ∙ ap (λ (x : ℕ × Monitor). markOf (x .1) p) (monitorIn-some h m (s m refl))
 
 -- the octets of a sound block are those of its monitors
 pub marks-padded : (m : Model) (p : Packet) → SoundModel m → marksAt (padded m) p ≡ marks (m .mons) p

@@ -1,41 +1,53 @@
 -- A handle's octet, read from its monitor's row in the block. Document 01, Conditions, Watching, by history. Assumes
 -- nothing.
-use Prim.Native.Nat.{ℕ, _+_, _-_, _*_, _≤_, _<_}
+use Prim.Native.Nat.{ℕ, _+_, _-_, _*_, _%_, _≤_, _<_}
 use mathlib.Core.Path.{_≡_, refl, sym, ap, ap₂, _∙_}
 use mathlib.Core.Bool.{Bool, true, false, _&&_, not}
 use mathlib.Core.List.{List, [], _++_, append-nil}
 use native.Mathlib.Omega.{arith}
+use native.Mathlib.Nat.{div-one, mod-lt}
 use lib.Dec.{leb, ltb, eqb}
 use lib.Signed.{leZ, ltZ}
 use lib.ListN.{length, take, drop, getD}
 use lib.Seq.{getD-drop, drop-drop, take-take, take-all, length-take-le}
-use borrow.Author.Tests.{eq-eqb, ne-eqb}
-use Rattle.laws.specs.Tests.{pick, sames, sames-eq, and-not-left, cases-le}
+use borrow.Author.Tests.{eqb-true, eqb-false, eq-eqb, ne-eqb}
+use Rattle.laws.specs.Tests.{pick, pick-true, pick-false, sames, sames-eq, and-not-left, cases-le, cases-eq}
 use Rattle.laws.specs.Rows.{row, getD-row}
 use Rattle.advert.specs.Condition.{meets}
 use Rattle.model.specs.Level.{level, dBm}
 use Rattle.model.specs.Levels.{below-levels, most-levels}
-use Rattle.model.specs.Types.{Packet, scanText}
+use Rattle.model.specs.Types.{Monitor, Packet, scanText}
 use Rattle.model.specs.Frames.{packetOf, scanOf}
-use Rattle.model.specs.Monitors.{matches, good, strong, windowed}
-use Rattle.model.specs.Image.{monitorIn}
+use Rattle.model.specs.Monitors.{admits, allows, bit, filtering, letsThrough, matches, meetsCondition, good, parameters, sifts, siftsBy, strong, windowed}
+use Rattle.blocks.specs.Added.{filteringOf, row-filtering}
+use Rattle.model.specs.Image.{monitorFrom, monitorIn}
 use Rattle.model.specs.Block.{inUse}
-use Rattle.marks.specs.Marks.{matched, flag, bits, markOf, markRow}
+use Rattle.marks.specs.Marks.{matched, flag, bits, instant, markOf, markRow}
 use Rattle.marks.specs.Fields.{Clamped}
-use Rattle.model.specs.Layout.{conditionAt, conditionLengthAt, conditionRoom, headSize, monitorSize, monitorsAt, typeAt}
+use Rattle.model.specs.Layout.{conditionAt, conditionLengthAt, conditionRoom, extraAt, headSize, monitorSize, monitorsAt, typeAt}
 
 -- the octet of a packet that matches, from the octets of the monitor's row and the packet's RSSI
-unfoldable pub rowBits : ℕ → ℕ → ℕ → ℕ → ℕ
-rowBits high low sampling rssi =
+unfoldable pub rowBits : ℕ → ℕ → ℕ → ℕ → ℕ → ℕ → ℕ
+rowBits high low sampling rssi filter event =
     bits (ltZ (dBm low) (dBm rssi)) (leb 1 sampling && leb sampling 254) (leZ (dBm high) (dBm rssi))
-    (eqb sampling 0)
+    (eqb sampling 0 && letsThrough filter event) (bit 1 filter) (letsThrough filter event)
 
-pub bits-made : (high low sampling rssi : ℕ) {v u w a b c d : ℕ} → v ≡ level rssi → u ≡ level low → w ≡ level high
+-- a number is odd: its lowest bit
+pub odd-flag : (n : ℕ) → n % 2 ≡ flag (bit 1 n)
+unfolding flag bit
+odd-flag n = rw (div-one n) (go (n % 2) (eqb (n % 2) 1) refl (mod-lt n (omega arith)))
+  where
+    go : (k : ℕ) (t : Bool) → eqb k 1 ≡ t → k < 2 → k ≡ flag t
+    go k true e h = eqb-true k 1 e
+    go k false e h = let z : k ≡ 1 → ⊥ = eqb-false k 1 e in cases-eq k 0 (λ i. i) (λ i. absurd (z (omega arith)))
+
+pub bits-made : (high low sampling rssi filter event : ℕ) {v u w a b c d e f : ℕ} {t : Bool} → v ≡ level rssi → u ≡ level low
+    → w ≡ level high
     → a ≡ flag (ltb u v) → b ≡ flag (leb 1 sampling && leb sampling 254) → c ≡ flag (leb w v)
-    → d ≡ flag (eqb sampling 0)
-    → a + 2 * b + 4 * c + 8 * d + matched ≡ rowBits high low sampling rssi
+    → t ≡ letsThrough filter event → d ≡ flag (eqb sampling 0 && t) → e ≡ filter % 2 → f ≡ flag t
+    → a + 2 * b + 4 * c + 8 * d + 16 * e + 32 * f + matched ≡ rowBits high low sampling rssi filter event
 unfolding rowBits bits
-bits-made high low sampling rssi e f g p q r s = rw (p, q, r, s, e, f, g, below-levels low rssi, most-levels high rssi)
+bits-made high low sampling rssi filter event x y z p q r i s o l = rw (p, q, r, s, o, l, x, y, z, i, odd-flag filter, below-levels low rssi, most-levels high rssi)
 
 -- a field of the row of a handle
 pub row-field : (s : List ℕ) (h j : ℕ) → j < monitorSize → getD (row monitorSize h (drop monitorsAt s)) j 0 ≡ getD s (monitorsAt + monitorSize * h + j) 0
@@ -43,7 +55,7 @@ row-field s h j b =
     let e : monitorsAt + (monitorSize * h + j) ≡ monitorsAt + monitorSize * h + j = omega arith in
     getD-row monitorSize h j (drop monitorsAt s) 0 b ∙ getD-drop headSize s (monitorSize * h + j) 0 ∙ ap (λ (i : ℕ). getD s i 0) e
 
-drop-take : (k n : ℕ) (l : List ℕ) → drop k (take (k + n) l) ≡ take n (drop k l)
+pub drop-take : (k n : ℕ) (l : List ℕ) → drop k (take (k + n) l) ≡ take n (drop k l)
 drop-take k n l = ap (λ (x : List ℕ). drop k x) (lib.Seq.take-add k n l) ∙ cases-le k (length l) inside outside
   where
     inside : k ≤ length l → drop k (take k l ++ take n (drop k l)) ≡ take n (drop k l)
@@ -74,29 +86,53 @@ row-condition s h n c =
     short : conditionRoom < getD s (monitorsAt + monitorSize * h + 6) 0 → length (take conditionRoom (drop (monitorsAt + monitorSize * h + 7) s)) ≤ getD s (monitorsAt + monitorSize * h + 6) 0
     short u = simp lib.ListN.length-take (omega arith)
 
--- 1 where a row is in use and its monitor matches the packet, else 0
+-- 1 where a row is in use and the packet meets its monitor's condition, else 0
 unfoldable pub metRow : List ℕ → Packet → ℕ
-metRow r p = flag (inUse r && matches (monitorIn r .1) p)
+metRow r p = flag (inUse r && meetsCondition (monitorIn r .1) p)
 
-unmet : (a b : Bool) (x : ℕ) → flag (a && b) ≡ 0 → pick a (pick b x 0) 0 ≡ 0
+unmet : (a b c : Bool) (x : ℕ) → flag (a && b) ≡ 0 → pick a (pick (b && c) x 0) 0 ≡ 0
 unfolding flag pick
-unmet false b x e = refl
-unmet true false x e = refl
-unmet true true x e = absurd (omega arith)
+unmet false b c x e = refl
+unmet true false c x e = refl
+unmet true true c x e = absurd (omega arith)
 
-met : (a b : Bool) (x : ℕ) → (flag (a && b) ≡ 0 → ⊥) → pick a (pick b x 0) 0 ≡ x
+met : (a b c : Bool) (x : ℕ) → (flag (a && b) ≡ 0 → ⊥) → pick a (pick (b && c) x 0) 0 ≡ pick c x 0
 unfolding flag pick
-met true true x n = refl
-met true false x n = absurd (n refl)
-met false b x n = absurd (n refl)
+met true true c x n = refl
+met true false c x n = absurd (n refl)
+met false b c x n = absurd (n refl)
+
+-- the octet of a packet that matches, from the row's octets
+fullBits : Monitor → Packet → ℕ
+fullBits m p = bits (good m p) (windowed m) (strong m p) (instant m p) (sifts m) (allows m (p .event))
+
+row-fields : (r : List ℕ) (p : Packet) → bits (ltZ (dBm (getD r 2 0)) (dBm (p .rssi))) (leb 1 (getD r 4 0) && leb (getD r 4 0) 254)
+    (leZ (dBm (getD r 1 0)) (dBm (p .rssi))) (eqb (getD r 4 0) 0 && letsThrough (filtering (parameters (monitorIn r .1))) (p .event))
+    (bit 1 (filtering (parameters (monitorIn r .1)))) (letsThrough (filtering (parameters (monitorIn r .1))) (p .event))
+    ≡ fullBits (monitorIn r .1) p
+unfolding fullBits good windowed strong instant sifts siftsBy allows monitorIn monitorFrom
+row-fields r p = refl
+
+row-bits : (s : List ℕ) (h : ℕ) (l : List ℕ)
+    → rowBits (getD s (monitorsAt + monitorSize * h + 1) 0) (getD s (monitorsAt + monitorSize * h + 2) 0) (getD s (monitorsAt + monitorSize * h + 4) 0)
+    (getD l (length l - 1) 0)
+    (filteringOf (getD s (monitorsAt + monitorSize * h + extraAt) 0) (getD s (monitorsAt + monitorSize * h + (extraAt + 1)) 0)) (getD l 0 0)
+    ≡ fullBits (monitorIn (row monitorSize h (drop monitorsAt s)) .1) (packetOf l)
+unfolding rowBits packetOf
+row-bits s h l =
+    let r : List ℕ = row monitorSize h (drop monitorsAt s) in
+    let f : filteringOf (getD s (monitorsAt + monitorSize * h + extraAt) 0) (getD s (monitorsAt + monitorSize * h + (extraAt + 1)) 0)
+    ≡ filtering (parameters (monitorIn r .1)) =
+    ap₂ filteringOf (sym (row-field s h extraAt (omega arith))) (sym (row-field s h (extraAt + 1) (omega arith))) ∙ sym (row-filtering r) in
+    rw (f, ← row-field s h 1 (omega arith), ← row-field s h 2 (omega arith), ← row-field s h 4 (omega arith)) (row-fields r (packetOf l))
 
 module _ (s : List ℕ) (h : ℕ) (l : List ℕ) where
   -- what the match was asked
   pub match-asked : (n : ℕ) {cond adr adv scan : List ℕ} {found : Bool} → Clamped (getD s (monitorsAt + monitorSize * h + 6) 0) conditionRoom n
       → cond ≡ take n (drop (monitorsAt + monitorSize * h + 7) s) → adr ≡ take 6 (drop 2 l) → adv ≡ take (getD l 8 0) (drop 9 l) → scan ≡ scanText (scanOf l)
       → found ≡ meets (getD s (monitorsAt + monitorSize * h + 5) 0) cond (getD l 1 0) adr adv scan
-      → found ≡ matches (monitorIn (row monitorSize h (drop monitorsAt s)) .1) (packetOf l)
-  unfolding matches monitorIn packetOf
+      → found ≡ meetsCondition (monitorIn (row monitorSize h (drop monitorsAt s)) .1) (packetOf l)
+  unfolding meetsCondition monitorIn monitorFrom packetOf
   match-asked n {cond} {adr} {adv} {scan} {found} c ec ea ed es f =
       let r : List ℕ = row monitorSize h (drop monitorsAt s) in
       f ∙ ap (λ (k : ℕ). meets k cond (getD l 1 0) adr adv scan) (sym (row-field s h 5 (omega arith)))
@@ -115,29 +151,42 @@ module _ (s : List ℕ) (h : ℕ) (l : List ℕ) where
   met-unused e = sym (ap flag (and-not-left _ _ (ap not (eq-eqb _ 0 (row-field s h 3 (omega arith) ∙ e)))))
 
   pub met-used : {t : Bool} {x : ℕ} → (getD s (monitorsAt + monitorSize * h + 3) 0 ≡ 0 → ⊥) → x ≡ flag t
-      → t ≡ matches (monitorIn (row monitorSize h (drop monitorsAt s)) .1) (packetOf l)
+      → t ≡ meetsCondition (monitorIn (row monitorSize h (drop monitorsAt s)) .1) (packetOf l)
       → x ≡ metRow (row monitorSize h (drop monitorsAt s)) (packetOf l)
   unfolding metRow
   met-used u e f =
-      e ∙ ap flag (f ∙ sym (ap (λ (b : Bool). b && matches (monitorIn (row monitorSize h (drop monitorsAt s)) .1) (packetOf l)) (used u)))
+      e ∙ ap flag (f ∙ sym (ap (λ (b : Bool). b && meetsCondition (monitorIn (row monitorSize h (drop monitorsAt s)) .1) (packetOf l)) (used u)))
 
   -- the octet of the handle
-  pub mark-unmet : {x : ℕ} → x ≡ metRow (row monitorSize h (drop monitorsAt s)) (packetOf l) → x ≡ 0
-      → 0 ≡ markRow (row monitorSize h (drop monitorsAt s)) (packetOf l)
-  unfolding metRow markRow markOf
-  mark-unmet e z =
-      sym (unmet (inUse (row monitorSize h (drop monitorsAt s))) (matches (monitorIn (row monitorSize h (drop monitorsAt s)) .1) (packetOf l)) _
-      (sym e ∙ z))
+  abbrev one : List ℕ
+  one = row monitorSize h (drop monitorsAt s)
 
-  pub mark-met : {x r : ℕ} → x ≡ metRow (row monitorSize h (drop monitorsAt s)) (packetOf l) → (x ≡ 0 → ⊥)
-      → r ≡ rowBits (getD s (monitorsAt + monitorSize * h + 1) 0) (getD s (monitorsAt + monitorSize * h + 2) 0) (getD s (monitorsAt + monitorSize * h + 4) 0) (getD l
-      (length l - 1) 0)
-      → r ≡ markRow (row monitorSize h (drop monitorsAt s)) (packetOf l)
-  unfolding metRow markRow markOf rowBits good windowed strong monitorIn packetOf
-  mark-met e n b =
-      b ∙ rw (← row-field s h 1 (omega arith), ← row-field s h 2 (omega arith), ← row-field s h 4 (omega arith)) refl
-      ∙ sym (met (inUse (row monitorSize h (drop monitorsAt s))) (matches (monitorIn (row monitorSize h (drop monitorsAt s)) .1) (packetOf l)) _
-      (λ z. n (e ∙ z)))
+  pub mark-unmet : {x : ℕ} → x ≡ metRow one (packetOf l) → x ≡ 0 → 0 ≡ markRow one (packetOf l)
+  unfolding metRow markRow markOf matches
+  mark-unmet e z =
+      sym (unmet (inUse one) (meetsCondition (monitorIn one .1) (packetOf l)) (admits (parameters (monitorIn one .1)) (packetOf l)) _ (sym e ∙ z))
+
+  met-mark : {x : ℕ} {t : Bool} → x ≡ metRow one (packetOf l) → (x ≡ 0 → ⊥) → t ≡ admits (parameters (monitorIn one .1)) (packetOf l)
+      → markRow one (packetOf l) ≡ pick t (fullBits (monitorIn one .1) (packetOf l)) 0
+  unfolding metRow markRow markOf matches fullBits
+  met-mark {x} {t} e n f =
+      met (inUse one) (meetsCondition (monitorIn one .1) (packetOf l)) (admits (parameters (monitorIn one .1)) (packetOf l)) _ (λ z. n (e ∙ z))
+      ∙ ap (λ (b : Bool). pick b (fullBits (monitorIn one .1) (packetOf l)) 0) (sym f)
+
+  pub mark-barred : {x : ℕ} {t : Bool} → x ≡ metRow one (packetOf l) → (x ≡ 0 → ⊥)
+      → t ≡ admits (parameters (monitorIn one .1)) (packetOf l) → t ≡ false → 0 ≡ markRow one (packetOf l)
+  mark-barred {x} {t} e n f z = sym (met-mark e n f ∙ pick-false _ 0 z)
+
+  pub mark-met : {x r f : ℕ} {t : Bool} → x ≡ metRow one (packetOf l) → (x ≡ 0 → ⊥)
+      → t ≡ admits (parameters (monitorIn one .1)) (packetOf l) → t ≡ true
+      → f ≡ filteringOf (getD s (monitorsAt + monitorSize * h + extraAt) 0) (getD s (monitorsAt + monitorSize * h + (extraAt + 1)) 0)
+      → r ≡ rowBits (getD s (monitorsAt + monitorSize * h + 1) 0) (getD s (monitorsAt + monitorSize * h + 2) 0) (getD s (monitorsAt + monitorSize * h + 4) 0)
+      (getD l (length l - 1) 0) f (getD l 0 0)
+      → r ≡ markRow one (packetOf l)
+  mark-met {x} {r} {f} {t} e n d z o b =
+      b ∙ ap (λ (k : ℕ). rowBits (getD s (monitorsAt + monitorSize * h + 1) 0) (getD s (monitorsAt + monitorSize * h + 2) 0)
+      (getD s (monitorsAt + monitorSize * h + 4) 0) (getD l (length l - 1) 0) k (getD l 0 0)) o
+      ∙ row-bits s h l ∙ sym (met-mark e n d ∙ pick-true _ 0 z)
 
 -- two rows, the first in use, with one type and one condition
 pub record Alike (s : List ℕ) (j h : ℕ) : Type 0 where
@@ -145,10 +194,10 @@ pub record Alike (s : List ℕ) (j h : ℕ) : Type 0 where
   pub kinds : monitorIn (row monitorSize j (drop monitorsAt s)) .1 .kind ≡ monitorIn (row monitorSize h (drop monitorsAt s)) .1 .kind
   pub conditions : monitorIn (row monitorSize j (drop monitorsAt s)) .1 .condition ≡ monitorIn (row monitorSize h (drop monitorsAt s)) .1 .condition
 
--- match the same packets
+-- are met by the same packets
 pub alike-matches : (s : List ℕ) (j h : ℕ) (p : Packet) → Alike s j h
-    → matches (monitorIn (row monitorSize j (drop monitorsAt s)) .1) p ≡ matches (monitorIn (row monitorSize h (drop monitorsAt s)) .1) p
-unfolding matches
+    → meetsCondition (monitorIn (row monitorSize j (drop monitorsAt s)) .1) p ≡ meetsCondition (monitorIn (row monitorSize h (drop monitorsAt s)) .1) p
+unfolding meetsCondition
 alike-matches s j h p a =
     ap₂ (λ (k : ℕ) (c : List ℕ). meets k c (p .kind) (p .address) (p .adv) (scanText (p .scan))) (a .kinds) (a .conditions)
 
@@ -157,7 +206,7 @@ pub alike : (s : List ℕ) (j h n m : ℕ) {x y : List ℕ} → (getD s (monitor
     → Clamped (getD s (monitorsAt + monitorSize * j + 6) 0) conditionRoom n → Clamped (getD s (monitorsAt + monitorSize * h + 6) 0) conditionRoom m
     → x ≡ take n (drop (monitorsAt + monitorSize * j + 7) s) → y ≡ take m (drop (monitorsAt + monitorSize * h + 7) s)
     → sames x y ≡ true → Alike s j h
-unfolding monitorIn
+unfolding monitorIn monitorFrom
 alike s j h n m {x} {y} u k cn cm ex ey e = record {
   used = used s j [] u;
   kinds = row-field s j 5 (omega arith) ∙ k ∙ sym (row-field s h 5 (omega arith));

@@ -1,5 +1,7 @@
 // What a packet means to each monitor of a block (document 01, Conditions, Watching, by history). The monitors are asked once, in
 // handle order; what each says of the packet is kept as one octet a handle, which the loops over pairs and handles read.
+mod options;
+
 use state::State;
 ghost use Prim.Native.Nat.{_+_, _≤_, _<_};
 ghost use mathlib.Core.Path.{_≡_};
@@ -9,7 +11,7 @@ ghost use Rattle.model.specs.Frames.{packetOf};
 ghost use Rattle.marks.specs.Marks.{flag, markRow, marksAt};
 ghost use Rattle.marks.specs.Fields.{Framed, framed, scanAt, marksFit, marked};
 ghost use mathlib.Core.Bool.{true};
-ghost use Rattle.model.specs.Monitors.{matches};
+ghost use Rattle.model.specs.Monitors.{meetsCondition};
 ghost use Rattle.model.specs.Image.{monitorIn};
 ghost use Rattle.marks.specs.Monitors.{rowBits, metRow, Alike};
 ghost use Rattle.marks.specs.Keyed.{privateOf, KeyAt, Keyed, Told};
@@ -25,11 +27,12 @@ fn bit(t: bool) -> u8
 }
 
 // What the octet of a packet that matches has beside the tests.
-pub const MATCHED: u8 = 0x10;
+pub const MATCHED: u8 = 0x40;
 
-// What a packet that matches means to a monitor: good, in its window, strong enough for a start, reported at once; its RSSI is kept.
-fn row_bits(high: u8, low: u8, sampling: u8, rssi: u8) -> u8
-    ensures { λ r. ⌜ r ≡ rowBits high low sampling rssi ⌝ }
+// What a packet that matches means to a monitor: good, in its window, strong enough for a start, reported at once, duplicates filtered, let
+// through by the report filtering; its RSSI is kept.
+fn row_bits(high: u8, low: u8, sampling: u8, rssi: u8, filtering: u8, event: u8) -> u8
+    ensures { λ r. ⌜ r ≡ rowBits high low sampling rssi filtering event ⌝ }
 {
     let l = state::level_of(rssi);
     let lowest = state::level_of(low);
@@ -37,8 +40,11 @@ fn row_bits(high: u8, low: u8, sampling: u8, rssi: u8) -> u8
     let good = bit(lowest < l);
     let windowed = bit((1 <= sampling) & (sampling <= 254));
     let strong = bit(highest <= l);
-    let instant = bit(sampling == 0);
-    good + 2 * windowed + 4 * strong + 8 * instant + MATCHED
+    let through = state::lets_through(filtering, event);
+    let instant = bit((sampling == 0) & through);
+    let sifts = filtering % 2;
+    let told = bit(through);
+    good + 2 * windowed + 4 * strong + 8 * instant + 16 * sifts + 32 * told + MATCHED
 }
 
 // Whether the row of handle j is in use and has the type and the condition of that of h.
@@ -82,7 +88,7 @@ fn first_alike(s: &[u8], h: usize) -> usize
 // Whether a packet matches the condition at a handle. The scan response begins at index scan.
 fn matches_at(s: &[u8], h: usize, payload: &[u8], scan: usize) -> bool
     requires { ⌜ (length (now s) ≡ blockSize) × (h < mostMonitors) × Framed (now payload) × (scan ≡ scanAt (now payload)) ⌝ }
-    ensures { λ r. ⌜ r ≡ matches (monitorIn (row monitorSize h (drop monitorsAt (now (s .entry)))) .1) (packetOf (now (payload .entry))) ⌝ }
+    ensures { λ r. ⌜ r ≡ meetsCondition (monitorIn (row monitorSize h (drop monitorsAt (now (s .entry)))) .1) (packetOf (now (payload .entry))) ⌝ }
 {
     let at = State::MONITORS_AT + State::MONITOR_ROW * h;
     let from = at + State::CONDITION_AT;
@@ -102,7 +108,7 @@ fn matches_at(s: &[u8], h: usize, payload: &[u8], scan: usize) -> bool
 // Whether a random address is resolved by the key at a handle.
 fn resolved_at(s: &[u8], h: usize, payload: &[u8]) -> bool
     requires { ⌜ (length (now s) ≡ blockSize) × (h < mostMonitors) × Framed (now payload) × (privateOf (now payload) ≡ true) × KeyAt (now s) h ⌝ }
-    ensures { λ r. ⌜ r ≡ matches (monitorIn (row monitorSize h (drop monitorsAt (now (s .entry)))) .1) (packetOf (now (payload .entry))) ⌝ }
+    ensures { λ r. ⌜ r ≡ meetsCondition (monitorIn (row monitorSize h (drop monitorsAt (now (s .entry)))) .1) (packetOf (now (payload .entry))) ⌝ }
 {
     let at = State::MONITORS_AT + State::MONITOR_ROW * h;
     let from = at + State::CONDITION_AT;
@@ -115,7 +121,7 @@ fn resolved_at(s: &[u8], h: usize, payload: &[u8]) -> bool
 fn met_key(met: &[u8], s: &[u8], h: usize, payload: &[u8]) -> u8
     requires { ⌜ (length (now met) ≡ mostMonitors) × (length (now s) ≡ blockSize) × (h < mostMonitors) × Framed (now payload)
         × (privateOf (now payload) ≡ true) × Keyed (now met) (now s) (now payload) h ⌝ }
-    ensures { λ r. ⌜ (KeyAt (now (s .entry)) h → r ≡ flag (matches (monitorIn (row monitorSize h (drop monitorsAt (now (s .entry)))) .1) (packetOf (now (payload .entry))))) ⌝ }
+    ensures { λ r. ⌜ (KeyAt (now (s .entry)) h → r ≡ flag (meetsCondition (monitorIn (row monitorSize h (drop monitorsAt (now (s .entry)))) .1) (packetOf (now (payload .entry))))) ⌝ }
 {
     let at = State::MONITORS_AT + State::MONITOR_ROW * h;
     if s[at + State::TYPE_AT] != advert::IRK {
@@ -141,7 +147,7 @@ fn met_keys(met: &mut [u8], s: &[u8], payload: &[u8])
     }
 }
 
-// Whether the monitor of a handle is in use (its interval is not 0) and the packet matches, as 1 or 0; for an address that keys resolve
+// Whether the monitor of a handle is in use (its interval is not 0) and the packet meets its condition, as 1 or 0; for an address that keys resolve
 // met has it of the handles with a key, and no key resolves another.
 fn met_at(met: &[u8], s: &[u8], h: usize, payload: &[u8], scan: usize, private: bool) -> u8
     requires { ⌜ (length (now met) ≡ mostMonitors) × (length (now s) ≡ blockSize) × (h < mostMonitors) × Framed (now payload)
@@ -161,7 +167,7 @@ fn met_at(met: &[u8], s: &[u8], h: usize, payload: &[u8], scan: usize, private: 
     bit(matches_at(s, h, payload, scan))
 }
 
-// The octet of a handle, from whether its monitor is in use and matches.
+// The octet of a handle, from whether its monitor is in use and its condition met.
 fn mark_at(s: &[u8], h: usize, payload: &[u8], met: u8) -> u8
     requires { ⌜ (length (now s) ≡ blockSize) × (h < mostMonitors) × Framed (now payload)
         × (met ≡ metRow (row monitorSize h (drop monitorsAt (now s))) (packetOf (now payload))) ⌝ }
@@ -170,12 +176,17 @@ fn mark_at(s: &[u8], h: usize, payload: &[u8], met: u8) -> u8
     if met == 0 {
         return 0;
     }
+    if !options::admits_at(s, h, payload) {
+        return 0;
+    }
     let at = State::MONITORS_AT + State::MONITOR_ROW * h;
     row_bits(
         s[at + State::HIGH_AT],
         s[at + State::LOW_AT],
         s[at + State::SAMPLING_AT],
         payload[payload.len() - 1],
+        state::filtering_of(s[at + State::OPTIONS_AT], s[at + State::FILTERING_AT]),
+        payload[0],
     )
 }
 
@@ -262,7 +273,7 @@ fn is_framed(payload: &[u8]) -> bool
 }
 
 // The octets of the handles 0 to 15, from the block s and a packet frame's payload. Where acts is not of 16 octets, s no block of
-// 4,825 or the payload no packet frame's by its lengths, nothing is written and the answer is false.
+// 5,225 or the payload no packet frame's by its lengths, nothing is written and the answer is false.
 pub fn mark_all(acts: &mut [u8], s: &[u8], payload: &[u8]) -> bool
     ensures { λ r. ⌜ (r ≡ marksFit (now (acts .entry)) (now (s .entry)) (now (payload .entry))) × (now (acts .exit) ≡ marked r (now (acts .entry)) (now (s .entry)) (now (payload .entry))) ⌝ }
 {

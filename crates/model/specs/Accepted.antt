@@ -12,7 +12,7 @@ use Rattle.advert.specs.Condition.{wellFormed, formOf, formStatus}
 use Rattle.advert.specs.Laws.{status-zero, well-kind-most}
 use Rattle.model.specs.Types.{Monitor, ticksOf}
 use Rattle.model.specs.Level.{inRange}
-use Rattle.model.specs.Monitors.{ordered, settingsGood, conditionFault, faultOf, accepts, runOf, invalid, full}
+use Rattle.model.specs.Monitors.{allowed, ordered, parameters, settingsGood, conditionFault, faultOf, accepts, runOf, invalid, full}
 use Rattle.model.specs.Layout.{mostCondition}
 
 -- a status that is none: the test held, and what it chose gives none
@@ -44,6 +44,7 @@ fault-none kind condition e =
 
 pub record Accepted (m : Monitor) : Type 0 where
   pub settings : settingsGood (m .high) (m .low) (m .interval) ≡ true
+  pub permitted : allowed (parameters m) (m .sampling) (m .kind) ≡ true
   pub interval-least : 1 ≤ m .interval
   pub interval-most : m .interval ≤ 60
   pub formed : wellFormed (m .kind) (m .condition) ≡ true
@@ -54,15 +55,18 @@ pub accepted : (m : Monitor) → accepts m ≡ true → Accepted m
 unfolding accepts faultOf settingsGood
 accepted m e =
     let r : Bool = inRange (m .high) && inRange (m .low) && ordered (m .high) (m .low) in
-    let a = chosen-none (settingsGood (m .high) (m .low) (m .interval)) (conditionFault (m .kind) (m .condition)) invalid
-    (omega arith) (eqb-true (faultOf m) 0 e) in
+    let g : Bool = settingsGood (m .high) (m .low) (m .interval) in
+    let p : Bool = allowed (parameters m) (m .sampling) (m .kind) in
+    let a = chosen-none (g && p) (conditionFault (m .kind) (m .condition)) invalid (omega arith) (eqb-true (faultOf m) 0 e) in
     let c = fault-none (m .kind) (m .condition) (a .1) in
-    let i = and-left (r && leb 1 (m .interval)) (leb (m .interval) 60) (a .0) in
+    let s : g ≡ true = and-left g p (a .0) in
+    let i = and-left (r && leb 1 (m .interval)) (leb (m .interval) 60) s in
     let w = status-zero (m .kind) (m .condition) (c .0) in
     record {
-      settings = a .0;
+      settings = s;
+      permitted = and-right g p (a .0);
       interval-least = leb-true 1 (m .interval) (and-right r (leb 1 (m .interval)) i);
-      interval-most = leb-true (m .interval) 60 (and-right (r && leb 1 (m .interval)) (leb (m .interval) 60) (a .0));
+      interval-most = leb-true (m .interval) 60 (and-right (r && leb 1 (m .interval)) (leb (m .interval) 60) s);
       formed = w;
       kind-most = well-kind-most (m .kind) (m .condition) w;
       short = c .1;

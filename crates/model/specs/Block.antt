@@ -1,6 +1,6 @@
 -- The state as a block of octets: rows as the image has them before hexadecimal, unused octets and rows 0. Document 01, The image
--- ("every unused octet and place of the state 0"). A0's fields stand at 0 (40 octets, the prefix padded), the 16 monitor rows of 71
--- octets at 40, the row of handle h at place h, the 64 pair rows of 57 octets at 1176 in start order, the number of pairs at 4824.
+-- ("every unused octet and place of the state 0"). A0's fields stand at 0 (40 octets, the prefix padded), the 16 monitor rows of 96
+-- octets at 40, the row of handle h at place h, the 64 pair rows of 57 octets at 1576 in start order, the number of pairs at 5224.
 use Prim.Native.Nat.{ℕ, zero, suc, _+_, _-_, _*_}
 use mathlib.Core.Bool.{Bool, true, false, _&&_, not}
 use mathlib.Core.List.{List, [], _∷_, _++_, map}
@@ -17,16 +17,21 @@ use Rattle.sessions.specs.Machine.{answerRoom, lastNumber}
 use Rattle.model.specs.Types.{Model, Monitor, Pair}
 use Rattle.model.specs.Image.{headRow, monitorRow, pairRow, monitorIn, pairIn}
 use Rattle.model.specs.Sound.{soundModel}
-use Rattle.model.specs.Layout.{blockSize, monitorSize, pairSize, headSize, countAt, monitorsAt, pairsAt, filterAt, intervalAt, mostMonitors, mostPairs, opcodeAt, positionAt, prefixAt, prefixLengthAt}
+use Rattle.model.specs.Layout.{blockSize, extraAt, extraSize, monitorSize, pairSize, headSize, countAt, monitorsAt, pairsAt, filterAt, intervalAt, mostMonitors, mostPairs, opcodeAt, positionAt, prefixAt, prefixLengthAt}
 
 -- a row with zeros behind it, up to n octets
 unfoldable pub padTo : ℕ → List ℕ → List ℕ
 padTo n r = r ++ replicate (n - length r) 0
 
+-- the added parameters in a monitor's row: zeros in version 1
+unfoldable pub extraRow : Option (List ℕ) → List ℕ
+extraRow none = replicate extraSize 0
+extraRow (some l) = l
+
 -- the row of a handle: its monitor's, or zeros
 unfoldable pub monitorPlace : ℕ → Option Monitor → List ℕ
 monitorPlace h none = replicate monitorSize 0
-monitorPlace h (some m) = padTo monitorSize (monitorRow (h, m))
+monitorPlace h (some m) = padTo extraAt (monitorRow (h, m)) ++ extraRow (m .extra)
 
 unfoldable pub monitorBlock : List (ℕ × Monitor) → List ℕ
 monitorBlock mons = upTo (λ h. monitorPlace h (find mons h)) mostMonitors

@@ -1,6 +1,6 @@
 -- Commands: the table of lengths, each status in its order, and what a command changes. Document 01, Commands.
 use Prim.Native.Nat.{ℕ, _+_}
-use mathlib.Core.Bool.{Bool, true, false, _&&_, not}
+use mathlib.Core.Bool.{Bool, true, false, _&&_, _||_, not}
 use mathlib.Core.List.{List, [], _∷_, _++_}
 use mathlib.Core.Option.{Option, none, some}
 use lib.Dec.{leb, ltb, eqb}
@@ -12,7 +12,7 @@ use Rattle.model.specs.Types.{Model, Monitor, Pair, withLists, withFilte
 use Rattle.model.specs.Monitors.{faultOf, monitorOf, invalid, full, disallowed, unknown}
 use Rattle.model.specs.Layout.{mostMonitors}
 
--- A row of the table: a sub-opcode, its parameter length counting the sub-opcode (03: the least), and the number of return
+-- A row of the table: a sub-opcode, its parameter length counting the sub-opcode (03 and 0F: the least), and the number of return
 -- parameters on success (00: less the prefix).
 pub record Row : Type 0 where
   pub sub : ℕ
@@ -25,7 +25,8 @@ table =
     record { sub = 0x00; params = 1; answer = 11 }
     ∷ record { sub = 0x03; params = 6; answer = 3 }
     ∷ record { sub = 0x04; params = 2; answer = 2 }
-    ∷ record { sub = 0x05; params = 2; answer = 2 } ∷ []
+    ∷ record { sub = 0x05; params = 2; answer = 2 }
+    ∷ record { sub = 0x0F; params = 31; answer = 3 } ∷ []
 
 -- the parameter length and the answer length of a sub-opcode in the rows; 0 where it has none
 unfoldable pub paramsIn : List Row → ℕ → ℕ
@@ -49,10 +50,14 @@ subOf l = getD l 0 0
 unfoldable pub readStatus : List ℕ → ℕ
 readStatus l = pick (eqb (length l) (paramsIn table 0x00)) 0 invalid
 
+-- a monitor's command: 03, or 0F, whose "other checks and .. answers are 03's, with that sub-opcode and its own least length (H)"
+unfoldable pub adds : List ℕ → Bool
+adds l = eqb (subOf l) 0x03 || eqb (subOf l) 0x0F
+
 -- "03 in this order: fewer than 6 parameter octets counting the sub-opcode, .. then 16 monitors live: 0x07"
 unfoldable pub addStatus : Model → List ℕ → ℕ
 addStatus m l =
-    pick (ltb (length l) (paramsIn table 0x03)) invalid (
+    pick (ltb (length l) (paramsIn table (subOf l))) invalid (
     pick (not (eqb (faultOf (monitorOf l)) 0)) (faultOf (monitorOf l)) (
     pick (present (slot (m .mons) mostMonitors 0)) 0 full))
 
@@ -72,7 +77,7 @@ enableStatus m l =
 unfoldable pub status : Model → List ℕ → ℕ
 status m l =
     pick (eqb (subOf l) 0x00) (readStatus l) (
-    pick (eqb (subOf l) 0x03) (addStatus m l) (
+    pick (adds l) (addStatus m l) (
     pick (eqb (subOf l) 0x04) (cancelStatus m l) (
     pick (eqb (subOf l) 0x05) (enableStatus m l) unknown)))
 
@@ -84,20 +89,20 @@ handleOr (some h) = h
 unfoldable pub newHandle : Model → ℕ
 newHandle m = handleOr (slot (m .mons) mostMonitors 0)
 
--- "Features are 0x0C": 8 octets
+-- "Features are 0x0C"; T-13: "feature bit 0x400 is added": 8 octets
 unfoldable pub features : List ℕ
-features = 0x0C ∷ 0 ∷ 0 ∷ 0 ∷ 0 ∷ 0 ∷ 0 ∷ 0 ∷ []
+features = 0x0C ∷ 0x04 ∷ 0 ∷ 0 ∷ 0 ∷ 0 ∷ 0 ∷ 0 ∷ []
 
 -- "Return, success"
 unfoldable pub success : Model → List ℕ → List ℕ
 success m l =
     pick (eqb (subOf l) 0x00) (0x00 ∷ 0x00 ∷ (features ++ (length (m .prefix) ∷ m .prefix))) (
-    pick (eqb (subOf l) 0x03) (0x00 ∷ 0x03 ∷ newHandle m ∷ []) (
+    pick (adds l) (0x00 ∷ subOf l ∷ newHandle m ∷ []) (
     0x00 ∷ subOf l ∷ []))
 
--- "Return, failure": status and sub-opcode, and for 03 a 00
+-- "Return, failure": status and sub-opcode, and for 03 and 0F a 00
 unfoldable pub failure : ℕ → List ℕ → List ℕ
-failure s l = pick (eqb (subOf l) 0x03) (s ∷ 0x03 ∷ 0x00 ∷ []) (s ∷ subOf l ∷ [])
+failure s l = pick (adds l) (s ∷ subOf l ∷ 0x00 ∷ []) (s ∷ subOf l ∷ [])
 
 -- the return parameters
 unfoldable pub returned : Model → List ℕ → List ℕ
@@ -117,7 +122,7 @@ added m new = withLists m (insertAt (slot (m .mons) mostMonitors 0) new (m .mons
 -- what a command that succeeds changes
 unfoldable pub changed : Model → List ℕ → Model
 changed m l =
-    pick (eqb (subOf l) 0x03) (added m (monitorOf l)) (
+    pick (adds l) (added m (monitorOf l)) (
     pick (eqb (subOf l) 0x04) (cancelled m (getD l 1 0)) (
     pick (eqb (subOf l) 0x05) (withFilter m (getD l 1 0)) m))
 

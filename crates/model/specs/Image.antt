@@ -1,6 +1,6 @@
 -- The image's text, and what text is an image. Document 01, The image; a text is an image exactly if saving a sound state writes it.
-use Prim.Native.Nat.{ℕ}
-use mathlib.Core.Bool.{Bool, true, false, _&&_}
+use Prim.Native.Nat.{ℕ, _+_}
+use mathlib.Core.Bool.{Bool, true, false, _&&_, _||_}
 use mathlib.Core.List.{List, [], _∷_, _++_, map}
 use mathlib.Core.Option.{Option, none, some}
 use lib.Dec.{eqb}
@@ -12,7 +12,7 @@ use Rattle.lines.specs.Hex.{textOf, octetsIn}
 use Rattle.sessions.specs.Saved.{cut}
 use Rattle.model.specs.Types.{Model, Monitor, Pair}
 use Rattle.model.specs.Sound.{soundModel}
-use Rattle.model.specs.Layout.{kindAt, addressSize, filterAt, opcodeAt, positionAt, prefixAt, prefixLengthAt, addressAt, conditionAt, conditionLengthAt, dataAt, eventAt, handleAt, highAt, intervalAt, lengthAt, lowAt, packetsAt, rssiAt, samplingAt, silentAt, sumAt, ticksAt, typeAt}
+use Rattle.model.specs.Layout.{kindAt, addressSize, filterAt, opcodeAt, positionAt, prefixAt, prefixLengthAt, addressAt, conditionAt, conditionLengthAt, dataAt, eventAt, extraAt, extraSize, handleAt, highAt, intervalAt, lengthAt, lowAt, optionsIn, packetsAt, rssiAt, samplingAt, silentAt, sumAt, ticksAt, typeAt}
 
 -- "A0 line: position (4), filter, opcode (2), prefix length, prefix"
 unfoldable pub headRow : Model → List ℕ
@@ -22,6 +22,18 @@ headRow m = octetsOf 4 (m .position) ++ (m .filter ∷ (octetsOf 2 (m .opcode) +
 unfoldable pub monitorRow : ℕ × Monitor → List ℕ
 monitorRow x =
     x .0 ∷ x .1 .high ∷ x .1 .low ∷ x .1 .interval ∷ x .1 .sampling ∷ x .1 .kind ∷ length (x .1 .condition) ∷ x .1 .condition
+
+-- T-13: "A version 2 monitor is an A5 line among the A1 lines, by handle: A1's fields, then the added parameters as printed"
+unfoldable pub extraText : Option (List ℕ) → List ℕ
+extraText none = []
+extraText (some l) = l
+
+unfoldable pub nameOf : Option (List ℕ) → ℕ
+nameOf none = 0xA1
+nameOf (some l) = 0xA5
+
+unfoldable pub monitorText : ℕ × Monitor → List ℕ
+monitorText x = nameOf (x .1 .extra) ∷ (monitorRow x ++ extraText (x .1 .extra))
 
 -- "A2 per pair, in start order: handle, address type, address, ticks since a good packet (2), ticks in the window (1), packets (4),
 -- sum (8), event type, n, data of the latest packet in the window"; T-05: "The A2 line becomes an A3 line, which has that octet" (the kept
@@ -38,19 +50,38 @@ endRow m = length (m .mons) ∷ length (m .pairs) ∷ []
 -- the lines before hexadecimal, each with the octet that names it
 unfoldable pub records : Model → List (List ℕ)
 records m =
-    (0xA0 ∷ headRow m) ∷ (map (λ (x : ℕ × Monitor). 0xA1 ∷ monitorRow x) (m .mons)
+    (0xA0 ∷ headRow m) ∷ (map monitorText (m .mons)
     ++ (map (λ (q : Pair). 0xA3 ∷ pairRow q) (m .pairs) ++ ((0xAF ∷ endRow m) ∷ [])))
 
 -- the image's text
 unfoldable pub imageText : Model → List ℕ
 imageText m = each textOf (records m)
 
--- what rows hold: a monitor, a pair
-unfoldable pub monitorIn : List ℕ → ℕ × Monitor
-monitorIn r = (
+-- what rows hold: a monitor, a pair. Monitor_options 0, which version 2 forbids, says that there are no added parameters.
+unfoldable pub extraIn : List ℕ → Option (List ℕ)
+extraIn a = pick (eqb (getD a optionsIn 0) 0) none (some a)
+
+-- a monitor with A1's fields in one list and what is added in another
+unfoldable pub monitorFrom : List ℕ → List ℕ → ℕ × Monitor
+monitorFrom r a = (
   getD r handleAt 0,
-  record { high = getD r highAt 0; low = getD r lowAt 0; interval = getD r intervalAt 0; sampling = getD r samplingAt 0; kind = getD r typeAt 0; condition = take (getD r conditionLengthAt 0) (drop conditionAt r) },
+  record {
+    high = getD r highAt 0;
+    low = getD r lowAt 0;
+    interval = getD r intervalAt 0;
+    sampling = getD r samplingAt 0;
+    kind = getD r typeAt 0;
+    condition = take (getD r conditionLengthAt 0) (drop conditionAt r);
+    extra = extraIn a;
+  },
 )
+
+-- in a row of the block the added parameters stand behind the room of the condition, in a line behind the condition
+unfoldable pub monitorIn : List ℕ → ℕ × Monitor
+monitorIn r = monitorFrom r (take extraSize (drop extraAt r))
+
+unfoldable pub monitorOn : List ℕ → ℕ × Monitor
+monitorOn l = monitorFrom l (drop (conditionAt + getD l conditionLengthAt 0) l)
 
 unfoldable pub pairIn : List ℕ → Pair
 pairIn r =
@@ -74,6 +105,13 @@ named n r = eqb (getD r 0 0) n
 unfoldable pub rowsNamed : ℕ → List (List ℕ) → List (List ℕ)
 rowsNamed n rs = map (drop 1) (keep (named n) rs)
 
+-- the monitors' lines, of either version
+unfoldable pub isMonitor : List ℕ → Bool
+isMonitor r = named 0xA1 r || named 0xA5 r
+
+unfoldable pub monitorsOn : List (List ℕ) → List (ℕ × Monitor)
+monitorsOn rs = map (λ (r : List ℕ). monitorOn (drop 1 r)) (keep isMonitor rs)
+
 -- the first line
 unfoldable pub firstOf : List (List ℕ) → List ℕ
 firstOf [] = []
@@ -87,7 +125,7 @@ modelIn rs =
       filter = getD (firstOf rs) filterAt 0;
       opcode = little 2 (firstOf rs) opcodeAt;
       prefix = take (getD (firstOf rs) prefixLengthAt 0) (drop prefixAt (firstOf rs));
-      mons = map monitorIn (rowsNamed 0xA1 rs);
+      mons = monitorsOn rs;
       pairs = map pairIn (rowsNamed 0xA3 rs);
     }
 

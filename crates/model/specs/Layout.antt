@@ -68,8 +68,35 @@ conditionLengthAt = typeAt + 1
 abbrev pub conditionAt : ℕ
 conditionAt = conditionLengthAt + 1
 
+-- Behind the room of the condition, what version 2 adds (document 02, T-13): Monitor_options,
+-- Advertisement_report_filtering_options, Peer_device_address (6), Peer_device_address_type, Peer_device_IRK (16). The places are
+-- counted from the first of them; all are 0 in version 1.
+abbrev pub extraAt : ℕ
+extraAt = conditionAt + mostCondition
+
+abbrev pub optionsIn : ℕ
+optionsIn = 0
+
+abbrev pub filteringIn : ℕ
+filteringIn = optionsIn + 1
+
+abbrev pub peerIn : ℕ
+peerIn = filteringIn + 1
+
+abbrev pub peerTypeIn : ℕ
+peerTypeIn = peerIn + addressSize
+
+abbrev pub irkIn : ℕ
+irkIn = peerTypeIn + 1
+
+abbrev pub irkSize : ℕ
+irkSize = 16
+
+abbrev pub extraSize : ℕ
+extraSize = irkIn + irkSize
+
 abbrev pub monitorSize : ℕ
-monitorSize = conditionAt + mostCondition
+monitorSize = extraAt + extraSize
 
 -- A pair's row, A3's fields: handle, address type, address, ticks since a good packet (2), ticks in the window, packets (4),
 -- sum (8), kept RSSI (document 02, T-05), event type, n, data.
@@ -169,7 +196,8 @@ abbrev pub bodySize : ℕ
 bodySize = blockSize - headSize
 
 -- the longest event, report, return parameters and Command Complete; what one handle's turn writes at a
--- packet, what all do (a stop event and a start event each), and with both reports; the parameters of 03
+-- packet, what all do (a stop event and a start event each), and with both reports; the parameters of 03 and 0F: the condition's type, and
+-- the longest list that is accepted
 abbrev pub eventMost : ℕ
 eventMost = 12 + mostPrefix
 
@@ -191,8 +219,14 @@ turnsMost = turnMost * mostMonitors
 abbrev pub packetMost : ℕ
 packetMost = turnsMost + 2 * reportMost
 
+abbrev pub firstTypeIn : ℕ
+firstTypeIn = 5
+
+abbrev pub secondTypeIn : ℕ
+secondTypeIn = firstTypeIn + extraSize
+
 abbrev pub paramsMost : ℕ
-paramsMost = 6 + mostCondition
+paramsMost = secondTypeIn + 1 + mostCondition
 
 -- The image's lines with their LF: the octet that names a line and its fields, two characters an octet. A row of the block may be
 -- longer than the fields of its line.
@@ -200,7 +234,7 @@ abbrev pub headLine : ℕ
 headLine = 2 * (1 + (prefixAt + mostPrefix)) + 1
 
 abbrev pub monitorLine : ℕ
-monitorLine = 2 * (1 + (conditionAt + mostCondition)) + 1
+monitorLine = 2 * (1 + (conditionAt + mostCondition + extraSize)) + 1
 
 abbrev pub pairLine : ℕ
 pairLine = 2 * (1 + (dataAt + mostData)) + 1

@@ -21,4 +21,5 @@ pub mod InFull
 pub mod Lengths
 pub mod Rows
 pub mod Requests
+pub mod Second
 pub mod Edges

@@ -13,7 +13,7 @@ use Rattle.model.specs.Types.{Model, Monitor, Packet, Pair, deviceOf, ti
 use Rattle.model.specs.Level.{level}
 use Rattle.model.specs.Monitors.{matches, good, strong, runOf, accepts, monitorOf, faultOf}
 use Rattle.model.specs.Accepted.{accepts-run}
-use Rattle.model.specs.Commands.{subOf, paramsIn, table}
+use Rattle.model.specs.Commands.{adds, subOf, paramsIn, table}
 use Rattle.model.specs.Frames.{Body, Typed, command, packet as packetFrame, tick as tickFrame, bad, typed}
 
 -- RSSI by its level, which is ordered as dBm are (Levels, `below-levels`)
@@ -36,10 +36,10 @@ radio =
       okay-run = accepts-run;
     }
 
--- a command as the rule reads it: 03 with parameters enough, 04 of the right length, any other
+-- a command as the rule reads it: 03 or 0F with parameters enough, 04 of the right length, any other
 unfoldable pub coreCommand : List ℕ → Frame radio
 coreCommand l =
-    pick (eqb (subOf l) 0x03) (pick (ltb (length l) (paramsIn table 0x03)) other (add (monitorOf l))) (
+    pick (adds l) (pick (ltb (length l) (paramsIn table (subOf l))) other (add (monitorOf l))) (
     pick (eqb (subOf l) 0x04) (pick (eqb (length l) (paramsIn table 0x04)) (cancel (getD l 1 0)) other) other)
 
 unfoldable pub coreTyped : Typed → Frame radio

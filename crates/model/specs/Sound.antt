@@ -13,9 +13,9 @@ use Rattle.rule.specs.Engine.{find}
 use Rattle.sessions.specs.Machine.{lastNumber}
 use Rattle.model.specs.Types.{Model, Monitor, Pair, watched}
 use Rattle.model.specs.Level.{inRange, sumInRange}
-use Rattle.model.specs.Monitors.{accepts, runOf, windowed}
+use Rattle.model.specs.Monitors.{accepts, runOf, sifts, windowed}
 use Rattle.model.specs.Watch.{isPair, holds}
-use Rattle.model.specs.Layout.{mostData, mostMonitors, mostPairs, mostPrefix}
+use Rattle.model.specs.Layout.{extraSize, mostData, mostMonitors, mostPairs, mostPrefix}
 
 -- a list of at most n octets
 unfoldable pub octetsUpTo : ℕ → List ℕ → Bool
@@ -25,9 +25,15 @@ octetsUpTo n l = leb (length l) n && every isOctet l
 unfoldable pub soundSettings : ℕ → List ℕ → Bool
 soundSettings opcode prefix = leb 0xFC00 opcode && leb opcode 0xFFFF && octetsUpTo mostPrefix prefix
 
--- "every monitor as 0x03 would accept it", its fields octets
+-- the added parameters are 25 octets
+unfoldable pub soundExtra : Option (List ℕ) → Bool
+soundExtra none = true
+soundExtra (some l) = eqb (length l) extraSize && every isOctet l
+
+-- "every monitor as 0x03 would accept it"; T-13: version 2 "where its command would accept it"; its fields octets
 unfoldable pub soundMonitor : Monitor → Bool
-soundMonitor m = accepts m && isOctet (m .high) && isOctet (m .low) && isOctet (m .sampling) && every isOctet (m .condition)
+soundMonitor m =
+    accepts m && isOctet (m .high) && isOctet (m .low) && isOctet (m .sampling) && every isOctet (m .condition) && soundExtra (m .extra)
 
 -- "monitors held in rising handle order, handles 0 to 15"; each handle at least k
 unfoldable pub soundMonitors : ℕ → List (ℕ × Monitor) → Bool
@@ -43,20 +49,26 @@ soundWindow position m q =
     && sumInRange (q .sum) (q .packets))
     (eqb (q .ticks) 0 && eqb (q .packets) 0)
 
--- "with packets 0 the sum, event type and n are 0"
-unfoldable pub soundEmpty : Pair → Bool
-soundEmpty q = leb 1 (q .packets) || (eqb (q .sum) 0 && eqb (q .event) 0 && eqb (length (q .adv)) 0)
+-- T-13: "for monitors that filter duplicates the A3 line's last fields keep that packet though packets is 0 (event type 0xFF, n 0 while
+-- there is none)"; for others event type and n are 0
+unfoldable pub soundLatest : Bool → ℕ → List ℕ → Bool
+soundLatest true event adv = leb event 3 || (eqb event 0xFF && eqb (length adv) 0)
+soundLatest false event adv = eqb event 0 && eqb (length adv) 0
 
--- "with valid address type and event type, n at most 31"; T-05: the kept RSSI "between −127 and 20"
+-- "with valid .. event type"; "with packets 0 the sum, event type and n are 0"
+unfoldable pub soundEmpty : Monitor → Pair → Bool
+soundEmpty m q = pick (leb 1 (q .packets)) (leb (q .event) 3) (eqb (q .sum) 0 && soundLatest (sifts m) (q .event) (q .adv))
+
+-- "with valid address type .., n at most 31"; T-05: the kept RSSI "between −127 and 20"
 unfoldable pub soundFields : Pair → Bool
 soundFields q =
-    leb (q .kind) 1 && eqb (length (q .address)) 6 && every isOctet (q .address) && leb (q .event) 3 && octetsUpTo mostData (q .adv)
+    leb (q .kind) 1 && eqb (length (q .address)) 6 && every isOctet (q .address) && octetsUpTo mostData (q .adv)
     && (isOctet (q .kept) && inRange (q .kept))
 
 -- "of live handles"; "ticks below 10 × interval"
 unfoldable pub soundOf : ℕ → Option Monitor → Pair → Bool
 soundOf position none q = false
-soundOf position (some m) q = soundFields q && ltb (q .silent) (runOf m) && soundWindow position m q && soundEmpty q
+soundOf position (some m) q = soundFields q && ltb (q .silent) (runOf m) && soundWindow position m q && soundEmpty m q
 
 unfoldable pub soundPair : Model → Pair → Bool
 soundPair m q = soundOf (m .position) (find (m .mons) (q .handle)) q

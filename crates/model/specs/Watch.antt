@@ -12,7 +12,7 @@ use Rattle.rule.specs.Engine.{find}
 use Rattle.rule.specs.Base.{each as moveEach}
 use Rattle.model.specs.Types.{Model, Monitor, Packet, Pair, deviceOf, watched, withLists}
 use Rattle.model.specs.Level.{dBm, addRssi}
-use Rattle.model.specs.Monitors.{matches, good, strong, runOf, windowed}
+use Rattle.model.specs.Monitors.{allows, matches, good, sifts, strong, runOf, windowed}
 use Rattle.model.specs.Events.{startEvent, stopEvent, packetReports, windowReport}
 use Rattle.model.specs.Layout.{mostMonitors, mostPairs}
 
@@ -78,6 +78,22 @@ emptied q =
       adv = [];
     }
 
+-- a pair that keeps a packet for duplicates: its event type and data
+unfoldable pub withLatest : ℕ → List ℕ → Pair → Pair
+withLatest event adv q =
+    record {
+      handle = q .handle;
+      kind = q .kind;
+      address = q .address;
+      silent = q .silent;
+      ticks = q .ticks;
+      packets = q .packets;
+      sum = q .sum;
+      kept = q .kept;
+      event = event;
+      adv = adv;
+    }
+
 -- a pair that keeps another RSSI
 unfoldable pub withKept : Pair → ℕ → Pair
 withKept q o =
@@ -105,10 +121,19 @@ refreshed m p q = pick (good m p) (withSilent q 0) q
 unfoldable pub windowTakes : Monitor → Packet → Pair → Pair
 windowTakes m p q = pick (windowed m) (gathered p q) q
 
+-- T-13: "A duplicate has the event type and advertisement data of the last packet that was a reason for a report for that pair"
+unfoldable pub duplicate : Monitor → Packet → Pair → Bool
+duplicate m p q = sifts m && (eqb (q .event) (p .event) && sames (q .adv) (p .adv))
+
+-- the packet that was a reason is kept, for a monitor that filters duplicates; keeping a duplicate changes nothing, so it need not be
+-- told apart (`duplicate-kept`)
+unfoldable pub remembered : Monitor → Packet → Pair → Pair
+remembered m p q = pick (sifts m && allows m (p .event)) (withLatest (p .event) (p .adv) q) q
+
 -- T-05: "Each pair keeps its latest matching RSSI", good or not
 unfoldable pub atPacket : Option Monitor → Packet → Pair → Pair
 atPacket none p q = q
-atPacket (some m) p q = pick (counts m p q) (windowTakes m p (refreshed m p (withKept q (p .rssi)))) q
+atPacket (some m) p q = pick (counts m p q) (remembered m p (windowTakes m p (refreshed m p (withKept q (p .rssi))))) q
 
 unfoldable pub packetMove : List (ℕ × Monitor) → Packet → Pair → Pair
 packetMove mons p q = atPacket (find mons (q .handle)) p q
@@ -153,15 +178,31 @@ unfoldable pub begins : Monitor → Packet → ℕ → List Pair → Bool
 begins m p h qs = matches m p && (strong m p && (not (holds qs h (deviceOf p)) && fits (p .rssi) qs))
 
 -- a pair at its start: "The start packet is in no window". T-01: "A start packet now counts as good even when its RSSI is not above
--- low": no ticks have passed since a good packet.
-unfoldable pub startPair : ℕ → Packet → Pair
-startPair h p =
-    record { handle = h; kind = p .kind; address = p .address; silent = 0; ticks = 0; packets = 0; sum = 0; kept = p .rssi; event = 0; adv = [] }
+-- low": no ticks have passed since a good packet. T-13: "looking no further back than its latest start", "event type 0xFF, n 0 while there
+-- is none"
+unfoldable pub startLike : Bool → Bool → ℕ → Packet → Pair
+startLike sifting reason h p =
+    record {
+      handle = h;
+      kind = p .kind;
+      address = p .address;
+      silent = 0;
+      ticks = 0;
+      packets = 0;
+      sum = 0;
+      kept = p .rssi;
+      event = pick sifting (pick reason (p .event) 0xFF) 0;
+      adv = when (sifting && reason) (p .adv);
+    }
+
+-- "a start packet is never a duplicate": it is kept where it is a reason
+unfoldable pub startPair : Monitor → ℕ → Packet → Pair
+startPair m h p = startLike (sifts m) (allows m (p .event)) h p
 
 -- one handle's turn gives its start, if it has one
 unfoldable pub startOf : Option Monitor → Packet → ℕ → List Pair → List Pair
 startOf none p h qs = []
-startOf (some m) p h qs = when (begins m p h qs) (startPair h p ∷ [])
+startOf (some m) p h qs = when (begins m p h qs) (startPair m h p ∷ [])
 
 -- T-05: "that pair (the earliest started if several) gets its stop event": the pair that goes for a start at an RSSI where there is no
 -- room, and those that stay
@@ -179,7 +220,7 @@ stopOf (some m) p h qs = when (begins m p h qs) (goesFor (p .rssi) qs)
 -- the pairs after it: "monitors take one packet in handle order, and a start takes its room at once"
 unfoldable pub turn : Option Monitor → Packet → ℕ → List Pair → List Pair
 turn none p h qs = qs
-turn (some m) p h qs = pick (begins m p h qs) (staysFor (p .rssi) qs ++ (startPair h p ∷ [])) qs
+turn (some m) p h qs = pick (begins m p h qs) (staysFor (p .rssi) qs ++ (startPair m h p ∷ [])) qs
 
 -- the turns of the handles below n, and the starts that they give, by handle
 unfoldable pub turns : List (ℕ × Monitor) → Packet → ℕ → List Pair → List Pair
@@ -207,14 +248,27 @@ packetPairs m p = turns (m .mons) p mostMonitors (map (packetMove (m .mons) p) (
 unfoldable pub startsOf : Model → Packet → List Pair
 startsOf m p = startsBelow (m .mons) p mostMonitors (map (packetMove (m .mons) p) (m .pairs))
 
--- "some matching monitor has sampling 0 and the pair under watch"
-unfoldable pub wants : List Pair → Packet → ℕ × Monitor → Bool
-wants qs p x = eqb (x .1 .sampling) 0 && (matches (x .1) p && holds qs (x .0) (deviceOf p))
+-- "some matching monitor has sampling 0 and the pair under watch"; T-13: it is a reason where its report filtering lets the packet
+-- through and it is no duplicate
+unfoldable pub reasonFor : Option Monitor → Packet → Pair → Bool
+reasonFor none p q = false
+reasonFor (some m) p q = counts m p q && (eqb (m .sampling) 0 && (allows m (p .event) && not (duplicate m p q)))
+
+unfoldable pub wants : List (ℕ × Monitor) → Packet → Pair → Bool
+wants mons p q = reasonFor (find mons (q .handle)) p q
+
+-- "or the packet is a start"; T-13: where the report filtering of its monitor lets it through
+unfoldable pub allowsBy : Option Monitor → ℕ → Bool
+allowsBy none event = false
+allowsBy (some m) event = allows m event
+
+unfoldable pub startTold : List (ℕ × Monitor) → Packet → Pair → Bool
+startTold mons p q = allowsBy (find mons (q .handle)) (p .event)
 
 -- "one report .. if the filter is off, or some matching monitor has sampling 0 and the pair under watch, or the packet is a start"
 unfoldable pub reported : Model → Packet → Bool
 reported m p =
-    eqb (m .filter) 0 || (someOf (wants (packetPairs m p) p) (m .mons) || leb 1 (length (startsOf m p)))
+    eqb (m .filter) 0 || (someOf (wants (m .mons) p) (m .pairs) || someOf (startTold (m .mons) p) (startsOf m p))
 
 -- "Packet, handles ascending: a start event for each start", behind the stop event of the pair that goes for it. "Then one report
 -- with the packet's RSSI"; with kind 04 a second one
@@ -241,9 +295,10 @@ atTick (some m) q = pick (goesOn m q) (some (windowTick m (withSilent q (q .sile
 unfoldable pub tickPairs : Model → List Pair
 tickPairs m = moveEach (λ q. atTick (find (m .mons) (q .handle)) q) (m .pairs)
 
--- "if the filter is on and the window had matching packets, one report"
+-- "if the filter is on and the window had matching packets, one report"; T-13: where the report filtering lets the packet through that
+-- it reports
 unfoldable pub windowSays : ℕ → Monitor → Pair → Bool
-windowSays filter m q = eqb filter 1 && (closes m q && leb 1 (q .packets))
+windowSays filter m q = eqb filter 1 && (closes m q && (leb 1 (q .packets) && allows m (q .event)))
 
 -- "if the watch ends, a stop event and no report. Otherwise .. one report"
 unfoldable pub tickOctets : ℕ → List ℕ → Option Monitor → Pair → List ℕ

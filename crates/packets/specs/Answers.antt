@@ -3,11 +3,11 @@
 use Prim.Native.Nat.{ℕ, _+_, _-_, _*_, _≤_, _<_}
 use mathlib.Core.Path.{_≡_, refl, sym, ap, _∙_}
 use mathlib.Core.Bool.{Bool, true, false}
-use mathlib.Core.List.{List, _∷_, _++_}
+use mathlib.Core.List.{List, _∷_}
 use mathlib.Core.Option.{none, some}
 use native.Mathlib.Omega.{arith}
 use lib.ListN.{length, take, drop, getD, length-append, length-take, length-drop}
-use lib.Seq.{take-take, drop-cons, getD-drop, take-all, length-take-le}
+use lib.Seq.{take-take, drop-cons, length-take-le}
 use borrow.Author.Tests.{le-leb, eq-eqb}
 use Rattle.laws.specs.Tests.{pick, and-both}
 use Rattle.laws.specs.Loops.{when, when-true, when-false}

@@ -1,61 +1,67 @@
 -- The loop over the handles: what their turns leave and write, one after another. Document 01, Watching, by history ("monitors take one packet
 -- in handle order, and a start takes its room at once"); document 02, T-05. Assumes nothing.
 use Prim.Native.Nat.{ℕ, zero, suc, _+_, _≤_, _<_}
-use mathlib.Core.Path.{_≡_, refl, sym, ap, _∙_, subst}
-use mathlib.Core.Bool.{Bool, true, _&&_, not}
+use mathlib.Core.Path.{_≡_, refl, sym, ap, ap₂, _∙_, subst}
+use mathlib.Core.Bool.{Bool, true, false, _&&_, _||_, not}
 use mathlib.Core.List.{List, [], _∷_, _++_}
 use native.Mathlib.Omega.{arith}
 use native.Mathlib.Numerals.{add-one}
 use native.Mathlib.Nat.{zero-add}
 use lib.ListN.{length, getD, length-append}
-use Rattle.laws.specs.Tests.{pick, and-right}
-use Rattle.laws.specs.Put.{put, put-nil}
+use Rattle.laws.specs.Tests.{and-right}
+use Rattle.laws.specs.Loops.{some as someOf}
+use Rattle.laws.specs.Put.{put-nil}
 use Rattle.rule.specs.Base.{All, all-append}
 use Rattle.rule.specs.Engine.{find}
 use Rattle.model.specs.Types.{Model, Monitor, Packet, Pair, deviceOf, withLists}
-use Rattle.model.specs.Watch.{holds, fits, staysFor, startPair, turn, turns, turnsAnswer}
+use Rattle.model.specs.Level.{level}
+use Rattle.model.specs.Watch.{holds, fits, staysFor, startOf, turn, turns, turnsAnswer, startsBelow, startTold}
 use Rattle.model.specs.Block.{padded}
 use Rattle.blocks.specs.Bounds.{Fits}
 use Rattle.blocks.specs.Block.{Measured}
 use Rattle.blocks.specs.Updates.{measured-pairs}
 use Rattle.steps.specs.Typed.{pick-both, Sent}
 use Rattle.steps.specs.Drops.{stays-fewer, stays-all}
-use Rattle.marks.specs.Marks.{opens, mark, marks, getD-marks}
-use Rattle.packets.specs.Changes.{starts, after, told, turn-after, answer-told}
+use Rattle.marks.specs.Marks.{opens, sifted, allowed, mark, marks, getD-marks}
+use Rattle.packets.specs.Changes.{some-append, started, starts, after, told, turn-after, answer-told, start-told}
 use Rattle.packets.specs.Writes.{Wrote, fits-start}
 use Rattle.packets.specs.Starts.{Holding, Turned, Told, wrote-both, wrote-is}
 use Rattle.model.specs.Layout.{mostMonitors, mostPairs}
 
 -- the pairs stay ones that fit, at most 64
+pub after-fit : (a h : ℕ) (p : Packet) (l : List Pair) → h < mostMonitors → Sent p → All Fits l × (length l ≤ mostPairs)
+    → All Fits (after a h p l) × (length (after a h p l) ≤ mostPairs)
+unfolding after starts started
+after-fit a h p l b t x =
+    let r : ℕ = p .rssi in
+    let w : Bool = not (holds l h (deviceOf p)) in
+    pick-both (λ (z : List Pair). All Fits z × (length z ≤ mostPairs)) (starts a h p l) (staysFor r l ++ (started a h p ∷ [])) l
+    (λ e.
+    let u : (w && fits r l) ≡ true = and-right (opens a) (w && fits r l) e in
+    let v : length (staysFor r l) < mostPairs = stays-fewer r l (x .1) (and-right w (fits r l) u) in (
+      all-append Fits (staysFor r l) (started a h p ∷ []) (stays-all Fits r l (x .0)) (fits-start (sifted a) (allowed a) h p b t, tt),
+      rw (length-append (staysFor r l) (started a h p ∷ [])) (omega arith),
+    ))
+    (λ e. x)
+
 turns-fit : (mons : List (ℕ × Monitor)) (p : Packet) (n : ℕ) (qs : List Pair) → n ≤ mostMonitors → Sent p → All Fits qs
     → length qs ≤ mostPairs
     → All Fits (turns mons p n qs) × (length (turns mons p n qs) ≤ mostPairs)
-unfolding turns after starts
+unfolding turns
 turns-fit mons p zero qs b t a h = (a, h)
 turns-fit mons p (suc n) qs b t a h = go (turns mons p n qs) (turns-fit mons p n qs (omega arith) t a h)
   where
-    r : ℕ
-    r = p .rssi
-
     go : (l : List Pair) → All Fits l × (length l ≤ mostPairs) → All Fits (turn (find mons n) p n l) × (length (turn
         (find mons n) p n l) ≤ mostPairs)
     go l x =
-        let m : ℕ = mark (find mons n) p in
-        let w : Bool = not (holds l n (deviceOf p)) in
         subst (λ (z : List Pair). All Fits z × (length z ≤ mostPairs)) (sym (turn-after (find mons n) p n l))
-        (pick-both (λ (z : List Pair). All Fits z × (length z ≤ mostPairs)) (starts m n p l) (staysFor r l ++ (startPair n p ∷ [])) l
-        (λ e.
-        let u : (w && fits r l) ≡ true = and-right (opens m) (w && fits r l) e in
-        let v : length (staysFor r l) < mostPairs = stays-fewer r l (x .1) (and-right w (fits r l) u) in (
-          all-append Fits (staysFor r l) (startPair n p ∷ []) (stays-all Fits r l (x .0)) (fits-start n p (omega arith) t, tt),
-          rw (length-append (staysFor r l) (startPair n p ∷ [])) (omega arith),
-        ))
-        (λ e. x))
+        (after-fit (mark (find mons n) p) n p l (omega arith) t x)
 
 -- what the turns of the handles below h leave and write
-pub record Turns (m : Model) (p : Packet) (h : ℕ) (s : List ℕ) (n : ℕ) (out wrote : List ℕ) (w : ℕ) : Type 0 where
+pub record Turns (m : Model) (p : Packet) (h : ℕ) (s : List ℕ) (n : ℕ) (out wrote : List ℕ) (w : ℕ) (t : Bool) : Type 0 where
   pub turned : Turned m (turns (m .mons) p h (m .pairs)) s n
   pub answer : Wrote out 0 (turnsAnswer (m .prefix) (m .mons) p h (m .pairs)) wrote w
+  pub tells : t ≡ someOf (startTold (m .mons) p) (startsBelow (m .mons) p h (m .pairs))
 
 module _ (m : Model) (p : Packet) (f : Measured m) (t : Sent p) where
   pub turns-measured : (h : ℕ) → h ≤ mostMonitors → Measured (withLists m (m .mons) (turns (m .mons) p h (m .pairs)))
@@ -63,19 +69,23 @@ module _ (m : Model) (p : Packet) (f : Measured m) (t : Sent p) where
       let r = turns-fit (m .mons) p h (m .pairs) b t (f .fit) (f .pairs-most) in
       measured-pairs m f (turns (m .mons) p h (m .pairs)) (r .0) (r .1)
 
-  pub turns-none : (s out : List ℕ) (n : ℕ) → s ≡ padded m → n ≡ length (m .pairs) → Turns m p 0 s n out out 0
-  unfolding turns turnsAnswer withLists
+  pub turns-none : (s out : List ℕ) (n : ℕ) → s ≡ padded m → n ≡ length (m .pairs) → Turns m p 0 s n out out 0 false
+  unfolding turns turnsAnswer startsBelow someOf withLists
   turns-none s out n e c =
-      record { turned = record { block = e; count = c }; answer = record { octets = sym (put-nil out 0); count = refl } }
+      record {
+        turned = record { block = e; count = c };
+        answer = record { octets = sym (put-nil out 0); count = refl };
+        tells = refl;
+      }
 
   -- a turn of the loop over the handles
-  pub turns-turn : (acts : List ℕ) (h a : ℕ) {s u out o v : List ℕ} {n k w r : ℕ} → h < mostMonitors → acts ≡ marks (m .mons) p
+  pub turns-turn : (acts : List ℕ) (h a : ℕ) {s u out o v : List ℕ} {n k w r : ℕ} {t0 t1 : Bool} → h < mostMonitors → acts ≡ marks (m .mons) p
       → a ≡ getD acts h 0
-      → Turns m p h s n out o w
-      → ((g : Model) → Holding g s n → Told g a h p u k o w v r)
-      → Turns m p (h + 1) u k out v (w + r)
-  unfolding withLists turns turnsAnswer
-  turns-turn acts h a {s} {u} {out} {o} {v} {n} {k} {w} {r} b e z x y =
+      → Turns m p h s n out o w t0
+      → ((g : Model) → Holding g s n → Told g a h p u k o w v r × (t1 ≡ (starts a h p (g .pairs) && allowed a)))
+      → Turns m p (h + 1) u k out v (w + r) (t0 || t1)
+  unfolding withLists turns turnsAnswer startsBelow
+  turns-turn acts h a {s} {u} {out} {o} {v} {n} {k} {w} {r} {t0} {t1} b e z x y =
       let qs : List Pair = turns (m .mons) p h (m .pairs) in
       let g : Model = withLists m (m .mons) qs in
       let d : Holding g s n = record { measured = turns-measured h (omega arith); block = x .turned .block; count = x .turned .count } in
@@ -88,7 +98,10 @@ module _ (m : Model) (p : Packet) (f : Measured m) (t : Sent p) where
       ap (λ (j : ℕ). before ++ told (m .prefix) j h p qs) c
       ∙ ap (λ (l : List ℕ). before ++ l) (sym (answer-told (m .prefix) (find (m .mons) h) p h qs))
       ∙ ap (λ (j : ℕ). turnsAnswer (m .prefix) (m .mons) p j (m .pairs)) (sym (add-one h)) in
-      let l : Told g a h p u k o w v r = y g d in
+      let l : Told g a h p u k o w v r = y g d .0 in
+      let below : List Pair = startsBelow (m .mons) p h (m .pairs) in
+      let j : t1 ≡ someOf (startTold (m .mons) p) (startOf (find (m .mons) h) p h qs) =
+      y g d .1 ∙ ap (λ (i : ℕ). starts i h p qs && allowed i) c ∙ sym (start-told (m .mons) p h qs) in
       record {
         turned = record {
           block = l .turned .block ∙ ap (λ (j : List Pair). padded (withLists m (m .mons) j)) i;
@@ -96,4 +109,6 @@ module _ (m : Model) (p : Packet) (f : Measured m) (t : Sent p) where
         };
         answer = wrote-is out 0 (before ++ told (m .prefix) a h p qs) _ q
             (wrote-both out 0 before (told (m .prefix) a h p qs) (omega arith) (x .answer) (rw (zero-add w) (l .answer)));
+        tells = ap₂ _||_ (x .tells) j ∙ sym (some-append (startTold (m .mons) p) below (startOf (find (m .mons) h) p h qs))
+            ∙ ap (λ (i : ℕ). someOf (startTold (m .mons) p) (startsBelow (m .mons) p i (m .pairs))) (sym (add-one h));
       }

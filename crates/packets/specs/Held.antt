@@ -1,12 +1,15 @@
 -- The loop over the pairs held: the turn of a row by its key, and the turn of the loop. Document 01, Watching, by
 -- history ("only packets that match its condition count"). Assumes nothing.
 use Prim.Native.Nat.{ℕ, zero, suc, _+_, _*_, _/_, _%_, _≤_, _<_}
-use mathlib.Core.Path.{_≡_, refl, sym, ap, _∙_, subst}
+use mathlib.Core.Path.{_≡_, refl, sym, ap, ap₂, _∙_, subst}
+use mathlib.Core.Bool.{Bool, false, _&&_, _||_}
 use mathlib.Core.List.{List, [], _∷_, map}
 use native.Mathlib.Omega.{arith}
 use lib.ListN.{length, take, drop, getD, set, length-map}
-use lib.Seq.{take-all, length-take-le}
-use Rattle.laws.specs.Tests.{pick-true, pick-false}
+use native.Mathlib.Numerals.{add-one}
+use lib.Seq.{take-all, take-suc, length-take-le}
+use Rattle.laws.specs.Tests.{pick-true, pick-false, and-not-left}
+use Rattle.laws.specs.Loops.{some as someOf}
 use Rattle.laws.specs.Put.{put, put-nil, length-put, getD-put-after}
 use Rattle.laws.specs.Rows.{put-whole}
 use Rattle.laws.specs.Turns.{map-turn}
@@ -14,7 +17,7 @@ use Rattle.octets.specs.Little.{little, value}
 use Rattle.rule.specs.Base.{All, all-append}
 use Rattle.rule.specs.Engine.{find}
 use Rattle.model.specs.Types.{Model, Monitor, Packet, Pair, watched, withLists}
-use Rattle.model.specs.Watch.{packetMove}
+use Rattle.model.specs.Watch.{packetMove, wants}
 use Rattle.model.specs.Block.{padded}
 use Rattle.blocks.specs.Bounds.{Fits}
 use Rattle.blocks.specs.Block.{Measured}
@@ -22,7 +25,7 @@ use Rattle.blocks.specs.Updates.{measured-pairs}
 use Rattle.steps.specs.Lists.{all-drop}
 use Rattle.steps.specs.Typed.{Sent}
 use Rattle.marks.specs.Marks.{mark, marks, getD-marks}
-use Rattle.packets.specs.Changes.{changed, move-changed}
+use Rattle.packets.specs.Changes.{some-append, or-none, changed, reasonBy, move-changed, wants-reason}
 use Rattle.packets.specs.Keys.{deviceNumber, same-true, same-false, key-pairs}
 use Rattle.packets.specs.Writes.{noPair, same-row}
 use Rattle.packets.specs.Moves.{pairAt, withPair, AtPair, pair-fits, moved-fits}
@@ -50,6 +53,14 @@ module _ (m : Model) (s : List ℕ) (i : ℕ) (p : Packet) (acts : List ℕ) (de
   pub handle-low : key % 256 < mostMonitors
   handle-low = let f : Fits (pairAt m i) = pair-fits w in omega (arith, key-read, f .handle-most)
 
+  own-octet : (a : ℕ) → a ≡ getD acts (key % 256) 0 → a ≡ mark (find (m .mons) (pairAt m i .handle)) p
+  own-octet a r =
+      let q : Pair = pairAt m i in
+      let f : Fits (pairAt m i) = pair-fits w in
+      let h : key % 256 ≡ q .handle = omega (arith, key-read, f .handle-most) in
+      r ∙ ap (λ (l : List ℕ). getD l (key % 256) 0) (g .octets) ∙ ap (λ (j : ℕ). getD (marks (m .mons) p) j 0) h
+      ∙ getD-marks (m .mons) p (q .handle) (f .handle-most)
+
   pub row-other : (key / 256 ≡ dev → ⊥) → s ≡ padded (withPair m i (packetMove (m .mons) p (pairAt m i)))
   unfolding withPair pairAt
   row-other n =
@@ -62,6 +73,22 @@ module _ (m : Model) (s : List ℕ) (i : ℕ) (p : Packet) (acts : List ℕ) (de
       w .block ∙ same-row m (w .measured) i noPair
       ∙ ap (λ (y : Pair). padded (withLists m (m .mons) (set (m .pairs) i y))) (sym e)
 
+  pub told-other : (key / 256 ≡ dev → ⊥) → false ≡ wants (m .mons) p (pairAt m i)
+  told-other n =
+      let q : Pair = pairAt m i in
+      let f : Fits (pairAt m i) = pair-fits w in
+      let v : key / 256 ≡ value (watched (pairAt m i)) = omega (arith, key-read, f .handle-most) in
+      sym (wants-reason (m .mons) p q ∙ and-not-left _ _ (same-false p (g .sent) q (λ y. n (v ∙ y ∙ sym (g .number)))))
+
+  pub told-own : {t : Bool} (a : ℕ) → key / 256 ≡ dev → a ≡ getD acts (key % 256) 0 → t ≡ reasonBy a p (pairAt m i)
+      → t ≡ wants (m .mons) p (pairAt m i)
+  told-own {t} a n r e =
+      let q : Pair = pairAt m i in
+      let f : Fits (pairAt m i) = pair-fits w in
+      let v : value (watched (pairAt m i)) ≡ deviceNumber p = omega (arith, key-read, f .handle-most, g .number) in
+      e ∙ ap (λ (x : ℕ). reasonBy x p q) (own-octet a r)
+      ∙ sym (wants-reason (m .mons) p q ∙ ap (λ (b : Bool). b && reasonBy (mark (find (m .mons) (q .handle)) p) p q) (same-true p (g .sent) q f v))
+
   pub row-own : {t : List ℕ} (a : ℕ) → key / 256 ≡ dev → a ≡ getD acts (key % 256) 0
       → t ≡ padded (withPair m i (changed a p (pairAt m i)))
       → t ≡ padded (withPair m i (packetMove (m .mons) p (pairAt m i)))
@@ -69,10 +96,7 @@ module _ (m : Model) (s : List ℕ) (i : ℕ) (p : Packet) (acts : List ℕ) (de
       let q : Pair = pairAt m i in
       let f : Fits (pairAt m i) = pair-fits w in
       let v : value (watched (pairAt m i)) ≡ deviceNumber p = omega (arith, key-read, f .handle-most, g .number) in
-      let h : key % 256 ≡ q .handle = omega (arith, key-read, f .handle-most) in
-      let b : a ≡ mark (find (m .mons) (q .handle)) p =
-      r ∙ ap (λ (l : List ℕ). getD l (key % 256) 0) (g .octets) ∙ ap (λ (j : ℕ). getD (marks (m .mons) p) j 0) h
-      ∙ getD-marks (m .mons) p (q .handle) (f .handle-most) in
+      let b : a ≡ mark (find (m .mons) (q .handle)) p = own-octet a r in
       let c : changed a p q ≡ packetMove (m .mons) p q =
       ap (λ (x : ℕ). changed x p q) b
       ∙ sym (move-changed (m .mons) p q
@@ -133,6 +157,26 @@ module _ (m : Model) (p : Packet) (f : Measured m) (t : Sent p) (r : Roomy (m .p
       g (halfway m p i) w (rw same (roomy-at (m .pairs) r i h)) refl
       ∙ ap (λ (x : List Pair). padded (withLists m (m .mons) x))
       (map-turn (packetMove (m .mons) p) (m .pairs) i noPair {m = qs} h refl refl)
+
+  -- and whether a pair so far is a reason for a report
+  pub told-turn : (i : ℕ) {s : List ℕ} {a b : Bool} → i < length (m .pairs) → s ≡ padded (halfway m p i)
+      → a ≡ someOf (wants (m .mons) p) (take i (m .pairs))
+      → ((n : Model) → AtPair n s i → pairAt n i .packets < 4294967295 → m .mons ≡ n .mons → b ≡ wants (n .mons) p (pairAt n i))
+      → (a || b) ≡ someOf (wants (m .mons) p) (take (i + 1) (m .pairs))
+  unfolding halfway withLists pairAt done someOf
+  told-turn i {s} {a} {b} h e q g =
+      let qs : List Pair = put (m .pairs) 0 (done i) in
+      let l : length (done i) ≡ i = length-done i (omega arith) in
+      let k : length qs ≡ length (m .pairs) = length-halfway i (omega arith) in
+      let same : getD qs i noPair ≡ getD (m .pairs) i noPair =
+      getD-put-after (m .pairs) 0 (done i) i noPair (omega arith) (omega arith) in
+      let w : AtPair (halfway m p i) s i =
+      record { measured = halfway-measured i (omega arith); block = e; within = omega arith } in
+      let c : b ≡ wants (m .mons) p (getD (m .pairs) i noPair) = g (halfway m p i) w (rw same (roomy-at (m .pairs) r i h)) refl ∙ rw same refl in
+      ap₂ _||_ q c ∙ sym (ap (λ (j : ℕ). someOf (wants (m .mons) p) (take j (m .pairs))) (add-one i)
+      ∙ ap (someOf (wants (m .mons) p)) (take-suc (m .pairs) i noPair h)
+      ∙ some-append (wants (m .mons) p) (take i (m .pairs)) (getD (m .pairs) i noPair ∷ [])
+      ∙ ap (λ (t : Bool). someOf (wants (m .mons) p) (take i (m .pairs)) || t) (or-none (wants (m .mons) p (getD (m .pairs) i noPair))))
 
   -- its beginning and its end
   pub halfway-none : padded m ≡ padded (halfway m p 0)

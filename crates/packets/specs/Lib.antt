@@ -8,6 +8,8 @@ pub mod Moves
 pub mod Held
 pub mod Starts
 pub mod Handles
+pub mod Begins
+pub mod Latest
 pub mod Reports
 pub mod Answers
 pub mod Whole

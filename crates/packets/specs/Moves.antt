@@ -7,25 +7,26 @@ use native.Mathlib.Omega.{arith}
 use lib.ListN.{length, getD, set, length-set}
 use lib.Seq.{getD-set-same, set-set}
 use borrow.Author.Tests.{eq-eqb, ne-eqb, le-leb, lt-leb}
-use Rattle.laws.specs.Tests.{pick-true, pick-false, sames}
+use mathlib.Core.Bool.{false, _&&_}
+use Rattle.laws.specs.Tests.{pick-true, pick-false, and-both, and-not-left, and-not-right, sames}
 use Rattle.laws.specs.Put.{put, set-put}
 use Rattle.octets.specs.Little.{little, octetsOf}
 use Rattle.rule.specs.Base.{All}
 use Rattle.rule.specs.Engine.{find}
 use Rattle.model.specs.Types.{Model, Monitor, Packet, Pair, deviceOf, watched, withLists}
 use Rattle.model.specs.Level.{addRssi}
-use Rattle.model.specs.Watch.{withSilent, withKept, gathered, packetMove}
+use Rattle.model.specs.Watch.{withSilent, withKept, withLatest, gathered, packetMove}
 use Rattle.model.specs.Block.{padded}
 use Rattle.blocks.specs.Bounds.{Fits}
 use Rattle.blocks.specs.Block.{Measured, length-padded}
 use Rattle.blocks.specs.Updates.{measured-pairs}
 use Rattle.blocks.specs.Ends.{all-set}
-use Rattle.blocks.specs.Fields.{windowOf}
+use Rattle.blocks.specs.Fields.{latestOf, windowOf}
 use Rattle.steps.specs.Typed.{pick-both, Sent}
-use Rattle.marks.specs.Marks.{matched, refreshes, takes, keeps, mark}
-use Rattle.packets.specs.Changes.{freshened, collected, strengthened, counted, changed, move-changed}
-use Rattle.packets.specs.Writes.{noPair, same-row, fits-silent, fits-kept, fits-gathered, row-silent, row-kept, row-gathered}
-use Rattle.model.specs.Layout.{blockSize, pairSize, pairsAt, rssiAt}
+use Rattle.marks.specs.Marks.{matched, refreshes, takes, sifted, allowed, keeps, mark}
+use Rattle.packets.specs.Changes.{freshened, collected, strengthened, counted, recalled, changed, move-changed}
+use Rattle.packets.specs.Writes.{noPair, same-row, fits-silent, fits-kept, fits-latest, fits-gathered, row-silent, row-kept, row-latest, row-gathered}
+use Rattle.model.specs.Layout.{blockSize, eventAt, pairSize, pairsAt, rssiAt}
 
 -- pair i of a state, and the state with another in its place
 unfoldable pub pairAt : Model → ℕ → Pair
@@ -108,6 +109,34 @@ module _ (m : Model) (s : List ℕ) (i a : ℕ) (p : Packet) (w : AtPair m s i) 
       ∙ ap (λ (q : Pair). padded (withLists m (m .mons) (set (m .pairs) i q)))
       (sym (pick-false (gathered p (getD (m .pairs) i noPair)) (getD (m .pairs) i noPair) (ne-eqb (a / 2 % 2) 1 h)))
 
+-- the packet is kept for duplicates, or the one before is left
+module _ (m : Model) (s : List ℕ) (i a : ℕ) (p : Packet) (w : AtPair m s i) where
+  pub recall-done : {t : List ℕ} → Sent p → a / 16 % 2 ≡ 1 → a / 32 % 2 ≡ 1
+      → t ≡ put s (pairsAt + pairSize * i + eventAt) (latestOf (p .event) (p .adv))
+      → t ≡ padded (withPair m i (recalled a p (pairAt m i)))
+  unfolding withPair recalled sifted allowed pairAt
+  recall-done x h k e =
+      e ∙ ap (λ (l : List ℕ). put l (pairsAt + pairSize * i + eventAt) (latestOf (p .event) (p .adv))) (w .block)
+      ∙ row-latest m (w .measured) i noPair (w .within) (pair-fits w) (p .event) (p .adv) (omega (arith, x .event-most)) (x .adv-short) (x .adv-octets)
+      ∙ ap (λ (q : Pair). padded (withLists m (m .mons) (set (m .pairs) i q)))
+      (sym (pick-true (withLatest (p .event) (p .adv) (getD (m .pairs) i noPair)) (getD (m .pairs) i noPair)
+      (and-both (eq-eqb (a / 16 % 2) 1 h) (eq-eqb (a / 32 % 2) 1 k))))
+
+  recall-none : (sifted a && allowed a) ≡ false → s ≡ padded (withPair m i (recalled a p (pairAt m i)))
+  unfolding withPair recalled pairAt
+  recall-none h =
+      w .block ∙ same-row m (w .measured) i noPair
+      ∙ ap (λ (q : Pair). padded (withLists m (m .mons) (set (m .pairs) i q)))
+      (sym (pick-false (withLatest (p .event) (p .adv) (getD (m .pairs) i noPair)) (getD (m .pairs) i noPair) h))
+
+  pub recall-plain : (a / 16 % 2 ≡ 1 → ⊥) → s ≡ padded (withPair m i (recalled a p (pairAt m i)))
+  unfolding sifted
+  recall-plain h = recall-none (and-not-left _ _ (ne-eqb (a / 16 % 2) 1 h))
+
+  pub recall-barred : (a / 32 % 2 ≡ 1 → ⊥) → s ≡ padded (withPair m i (recalled a p (pairAt m i)))
+  unfolding allowed
+  recall-barred h = recall-none (and-not-right (sifted a) _ (ne-eqb (a / 32 % 2) 1 h))
+
 -- a pair changed stays one that fits
 freshened-packets : (a : ℕ) (q : Pair) → freshened a q .packets ≡ q .packets
 unfolding freshened withSilent
@@ -134,6 +163,12 @@ counted-fits : (a : ℕ) (p : Packet) (q : Pair) → Sent p → Fits q → q .pa
 unfolding counted
 counted-fits a p q t f h = collected-fits a p (freshened a q) t (freshened-fits a q f) (rw (freshened-packets a q) h)
 
+recalled-fits : (a : ℕ) (p : Packet) (q : Pair) → Sent p → Fits q → Fits (recalled a p q)
+unfolding recalled
+recalled-fits a p q t f =
+    pick-both Fits (sifted a && allowed a) (withLatest (p .event) (p .adv) q) q
+    (λ e. fits-latest (p .event) (p .adv) q (omega (arith, t .event-most)) (t .adv-short) (t .adv-octets) f) (λ e. f)
+
 pub moved-fits : (mons : List (ℕ × Monitor)) (p : Packet) (q : Pair) → Sent p → Fits q → q .packets < 4294967295
     → Fits (packetMove mons p q)
 unfolding changed
@@ -141,17 +176,18 @@ moved-fits mons p q t f h =
     let a : ℕ = mark (find mons (q .handle)) p in
     let k : Pair = strengthened a (p .rssi) q in
     subst Fits (sym (move-changed mons p q))
-    (pick-both Fits (sames (deviceOf p) (watched q)) (counted a p k) q
-    (λ e. counted-fits a p k t (strengthened-fits a (p .rssi) q (t .rssi-octet) f) (rw (strengthened-packets a (p .rssi) q) h))
+    (pick-both Fits (sames (deviceOf p) (watched q)) (recalled a p (counted a p k)) q
+    (λ e. recalled-fits a p (counted a p k) t
+    (counted-fits a p k t (strengthened-fits a (p .rssi) q (t .rssi-octet) f) (rw (strengthened-packets a (p .rssi) q) h)))
     (λ e. f))
 
 -- a change of pair i and then another, one after the other
-module _ (m : Model) (s : List ℕ) (i : ℕ) (w : AtPair m s i) (q : Pair) (k : Fits q) (l : q .packets ≡ pairAt m i .packets) where
-  then : (g : Pair → Pair) {u t : List ℕ} → pairAt m i .packets < 4294967295 → u ≡ padded (withPair m i q)
-      → ((n : Model) → AtPair n u i → pairAt n i .packets < 4294967295 → t ≡ padded (withPair n i (g (pairAt n i))))
+module _ (m : Model) (s : List ℕ) (i : ℕ) (w : AtPair m s i) (q : Pair) (k : Fits q) where
+  then : (g : Pair → Pair) {u t : List ℕ} → u ≡ padded (withPair m i q)
+      → ((n : Model) → AtPair n u i → pairAt n i ≡ q → t ≡ padded (withPair n i (g (pairAt n i))))
       → t ≡ padded (withPair m i (g q))
   unfolding withPair withLists pairAt
-  then g {u} {t} r e f =
+  then g {u} {t} e f =
       let qs : List Pair = set (m .pairs) i q in
       let n : Model = withLists m (m .mons) qs in
       let c : length qs ≡ length (m .pairs) = length-set (m .pairs) i q in
@@ -159,7 +195,7 @@ module _ (m : Model) (s : List ℕ) (i : ℕ) (w : AtPair m s i) (q : Pair) (k :
       let x : Measured n =
       measured-pairs m (w .measured) qs (all-set (m .pairs) (w .measured .fit) i q k) (omega (arith, w .measured .pairs-most)) in
       let v : AtPair n u i = record { measured = x; block = e; within = omega (arith, w .within) } in
-      f n v (rw (y, l) r)
+      f n v y
       ∙ ap (λ (z : Pair). padded (withLists m (m .mons) (set qs i (g z)))) y
       ∙ ap (λ (z : List Pair). padded (withLists m (m .mons) z)) (set-set (m .pairs) i q (g q))
 
@@ -172,16 +208,21 @@ pub change-both : (m : Model) (s : List ℕ) (i a : ℕ) (p : Packet) {u t : Lis
     → t ≡ padded (withPair m i (counted a p (pairAt m i)))
 unfolding counted
 change-both m s i a p w x r e f =
-    then m s i w (freshened a (pairAt m i)) (freshened-fits a (pairAt m i) (pair-fits w)) (freshened-packets a (pairAt m i)) (collected a p) r e f
+    then m s i w (freshened a (pairAt m i)) (freshened-fits a (pairAt m i) (pair-fits w)) (collected a p) e
+    (λ n v y. f n v (rw (y, freshened-packets a (pairAt m i)) r))
 
--- the RSSI, and then both
-pub change-all : (m : Model) (s : List ℕ) (i a : ℕ) (p : Packet) {u t : List ℕ} → AtPair m s i → Sent p
+-- the RSSI, then both, and then the packet kept for duplicates
+pub change-all : (m : Model) (s : List ℕ) (i a : ℕ) (p : Packet) {u v t : List ℕ} → AtPair m s i → Sent p
     → pairAt m i .packets < 4294967295
     → u ≡ padded (withPair m i (strengthened a (p .rssi) (pairAt m i)))
     → ((n : Model) → AtPair n u i → pairAt n i .packets < 4294967295
-    → t ≡ padded (withPair n i (counted a p (pairAt n i))))
+    → v ≡ padded (withPair n i (counted a p (pairAt n i))))
+    → ((n : Model) → AtPair n v i → t ≡ padded (withPair n i (recalled a p (pairAt n i))))
     → t ≡ padded (withPair m i (changed a p (pairAt m i)))
 unfolding changed
-change-all m s i a p w x r e f =
-    then m s i w (strengthened a (p .rssi) (pairAt m i)) (strengthened-fits a (p .rssi) (pairAt m i) (x .rssi-octet) (pair-fits w))
-    (strengthened-packets a (p .rssi) (pairAt m i)) (counted a p) r e f
+change-all m s i a p w x r e f g =
+    let k : Pair = strengthened a (p .rssi) (pairAt m i) in
+    let h : Fits k = strengthened-fits a (p .rssi) (pairAt m i) (x .rssi-octet) (pair-fits w) in
+    let l : k .packets < 4294967295 = rw (strengthened-packets a (p .rssi) (pairAt m i)) r in
+    then m s i w (counted a p k) (counted-fits a p k x h l) (recalled a p)
+    (then m s i w k h (counted a p) e (λ n z y. f n z (rw y l))) (λ n z y. g n z)

@@ -1,7 +1,7 @@
 -- The row of a pair at its start: the writes that make it, behind the pairs held and at the last of 64 places. Document 01, The image (A3),
 -- Watching, by history; document 02, T-05. Assumes nothing.
 use Prim.Native.Nat.{ℕ, _+_, _-_, _*_, _≤_, _<_}
-use mathlib.Core.Path.{_≡_, refl, sym, ap, _∙_}
+use mathlib.Core.Path.{_≡_, sym, ap, _∙_}
 use mathlib.Core.List.{List, [], _∷_, _++_, append-assoc}
 use native.Mathlib.Omega.{arith}
 use native.Mathlib.Numerals.{add-one}
@@ -10,7 +10,6 @@ use lib.Seq.{length-take-le, drop-cons}
 use Rattle.laws.specs.Put.{put, length-put, take-put, take-before-put, drop-after-put, set-put}
 use Rattle.octets.specs.Little.{octetsOf, length-octets}
 use Rattle.model.specs.Types.{Model, Packet, Pair, withLists}
-use Rattle.model.specs.Watch.{startPair}
 use Rattle.model.specs.Image.{pairRow}
 use Rattle.model.specs.Block.{padTo, padded}
 use Rattle.blocks.specs.Block.{Measured}
@@ -19,7 +18,7 @@ use Rattle.blocks.specs.Full.{replace-pair}
 use Rattle.blocks.specs.Fields.{put-start}
 use Rattle.steps.specs.Typed.{Sent}
 use Rattle.packets.specs.Keys.{deviceNumber}
-use Rattle.packets.specs.Writes.{noPair, put-inside, fits-start, key-octets}
+use Rattle.packets.specs.Writes.{noPair, bare, put-inside, fits-bare, key-octets}
 use Rattle.model.specs.Layout.{countAt, mostMonitors, mostPairs, pairSize, pairsAt, rssiAt}
 
 -- the row of a pair at its start, and one written over another of its length
@@ -36,7 +35,7 @@ length-startRow key o =
     length-put (put (replicate pairSize 0) 0 (octetsOf 8 key)) rssiAt (o ∷ []) (omega arith) ∙ k
 
 pub start-row : (h : ℕ) (p : Packet) → h < mostMonitors → Sent p
-    → startRow (h + 256 * deviceNumber p) (p .rssi) ≡ padTo pairSize (pairRow (startPair h p))
+    → startRow (h + 256 * deviceNumber p) (p .rssi) ≡ padTo pairSize (pairRow (bare h p))
 unfolding startRow
 start-row h p b t =
     ap (λ (l : List ℕ). put (put (replicate pairSize 0) 0 l) rssiAt (p .rssi ∷ [])) (key-octets h p b t) ∙ put-start h p (t .address-six)
@@ -87,17 +86,17 @@ module _ (m : Model) (f : Measured m) (h : ℕ) (p : Packet) (b : h < mostMonito
   pub row-start : length (m .pairs) < mostPairs
       → put (put (padded m) (pairsAt + pairSize * length (m .pairs)) (startRow (h + 256 * deviceNumber p) (p .rssi))) countAt
       ((length (m .pairs) + 1) ∷ [])
-      ≡ padded (withLists m (m .mons) (m .pairs ++ (startPair h p ∷ [])))
+      ≡ padded (withLists m (m .mons) (m .pairs ++ (bare h p ∷ [])))
   row-start k =
       let c : ℕ = length (m .pairs) in
       ap (λ (r : List ℕ). put (put (padded m) (pairsAt + pairSize * c) r) countAt ((c + 1) ∷ [])) (start-row h p b t)
-      ∙ add-pair m f (startPair h p) (fits-start h p b t) k
+      ∙ add-pair m f (bare h p) (fits-bare h p b t) k
 
   -- at the last of 64 places, those behind pair i a place down
   pub row-replaced : (i : ℕ) → length (m .pairs) ≡ mostPairs → i < mostPairs
       → put (put (padded m) (pairsAt + pairSize * i) (take (pairSize * (mostPairs - 1 - i)) (drop (pairsAt + pairSize * (i + 1)) (padded m))))
       (pairsAt + pairSize * (mostPairs - 1)) (startRow (h + 256 * deviceNumber p) (p .rssi))
-      ≡ padded (withLists m (m .mons) (take i (m .pairs) ++ drop (i + 1) (m .pairs) ++ (startPair h p ∷ [])))
+      ≡ padded (withLists m (m .mons) (take i (m .pairs) ++ drop (i + 1) (m .pairs) ++ (bare h p ∷ [])))
   row-replaced i n l =
       let qs : List Pair = m .pairs in
       let ps : List Pair = take i qs in
@@ -107,16 +106,16 @@ module _ (m : Model) (f : Measured m) (h : ℕ) (p : Packet) (b : h < mostMonito
       let w : qs ≡ ps ++ (getD qs i noPair ∷ rs) =
       sym (take-append-drop i qs) ∙ ap (λ (x : List Pair). ps ++ x) (drop-cons qs i noPair (omega arith)
       ∙ ap (λ (k : ℕ). getD qs i noPair ∷ drop k qs) (sym (add-one i))) in
-      let g = replace-pair m f ps rs (getD qs i noPair) (startPair h p) w n (fits-start h p b t) in
+      let g = replace-pair m f ps rs (getD qs i noPair) (bare h p) w n (fits-bare h p b t) in
       let z : length ps + length rs ≡ mostPairs - 1 = omega arith in
       let at : ℕ = pairsAt + pairSize * i in
       ap (λ (r : List ℕ). put (put (padded m) at (take (pairSize * (mostPairs - 1 - i)) (drop (pairsAt + pairSize * (i + 1)) (padded m))))
       (pairsAt + pairSize * (mostPairs - 1)) r) (start-row h p b t)
       ∙ ap (λ (k : ℕ). put (put (padded m) at (take (pairSize * k) (drop (pairsAt + pairSize * (i + 1)) (padded m))))
-      (pairsAt + pairSize * (mostPairs - 1)) (padTo pairSize (pairRow (startPair h p)))) (sym lr)
+      (pairsAt + pairSize * (mostPairs - 1)) (padTo pairSize (pairRow (bare h p)))) (sym lr)
       ∙ ap (λ (k : ℕ). put (put (padded m) (pairsAt + pairSize * k) (take (pairSize * length rs) (drop (pairsAt + pairSize * (k + 1)) (padded m))))
-      (pairsAt + pairSize * (mostPairs - 1)) (padTo pairSize (pairRow (startPair h p)))) (sym lp)
+      (pairsAt + pairSize * (mostPairs - 1)) (padTo pairSize (pairRow (bare h p)))) (sym lp)
       ∙ ap (λ (k : ℕ). put (put (padded m) (pairsAt + pairSize * length ps)
       (take (pairSize * length rs) (drop (pairsAt + pairSize * (length ps + 1)) (padded m))))
-      (pairsAt + pairSize * k) (padTo pairSize (pairRow (startPair h p)))) (sym z)
-      ∙ g ∙ ap (λ (x : List Pair). padded (withLists m (m .mons) x)) (sym (append-assoc ps rs (startPair h p ∷ [])))
+      (pairsAt + pairSize * k) (padTo pairSize (pairRow (bare h p)))) (sym z)
+      ∙ g ∙ ap (λ (x : List Pair). padded (withLists m (m .mons) x)) (sym (append-assoc ps rs (bare h p ∷ [])))

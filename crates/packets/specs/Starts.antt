@@ -1,21 +1,22 @@
--- The starts of a packet: the search for a pair among the rows, and one handle's turn. Document 01, Watching, by history
--- ("monitors take one packet in handle order, and a start takes its room at once"). Assumes nothing.
-use Prim.Native.Nat.{ℕ, zero, suc, _+_, _-_, _*_, _/_, _%_, _≤_, _<_}
+-- The starts of a packet: the search for a pair among the rows, and one handle's turn.
+-- Document 01, Watching, by history ("monitors take one packet in handle order, and a start takes its room at once").
+-- Assumes nothing.
+use Prim.Native.Nat.{ℕ, suc, _+_, _-_, _*_, _/_, _%_, _≤_, _<_}
 use mathlib.Core.Path.{_≡_, refl, sym, ap, _∙_, subst}
-use mathlib.Core.Bool.{Bool, true, false, _&&_, not}
+use mathlib.Core.Bool.{true, false, not}
 use mathlib.Core.List.{List, [], _∷_, _++_, append-nil}
 use native.Mathlib.Omega.{arith}
 use native.Mathlib.Numerals.{add-one}
 use lib.ListN.{length, take, drop, getD, length-append, length-drop, drop-of-length-le}
 use lib.Seq.{drop-cons, getD-at, length-take-le}
 use borrow.Author.Tests.{ne-eqb, lt-ltb, le-ltb}
-use Rattle.laws.specs.Tests.{pick, pick-false, and-both, and-right, and-not-left, and-not-right}
+use Rattle.laws.specs.Tests.{pick, pick-false, and-both, and-not-left, and-not-right}
 use Rattle.laws.specs.Loops.{some as someOf, some-step, some-stop, some-nil, each, when, when-false}
 use Rattle.laws.specs.Put.{put, put-nil, put-then}
-use Rattle.octets.specs.Little.{little, octetsOf, value}
+use Rattle.octets.specs.Little.{little, value}
 use Rattle.rule.specs.Base.{All, all-append}
 use Rattle.model.specs.Types.{Model, Packet, Pair, deviceOf, watched, withLists}
-use Rattle.model.specs.Watch.{isPair, holds, least, firstKeeping, without, hasRoom, fits, goesFor, staysFor, startPair}
+use Rattle.model.specs.Watch.{isPair, holds, least, firstKeeping, without, hasRoom, fits, goesFor, staysFor, startLike}
 use Rattle.model.specs.Level.{level}
 use Rattle.model.specs.Levels.{below-levels}
 use Rattle.model.specs.Events.{event, startEvent, stopEvent}
@@ -25,10 +26,10 @@ use Rattle.blocks.specs.Block.{Measured}
 use Rattle.blocks.specs.Updates.{measured-pairs}
 use Rattle.steps.specs.Typed.{Sent}
 use Rattle.steps.specs.Drops.{without-all}
-use Rattle.marks.specs.Marks.{opens}
-use Rattle.packets.specs.Changes.{starts, after, told}
+use Rattle.marks.specs.Marks.{opens, sifted}
+use Rattle.packets.specs.Changes.{started, starts, after, told}
 use Rattle.packets.specs.Keys.{deviceNumber, pair-true, pair-false, key-pairs}
-use Rattle.packets.specs.Writes.{noPair, Wrote, fits-start, read-kept}
+use Rattle.packets.specs.Writes.{noPair, bare, Wrote, fits-bare, read-kept}
 use Rattle.packets.specs.News.{startRow, row-start, row-replaced}
 use Rattle.packets.specs.Weakest.{levelAt, levelIn, weakestBelow, Weakest, weakest-is, weakest-low, least-is, least-none, goes-is, stays-is}
 use Rattle.packets.specs.Moves.{pairAt, AtPair, pair-fits}
@@ -97,11 +98,13 @@ pub record Told (m : Model) (a h : ℕ) (p : Packet) (s : List ℕ) (n : ℕ) (o
   pub turned : Turned m (after a h p (m .pairs)) s n
   pub answer : Wrote out at (told (m .prefix) a h p (m .pairs)) wrote r
 
--- what a start is given: the key of its pair, which is not held, the packet's RSSI, an octet that says so
+-- what a start is given: the key of its pair, which is not held, the packet's RSSI, an octet that says so and that the monitor filters no
+-- duplicates
 pub record Asked (m : Model) (p : Packet) (a h key o : ℕ) : Type 0 where
   pub sought : Sought p h key
   pub rssi : o ≡ p .rssi
   pub strong : opens a ≡ true
+  pub plain : sifted a ≡ false
   pub free : holds (m .pairs) h (deviceOf p) ≡ false
 
 -- an event of pair i, written into out at an index
@@ -151,8 +154,8 @@ module _ (m : Model) (s : List ℕ) (n : ℕ) (p : Packet) (a h : ℕ) (w : Hold
   left-out : starts a h p (m .pairs) ≡ false → Told m a h p s n out at out 0
   unfolding after told withLists
   left-out e =
-      let g : m .pairs ≡ pick (starts a h p (m .pairs)) (staysFor (p .rssi) (m .pairs) ++ (startPair h p ∷ [])) (m .pairs) =
-      sym (pick-false (staysFor (p .rssi) (m .pairs) ++ (startPair h p ∷ [])) (m .pairs) e) in
+      let g : m .pairs ≡ pick (starts a h p (m .pairs)) (staysFor (p .rssi) (m .pairs) ++ (started a h p ∷ [])) (m .pairs) =
+      sym (pick-false (staysFor (p .rssi) (m .pairs) ++ (started a h p ∷ [])) (m .pairs) e) in
       record {
         turned = record { block = w .block ∙ same g; count = w .count ∙ ap length g };
         answer = wrote-is out at [] _ (sym (when-false _ e)) (record { octets = sym (put-nil out at); count = refl });
@@ -183,22 +186,22 @@ module _ (m : Model) (s : List ℕ) (n : ℕ) (p : Packet) (a h : ℕ) (w : Hold
 
 -- the pairs and the answer of a start, with room and without
 module _ (a h : ℕ) (p : Packet) (qs : List Pair) (y : starts a h p qs ≡ true) where
-  after-free : hasRoom qs ≡ true → qs ++ (startPair h p ∷ []) ≡ after a h p qs
+  after-free : hasRoom qs ≡ true → qs ++ (started a h p ∷ []) ≡ after a h p qs
   unfolding after staysFor pick
   after-free r = rw (y, r)
 
-  told-free : (prefix : List ℕ) → hasRoom qs ≡ true → event prefix (startPair h p) 1 ≡ told prefix a h p qs
+  told-free : (prefix : List ℕ) → hasRoom qs ≡ true → event prefix (started a h p) 1 ≡ told prefix a h p qs
   unfolding told goesFor pick when each startEvent
   told-free prefix r = rw (y, r)
 
-  after-full : hasRoom qs ≡ false → without (least (p .rssi) qs) qs ++ (startPair h p ∷ []) ≡ after a h p qs
+  after-full : hasRoom qs ≡ false → without (least (p .rssi) qs) qs ++ (started a h p ∷ []) ≡ after a h p qs
   unfolding after staysFor pick
   after-full r = rw (y, r)
 
   told-full : (prefix : List ℕ) (q : Pair) → hasRoom qs ≡ false → firstKeeping (least (p .rssi) qs) qs ≡ q ∷ []
-      → event prefix q 0 ++ event prefix (startPair h p) 1 ≡ told prefix a h p qs
+      → event prefix q 0 ++ event prefix (started a h p) 1 ≡ told prefix a h p qs
   unfolding told goesFor pick when each startEvent stopEvent
-  told-full prefix q r g = rw (y, r, g) (ap (λ (l : List ℕ). l ++ event prefix (startPair h p) 1) (sym (append-nil (event prefix q 0))))
+  told-full prefix q r g = rw (y, r, g) (ap (λ (l : List ℕ). l ++ event prefix (started a h p) 1) (sym (append-nil (event prefix q 0))))
 
 -- a start
 module _ (m : Model) (s : List ℕ) (n : ℕ) (p : Packet) (a h key o : ℕ) (w : Holding m s n) (x : Asked m p a h key o) where
@@ -206,22 +209,26 @@ module _ (m : Model) (s : List ℕ) (n : ℕ) (p : Packet) (a h key o : ℕ) (w 
   unfolding starts
   begun f = and-both (x .strong) (and-both (ap not (x .free)) f)
 
+  bare-is : bare h p ≡ started a h p
+  unfolding started startLike pick when
+  bare-is = rw (x .plain) refl
+
   -- the state with these pairs and the pair at its start behind them, and the event that is written of it
   last-told : (qs : List Pair) (k : ℕ) {t out wrote : List ℕ} {at r : ℕ} → All Fits qs → k ≡ length qs → k < mostPairs
-      → t ≡ padded (withLists m (m .mons) (qs ++ (startPair h p ∷ []))) → ((g : Model) → Event g t k 1 out at wrote r)
-      → Wrote out at (event (m .prefix) (startPair h p) 1) wrote r
+      → t ≡ padded (withLists m (m .mons) (qs ++ (started a h p ∷ []))) → ((g : Model) → Event g t k 1 out at wrote r)
+      → Wrote out at (event (m .prefix) (started a h p) 1) wrote r
   unfolding withLists pairAt
   last-told qs k {t} {out} {wrote} {at} {r} f c b e y =
-      let g : Model = withLists m (m .mons) (qs ++ (startPair h p ∷ [])) in
-      let l : length (qs ++ (startPair h p ∷ [])) ≡ length qs + 1 = length-append qs (startPair h p ∷ []) in
+      let g : Model = withLists m (m .mons) (qs ++ (started a h p ∷ [])) in
+      let l : length (qs ++ (started a h p ∷ [])) ≡ length qs + 1 = length-append qs (started a h p ∷ []) in
       let v : AtPair g t k = record {
-        measured = measured-pairs m (w .measured) (qs ++ (startPair h p ∷ []))
-            (all-append Fits qs (startPair h p ∷ []) f (fits-start h p (x .sought .low) (x .sought .sent), tt)) (omega arith);
+        measured = measured-pairs m (w .measured) (qs ++ (started a h p ∷ []))
+            (all-append Fits qs (started a h p ∷ []) f (subst Fits bare-is (fits-bare h p (x .sought .low) (x .sought .sent)), tt)) (omega arith);
         block = e;
         within = omega arith;
       } in
-      wrote-is out at (event (m .prefix) (getD (qs ++ (startPair h p ∷ [])) k noPair) 1) (event (m .prefix) (startPair h p) 1)
-      (ap (λ (q : Pair). event (m .prefix) q 1) (getD-at qs (startPair h p) [] noPair k (sym c)))
+      wrote-is out at (event (m .prefix) (getD (qs ++ (started a h p ∷ [])) k noPair) 1) (event (m .prefix) (started a h p) 1)
+      (ap (λ (q : Pair). event (m .prefix) q 1) (getD-at qs (started a h p) [] noPair k (sym c)))
       (y g v)
 
   pub start-free : {t out wrote : List ℕ} {at r : ℕ} → n < mostPairs
@@ -229,10 +236,10 @@ module _ (m : Model) (s : List ℕ) (n : ℕ) (p : Packet) (a h key o : ℕ) (w 
       → ((g : Model) → Event g t n 1 out at wrote r) → Told m a h p t (n + 1) out at wrote r
   unfolding fits hasRoom
   start-free {t} {out} {wrote} {at} {r} b e f =
-      let qs : List Pair = m .pairs ++ (startPair h p ∷ []) in
+      let qs : List Pair = m .pairs ++ (started a h p ∷ []) in
       let room : hasRoom (m .pairs) ≡ true = lt-ltb (length (m .pairs)) mostPairs (omega (arith, w .count)) in
       let y : starts a h p (m .pairs) ≡ true = begun (rw room) in
-      let l : length qs ≡ length (m .pairs) + 1 = length-append (m .pairs) (startPair h p ∷ []) in
+      let l : length qs ≡ length (m .pairs) + 1 = length-append (m .pairs) (started a h p ∷ []) in
       let z : t ≡ padded (withLists m (m .mons) qs) =
       e ∙ ap (λ (v : List ℕ). put (put v (pairsAt + pairSize * n) (startRow key o)) countAt ((n + 1) ∷ [])) (w .block)
       ∙ ap (λ (j : ℕ). put (put (padded m) (pairsAt + pairSize * j) (startRow key o)) countAt ((j + 1) ∷ [])) (w .count)
@@ -240,14 +247,15 @@ module _ (m : Model) (s : List ℕ) (n : ℕ) (p : Packet) (a h key o : ℕ) (w 
       (x .sought .number)
       ∙ ap (λ (j : ℕ). put (put (padded m) (pairsAt + pairSize * length (m .pairs)) (startRow (h + 256 * deviceNumber p) j)) countAt
       ((length (m .pairs) + 1) ∷ [])) (x .rssi)
-      ∙ row-start m (w .measured) h p (x .sought .low) (x .sought .sent) (omega (arith, w .count)) in
+      ∙ row-start m (w .measured) h p (x .sought .low) (x .sought .sent) (omega (arith, w .count))
+      ∙ ap (λ (q : Pair). padded (withLists m (m .mons) (m .pairs ++ (q ∷ [])))) bare-is in
       let g : qs ≡ after a h p (m .pairs) = after-free a h p (m .pairs) y room in
       record {
         turned = record {
           block = z ∙ ap (λ (v : List Pair). padded (withLists m (m .mons) v)) g;
           count = ap (λ (j : ℕ). j + 1) (w .count) ∙ sym l ∙ ap length g;
         };
-        answer = wrote-is out at (event (m .prefix) (startPair h p) 1) _ (told-free a h p (m .pairs) y (m .prefix) room)
+        answer = wrote-is out at (event (m .prefix) (started a h p) 1) _ (told-free a h p (m .pairs) y (m .prefix) room)
             (last-told (m .pairs) n (w .measured .fit) (w .count) b z f);
       }
 
@@ -272,7 +280,7 @@ module _ (m : Model) (s : List ℕ) (n : ℕ) (p : Packet) (a h key o : ℕ) (w 
       let lt : length (take i (m .pairs)) ≡ i = length-take-le i (m .pairs) (omega (arith, d .0)) in
       let ld : length (drop (i + 1) (m .pairs)) ≡ length (m .pairs) - (i + 1) = length-drop (i + 1) (m .pairs) in
       let lr : length rest ≡ mostPairs - 1 = length-append (take i (m .pairs)) (drop (i + 1) (m .pairs)) ∙ omega (arith, d .0) in
-      let z : t ≡ padded (withLists m (m .mons) (rest ++ (startPair h p ∷ []))) =
+      let z : t ≡ padded (withLists m (m .mons) (rest ++ (started a h p ∷ []))) =
       q ∙ ap (λ (v : List ℕ). put (put v (pairsAt + pairSize * i) (take (pairSize * (mostPairs - 1 - i)) (drop (pairsAt + pairSize * (i + 1)) v)))
       (pairsAt + pairSize * (mostPairs - 1)) (startRow key o)) (w .block)
       ∙ ap (λ (j : ℕ). put (put (padded m) (pairsAt + pairSize * i)
@@ -281,10 +289,11 @@ module _ (m : Model) (s : List ℕ) (n : ℕ) (p : Packet) (a h key o : ℕ) (w 
       ∙ ap (λ (j : ℕ). put (put (padded m) (pairsAt + pairSize * i)
       (take (pairSize * (mostPairs - 1 - i)) (drop (pairsAt + pairSize * (i + 1)) (padded m))))
       (pairsAt + pairSize * (mostPairs - 1)) (startRow (h + 256 * deviceNumber p) j)) (x .rssi)
-      ∙ row-replaced m (w .measured) h p (x .sought .low) (x .sought .sent) i l (omega (arith, d .0)) in
-      let g : rest ++ (startPair h p ∷ []) ≡ after a h p (m .pairs) =
-      ap (λ (v : List Pair). v ++ (startPair h p ∷ [])) (sym st) ∙ after-full a h p (m .pairs) y room in
-      let ln : length (rest ++ (startPair h p ∷ [])) ≡ mostPairs = length-append rest (startPair h p ∷ []) ∙ omega arith in
+      ∙ row-replaced m (w .measured) h p (x .sought .low) (x .sought .sent) i l (omega (arith, d .0))
+      ∙ ap (λ (q : Pair). padded (withLists m (m .mons) (rest ++ (q ∷ [])))) bare-is in
+      let g : rest ++ (started a h p ∷ []) ≡ after a h p (m .pairs) =
+      ap (λ (v : List Pair). v ++ (started a h p ∷ [])) (sym st) ∙ after-full a h p (m .pairs) y room in
+      let ln : length (rest ++ (started a h p ∷ [])) ≡ mostPairs = length-append rest (started a h p ∷ []) ∙ omega arith in
       let fit : All Fits rest = subst (All Fits) st (without-all Fits lo (m .pairs) (w .measured .fit)) in
       let v : Wrote out at (event (m .prefix) (getD (m .pairs) i noPair) 0) o1 r1 =
       f (record { measured = w .measured; block = w .block; within = d .0 }) in
@@ -294,6 +303,6 @@ module _ (m : Model) (s : List ℕ) (n : ℕ) (p : Packet) (a h key o : ℕ) (w 
           count = w .count ∙ l ∙ sym ln ∙ ap length g;
         };
         answer = wrote-is out at _ _ (told-full a h p (m .pairs) y (m .prefix) (getD (m .pairs) i noPair) room go)
-            (wrote-both out at (event (m .prefix) (getD (m .pairs) i noPair) 0) (event (m .prefix) (startPair h p) 1) c v
+            (wrote-both out at (event (m .prefix) (getD (m .pairs) i noPair) 0) (event (m .prefix) (started a h p) 1) c v
             (last-told rest (mostPairs - 1) fit (sym lr) (omega arith) z k));
       }

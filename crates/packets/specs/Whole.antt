@@ -1,18 +1,17 @@
 -- The whole of a packet's step: what a sound state and a packet frame give the loops, and how the parts of the answer and of the block are put together. Document 01, Lines (02), Watching, by history.
 -- Assumes nothing.
-use Prim.Native.Nat.{ℕ, suc, _+_, _-_, _/_, _%_, _^_, _≤_, _<_}
+use Prim.Native.Nat.{ℕ, suc, _+_, _-_, _/_, _≤_, _<_}
 use mathlib.Core.Path.{_≡_, refl, sym, ap, _∙_}
-use mathlib.Core.Bool.{Bool, true, false, _&&_}
+use mathlib.Core.Bool.{Bool, true, _||_}
 use mathlib.Core.List.{List, [], _∷_, _++_, map}
 use native.Mathlib.Omega.{arith}
 use native.Mathlib.Nat.{zero-add}
-use lib.Dec.{leb, eqb}
-use lib.ListN.{length, drop, getD, length-append}
-use borrow.Author.Tests.{leb-true, eqb-true, lt-ltb, le-leb, eq-eqb, lt-leb, ne-eqb}
-use Rattle.laws.specs.Tests.{and-left, and-right, and-both, and-not-left, and-not-right}
+use lib.ListN.{length, drop, getD}
+use borrow.Author.Tests.{lt-ltb}
+use Rattle.laws.specs.Tests.{and-left, and-right, and-both}
 use Rattle.laws.specs.Loops.{every, when}
 use Rattle.laws.specs.Put.{put}
-use Rattle.octets.specs.Little.{little, octetsOf, isOctet, octets-mod}
+use Rattle.octets.specs.Little.{little, isOctet}
 use Rattle.model.specs.Types.{Model, Packet, Pair, withLists}
 use Rattle.model.specs.Frames.{packet, hasPacket, packetOf}
 use Rattle.model.specs.Events.{packetReports}
@@ -22,7 +21,7 @@ use Rattle.model.specs.Sound.{soundPair, soundModel}
 use Rattle.model.specs.Block.{padded, advanced}
 use Rattle.blocks.specs.Facts.{SoundModel, SoundPair, sound-facts, pair-facts}
 use Rattle.blocks.specs.Bounds.{Window, window-facts}
-use Rattle.blocks.specs.Block.{Measured, sound-measured, getD-count, read-filter, padded-length, length-padded}
+use Rattle.blocks.specs.Block.{Measured, sound-measured, getD-count, read-filter, length-padded}
 use Rattle.blocks.specs.Updates.{advanced-moved}
 use Rattle.steps.specs.Typed.{packet-sent}
 use Rattle.steps.specs.Stepped.{Stepped, Within, rest-put, rest-further}
@@ -32,9 +31,9 @@ use Rattle.packets.specs.Held.{Given, Roomy}
 use Rattle.packets.specs.Writes.{Wrote}
 use Rattle.packets.specs.Starts.{Holding, wrote-both}
 use Rattle.packets.specs.Handles.{Turns, turns-measured}
-use Rattle.packets.specs.Reports.{anyFrom, wantsAt, turnsOf, reported-off, reported-start, reported-wants}
+use Rattle.packets.specs.Reports.{turnsOf, heldTold, startsTold, reported-off, reported-on}
 use Rattle.marks.specs.Fields.{Clamped, Framed, packet-framed}
-use Rattle.model.specs.Layout.{blockSize, countAt, filterAt, mostData, mostMonitors, mostPairs, positionAt}
+use Rattle.model.specs.Layout.{blockSize, countAt, filterAt, mostMonitors, mostPairs}
 
 -- a packet frame of octets
 pub octets-known : (l : List ℕ) → ((i : ℕ) → getD l i 0 < 256) → every isOctet l ≡ true
@@ -118,10 +117,10 @@ module _ (m : Model) (s l acts : List ℕ) (dev n : ℕ) (b : Begun m s l acts d
   moves-given = b .given
 
   -- what the writers of the answer are given
-  pub starts-holding : {t out o : List ℕ} {k w : ℕ} → Turns (afterMoves m (packetOf l)) (packetOf l) mostMonitors t k out o w
+  pub starts-holding : {t out o : List ℕ} {k w : ℕ} {u : Bool} → Turns (afterMoves m (packetOf l)) (packetOf l) mostMonitors t k out o w u
       → Holding (afterStarts m (packetOf l)) t k
   unfolding afterMoves afterStarts withLists packetPairs
-  starts-holding {t} {out} {o} {k} {w} x =
+  starts-holding {t} {out} {o} {k} {w} {u} x =
       record {
         measured = turns-measured (afterMoves m (packetOf l)) (packetOf l)
             (Rattle.packets.specs.Held.all-measured m (packetOf l) (b .measured) (b .given .sent) (b .roomy))
@@ -132,7 +131,7 @@ module _ (m : Model) (s l acts : List ℕ) (dev n : ℕ) (b : Begun m s l acts d
       }
 
   -- what the turns wrote
-  pub turns-wrote : {t out o : List ℕ} {k w : ℕ} → Turns (afterMoves m (packetOf l)) (packetOf l) mostMonitors t k out o w
+  pub turns-wrote : {t out o : List ℕ} {k w : ℕ} {b : Bool} → Turns (afterMoves m (packetOf l)) (packetOf l) mostMonitors t k out o w b
       → Wrote out 0 (turnsOf m (packetOf l)) o w
   unfolding afterMoves withLists
   turns-wrote x = x .answer
@@ -145,17 +144,18 @@ module _ (m : Model) (s l acts : List ℕ) (dev n : ℕ) (b : Begun m s l acts d
       reported-off m (packetOf l)
       (sym (ap (λ (x : List ℕ). getD x filterAt 0) (h .block) ∙ read-filter (afterStarts m (packetOf l))) ∙ e)
 
-  pub told-start : {k : ℕ} → k ≡ length (turnsOf m (packetOf l)) → 0 < k → true ≡ reported m (packetOf l)
-  told-start e y = reported-start m (packetOf l) (omega arith)
-
-  pub told-wants : {t : List ℕ} {k w : ℕ} {r : Bool} → Holding (afterStarts m (packetOf l)) t k → (getD t filterAt 0 ≡ 0 → ⊥)
-      → w ≡ length (turnsOf m (packetOf l)) → w ≤ 0
-      → r ≡ anyFrom (wantsAt acts (afterStarts m (packetOf l) .pairs) (packetOf l)) 0 mostMonitors → r ≡ reported m (packetOf l)
+  pub told-on : {t : List ℕ} {k : ℕ} {r u v : Bool} → Holding (afterStarts m (packetOf l)) t k → (getD t filterAt 0 ≡ 0 → ⊥)
+      → u ≡ heldTold m (packetOf l) → v ≡ startsTold m (packetOf l) → r ≡ (u || v) → r ≡ reported m (packetOf l)
   unfolding afterStarts withLists
-  told-wants {t} {k} {w} {r} h e c y q =
-      reported-wants m (packetOf l) acts (b .facts) (b .given .octets)
-      (λ z. e (ap (λ (x : List ℕ). getD x filterAt 0) (h .block) ∙ read-filter (afterStarts m (packetOf l)) ∙ z))
-      (omega arith) q
+  told-on {t} {k} {r} {u} {v} h n e f q =
+      reported-on m (packetOf l)
+      (λ z. n (ap (λ (x : List ℕ). getD x filterAt 0) (h .block) ∙ read-filter (afterStarts m (packetOf l)) ∙ z)) e f q
+
+  -- whether its starts are told
+  pub turns-told : {t out o : List ℕ} {k w : ℕ} {u : Bool} → Turns (afterMoves m (packetOf l)) (packetOf l) mostMonitors t k out o w u
+      → u ≡ startsTold m (packetOf l)
+  unfolding afterMoves withLists
+  turns-told x = x .tells
 
   -- the whole
   pub packet-stepped : {t u out o v : List ℕ} {k w r : ℕ} {told : Bool}

@@ -1,30 +1,32 @@
 -- Writes inside the pair rows of a block: a pair changed, a pair at its start. Document 01, The image (A3), Watching,
 -- by history. Assumes nothing.
 use Prim.Native.Nat.{ℕ, _+_, _-_, _*_, _/_, _%_, _≤_, _<_}
-use mathlib.Core.Path.{_≡_, refl, sym, ap, _∙_}
+use mathlib.Core.Path.{_≡_, refl, sym, ap, _∙_, subst}
+use mathlib.Core.Bool.{Bool, true, false}
 use mathlib.Core.List.{List, [], _∷_, _++_}
 use native.Mathlib.Omega.{arith}
 use native.Mathlib.Nat.{add-zero}
 use lib.ListN.{length, take, drop, getD, set, length-drop, take-append-drop}
 use lib.Seq.{length-take-le, drop-drop, getD-drop, set-getD}
-use Rattle.laws.specs.Loops.{every-nil}
+use Rattle.laws.specs.Tests.{pick}
+use Rattle.laws.specs.Loops.{every, every-nil, when}
 use Rattle.laws.specs.Put.{put, put-left, put-right, length-put}
 use Rattle.laws.specs.Rows.{row, getD-row, put-whole}
-use Rattle.octets.specs.Little.{little, octetsOf, value, length-octets, octets-value}
+use Rattle.octets.specs.Little.{isOctet, little, octetsOf, value, length-octets, octets-value}
 use Rattle.model.specs.Types.{Model, Packet, Pair, device, deviceOf, withLists}
 use Rattle.model.specs.Level.{addRssi}
-use Rattle.model.specs.Watch.{withSilent, withKept, gathered, startPair}
+use Rattle.model.specs.Watch.{withSilent, withKept, withLatest, gathered, startLike}
 use Rattle.model.specs.Image.{pairRow, pairIn}
 use Rattle.model.specs.Block.{padTo, padded}
 use Rattle.blocks.specs.Bounds.{Fits}
 use Rattle.blocks.specs.Places.{pairIn-place}
 use Rattle.blocks.specs.Block.{Measured, length-padded, row-pairs}
 use Rattle.blocks.specs.Ends.{change-pair}
-use Rattle.blocks.specs.Fields.{windowOf, length-window, put-silent, put-kept, put-gathered}
+use Rattle.blocks.specs.Fields.{latestOf, windowOf, length-latest, length-window, put-silent, put-kept, put-latest, put-gathered}
 use Rattle.steps.specs.Typed.{Sent}
 use Rattle.steps.specs.Sums.{sum-below}
 use Rattle.packets.specs.Keys.{deviceNumber, device-octets, device-seven, little-pairs}
-use Rattle.model.specs.Layout.{blockSize, mostMonitors, mostPairs, pairSize, pairsAt, rssiAt, windowSize}
+use Rattle.model.specs.Layout.{blockSize, eventAt, latestSize, mostData, mostMonitors, mostPairs, pairSize, pairsAt, rssiAt, windowSize}
 
 -- the pair read past the end
 unfoldable pub noPair : Pair
@@ -100,7 +102,7 @@ fits-silent q f =
       packets-most = f .packets-most;
       sum-most = f .sum-most;
       kept-octet = f .kept-octet;
-      event-most = f .event-most;
+      event-octet = f .event-octet;
       adv-most = f .adv-most;
       adv-octets = f .adv-octets;
     }
@@ -118,7 +120,7 @@ fits-kept o q b f =
       packets-most = f .packets-most;
       sum-most = f .sum-most;
       kept-octet = b;
-      event-most = f .event-most;
+      event-octet = f .event-octet;
       adv-most = f .adv-most;
       adv-octets = f .adv-octets;
     }
@@ -136,14 +138,37 @@ fits-gathered p q t f h =
       packets-most = omega arith;
       sum-most = sum-below (q .sum) (p .rssi);
       kept-octet = t .rssi-octet;
-      event-most = t .event-most;
+      event-octet = omega (arith, t .event-most);
       adv-most = t .adv-short;
       adv-octets = t .adv-octets;
     }
 
-pub fits-start : (h : ℕ) (p : Packet) → h < mostMonitors → Sent p → Fits (startPair h p)
-unfolding startPair
-fits-start h p b t =
+pub fits-latest : (event : ℕ) (adv : List ℕ) (q : Pair) → event < 256 → length adv ≤ mostData → every isOctet adv ≡ true → Fits q
+    → Fits (withLatest event adv q)
+unfolding withLatest
+fits-latest event adv q b n o f =
+    record {
+      handle-most = f .handle-most;
+      kind-most = f .kind-most;
+      address-length = f .address-length;
+      address-octets = f .address-octets;
+      silent-most = f .silent-most;
+      ticks-most = f .ticks-most;
+      packets-most = f .packets-most;
+      sum-most = f .sum-most;
+      kept-octet = f .kept-octet;
+      event-octet = b;
+      adv-most = n;
+      adv-octets = o;
+    }
+
+-- a pair at its start, of a monitor that does not filter duplicates
+abbrev pub bare : ℕ → Packet → Pair
+bare h p = startLike false false h p
+
+pub fits-bare : (h : ℕ) (p : Packet) → h < mostMonitors → Sent p → Fits (bare h p)
+unfolding startLike pick when
+fits-bare h p b t =
     record {
       handle-most = b;
       kind-most = t .kind-most;
@@ -154,10 +179,30 @@ fits-start h p b t =
       packets-most = omega arith;
       sum-most = omega arith;
       kept-octet = t .rssi-octet;
-      event-most = omega arith;
+      event-octet = omega arith;
       adv-most = omega arith;
-      adv-octets = every-nil Rattle.octets.specs.Little.isOctet;
+      adv-octets = every-nil isOctet;
     }
+
+-- with its monitor's octet: the packet is kept for duplicates, or none is
+unfoldable pub begunAs : Bool → Bool → Packet → Pair → Pair
+begunAs sifting reason p q = pick sifting (pick reason (withLatest (p .event) (p .adv) q) (withLatest 255 [] q)) q
+
+pub begun-bare : (sifting reason : Bool) (h : ℕ) (p : Packet) → begunAs sifting reason p (bare h p) ≡ startLike sifting reason h p
+unfolding begunAs startLike withLatest pick when
+begun-bare true true h p = refl
+begun-bare true false h p = refl
+begun-bare false reason h p = refl
+
+pub fits-begun : (sifting reason : Bool) (p : Packet) (q : Pair) → Sent p → Fits q → Fits (begunAs sifting reason p q)
+unfolding begunAs pick
+fits-begun true true p q t f = fits-latest (p .event) (p .adv) q (omega (arith, t .event-most)) (t .adv-short) (t .adv-octets) f
+fits-begun true false p q t f = fits-latest 255 [] q (omega arith) (omega arith) (every-nil isOctet) f
+fits-begun false reason p q t f = f
+
+pub fits-start : (sifting reason : Bool) (h : ℕ) (p : Packet) → h < mostMonitors → Sent p → Fits (startLike sifting reason h p)
+fits-start sifting reason h p b t =
+    subst Fits (begun-bare sifting reason h p) (fits-begun sifting reason p (bare h p) t (fits-bare h p b t))
 
 -- the writes of one row: the ticks since a good packet, the window from the packets on
 module _ (m : Model) (f : Measured m) (i : ℕ) (d : Pair) (b : i < length (m .pairs)) (g : Fits (getD
@@ -174,6 +219,15 @@ module _ (m : Model) (f : Measured m) (i : ℕ) (d : Pair) (b : i < length (m .p
   row-kept o h =
       put-row m f i d (withKept (getD (m .pairs) i d) o) (fits-kept o (getD (m .pairs) i d) h g) b rssiAt (o ∷ []) (omega arith)
       (put-kept (getD (m .pairs) i d) (g .address-length) o)
+
+  pub row-latest : (event : ℕ) (adv : List ℕ) → event < 256 → length adv ≤ mostData → every isOctet adv ≡ true
+      → put (padded m) (pairsAt + pairSize * i + eventAt) (latestOf event adv)
+      ≡ padded (withLists m (m .mons) (set (m .pairs) i (withLatest event adv (getD (m .pairs) i d))))
+  row-latest event adv h n o =
+      let q : Pair = getD (m .pairs) i d in
+      let k : length (latestOf event adv) ≡ latestSize = length-latest event adv n in
+      put-row m f i d (withLatest event adv q) (fits-latest event adv q h n o g) b eventAt (latestOf event adv) (omega arith)
+      (put-latest q (g .address-length) event adv (g .adv-most) n)
 
   pub read-kept : getD (padded m) (pairsAt + pairSize * i + rssiAt) 0 ≡ getD (m .pairs) i d .kept
   unfolding pairIn

@@ -4,7 +4,7 @@
 use state::State;
 ghost use Prim.Native.Nat.{ℕ, _+_, _-_, _*_, _≤_, _<_};
 ghost use mathlib.Core.Path.{_≡_};
-ghost use mathlib.Core.List.{List, [], _∷_};
+ghost use mathlib.Core.List.{[], _∷_};
 ghost use lib.Dec.{ltb};
 ghost use lib.ListN.{length, take, drop};
 ghost use Rattle.laws.specs.Put.{put};
@@ -18,16 +18,24 @@ ghost use Rattle.packets.specs.Keys.{deviceNumber};
 ghost use Rattle.packets.specs.Writes.{Wrote};
 ghost use Rattle.packets.specs.News.{startRow};
 ghost use Rattle.packets.specs.Weakest.{levelAt, weakestBelow};
-ghost use Rattle.packets.specs.Moves.{AtPair, pairAt};
+ghost use mathlib.Core.Bool.{_&&_};
+ghost use Rattle.model.specs.Frames.{packetOf};
+ghost use Rattle.model.specs.Block.{padded};
+ghost use Rattle.marks.specs.Fields.{Framed};
+ghost use Rattle.marks.specs.Marks.{sifted, allowed};
+ghost use Rattle.packets.specs.Changes.{starts};
+ghost use Rattle.packets.specs.Writes.{begunAs};
+ghost use Rattle.packets.specs.Moves.{AtPair, pairAt, withPair};
 ghost use Rattle.packets.specs.Held.{Given};
 ghost use Rattle.packets.specs.Starts.{Holding, Asked, Told};
 ghost use Rattle.packets.specs.Handles.{Turns};
 ghost use Rattle.model.specs.Layout.{blockSize, countAt, eventMost, mostMonitors, mostPairs, pairSize, pairsAt, turnMost, turnsMost};
 
-// What turns leave: how many pairs are held, and how many octets were written.
+// What turns leave: how many pairs are held, how many octets were written, and whether the report of a start is let through.
 pub struct Turn {
     pub held: usize,
     pub wrote: usize,
+    pub told: bool,
 }
 
 // The event of pair i, written into out at an index. Answers how many octets that is.
@@ -128,23 +136,52 @@ fn start_full(s: &mut [u8], i: usize, key: u64, rssi: u8, out: &mut [u8], at: us
     stop + start
 }
 
-// A start of a pair that is not held, where there is room or a pair that goes.
+// A start of a pair that is not held, where there is room or a pair that goes, as of a monitor that filters no duplicates.
 fn start_new(s: &mut [u8], n: usize, key: u64, rssi: u8, out: &mut [u8], at: usize) -> Turn
     requires { ⌜ (length (now s) ≡ blockSize) × (n ≤ mostPairs) × (at + turnMost ≤ length (now out)) ⌝ }
-    ensures { λ r. ⌜ (r .held ≤ mostPairs) × (r .wrote ≤ turnMost) × (drop (at + r .wrote) (now (out .exit)) ≡ drop (at + r .wrote) (now (out .entry))) × ((m : Model) (p : Packet) (a h : ℕ) → Holding m (now (s .entry)) n → Asked m p a h key rssi → Told m a h p (now (s .exit)) (r .held) (now (out .entry)) at (now (out .exit)) (r .wrote)) ⌝ }
+    ensures { λ r. ⌜ (r .held ≤ mostPairs) × (r .wrote ≤ turnMost) × (drop (at + r .wrote) (now (out .exit)) ≡ drop (at + r .wrote) (now (out .entry))) × (1 ≤ r .held) × ((m : Model) (p : Packet) (a h : ℕ) → Holding m (now (s .entry)) n → Asked m p a h key rssi → Told m a h p (now (s .exit)) (r .held) (now (out .entry)) at (now (out .exit)) (r .wrote)) ⌝ }
 {
     if n < State::PAIRS {
         let wrote = start_free(s, n, key, rssi, out, at);
         let held = n + 1;
-        return Turn { held, wrote };
+        return Turn {
+            held,
+            wrote,
+            told: false,
+        };
     }
     let i = weakest(s);
     let least = kept_at(s, i);
     if state::level_of(rssi) <= least {
-        return Turn { held: n, wrote: 0 };
+        return Turn {
+            held: n,
+            wrote: 0,
+            told: false,
+        };
     }
     let wrote = start_full(s, i, key, rssi, out, at);
-    Turn { held: n, wrote }
+    Turn {
+        held: n,
+        wrote,
+        told: false,
+    }
+}
+
+// The packet that pair i, at its start, keeps for duplicates, where its handle's octet says that these are filtered: this one if it is let
+// through, else none.
+fn keep_start(s: &mut [u8], i: usize, a: u8, payload: &[u8])
+    requires { ⌜ (length (now s) ≡ blockSize) × (i < mostPairs) × Framed (now payload) ⌝ }
+    ensures { λ _. ⌜ ((m : Model) → AtPair m (now (s .entry)) i → Sent (packetOf (now (payload .entry))) → now (s .exit) ≡ padded (withPair m i (begunAs (sifted a) (allowed a) (packetOf (now (payload .entry))) (pairAt m i)))) ⌝ }
+{
+    if a / 16 % 2 != 1 {
+        return;
+    }
+    let at = State::PAIRS_AT + State::PAIR_ROW * i + State::EVENT_AT;
+    if a / 32 % 2 == 1 {
+        super::windows::put_latest(s, at, payload);
+        return;
+    }
+    super::windows::put_none(s, at);
 }
 
 // One handle's turn, by its octet.
@@ -154,21 +191,44 @@ fn start_at(
     h: usize,
     a: u8,
     dev: u64,
-    rssi: u8,
+    payload: &[u8],
     out: &mut [u8],
     at: usize,
 ) -> Turn
-    requires { ⌜ (length (now s) ≡ blockSize) × (n ≤ mostPairs) × (h < mostMonitors) × (dev < 72057594037927936) × (at + turnMost ≤ length (now out)) ⌝ }
-    ensures { λ r. ⌜ (r .held ≤ mostPairs) × (r .wrote ≤ turnMost) × (drop (at + r .wrote) (now (out .exit)) ≡ drop (at + r .wrote) (now (out .entry))) × ((m : Model) (p : Packet) → Holding m (now (s .entry)) n → Sent p → dev ≡ deviceNumber p → rssi ≡ p .rssi → Told m a h p (now (s .exit)) (r .held) (now (out .entry)) at (now (out .exit)) (r .wrote)) ⌝ }
+    requires { ⌜ (length (now s) ≡ blockSize) × (n ≤ mostPairs) × (h < mostMonitors) × (dev < 72057594037927936) × (at + turnMost ≤ length (now out)) × Framed (now payload) ⌝ }
+    ensures { λ r. ⌜ (r .held ≤ mostPairs) × (r .wrote ≤ turnMost) × (drop (at + r .wrote) (now (out .exit)) ≡ drop (at + r .wrote) (now (out .entry))) × ((m : Model) → Holding m (now (s .entry)) n → Sent (packetOf (now (payload .entry))) → dev ≡ deviceNumber (packetOf (now (payload .entry))) → Told m a h (packetOf (now (payload .entry))) (now (s .exit)) (r .held) (now (out .entry)) at (now (out .exit)) (r .wrote) × (r .told ≡ (starts a h (packetOf (now (payload .entry))) (m .pairs) && allowed a))) ⌝ }
 {
     if a / 4 % 2 != 1 {
-        return Turn { held: n, wrote: 0 };
+        return Turn {
+            held: n,
+            wrote: 0,
+            told: false,
+        };
     }
     let key = h as u64 + 256 * dev;
     if super::is_held(s, n, key) {
-        return Turn { held: n, wrote: 0 };
+        return Turn {
+            held: n,
+            wrote: 0,
+            told: false,
+        };
     }
-    start_new(s, n, key, rssi, out, at)
+    let turn = start_new(s, n, key, payload[payload.len() - 1], out, at);
+    let held = turn.held;
+    let wrote = turn.wrote;
+    if wrote == 0 {
+        return Turn {
+            held,
+            wrote,
+            told: false,
+        };
+    }
+    keep_start(s, held - 1, a, payload);
+    Turn {
+        held,
+        wrote,
+        told: a / 32 % 2 == 1,
+    }
 }
 
 // The turns of the handles 0 to 15.
@@ -177,20 +237,22 @@ pub(super) fn start_all(
     n: usize,
     acts: &[u8],
     dev: u64,
-    rssi: u8,
+    payload: &[u8],
     out: &mut [u8],
 ) -> Turn
-    requires { ⌜ (length (now s) ≡ blockSize) × (n ≤ mostPairs) × (length (now acts) ≡ mostMonitors) × (dev < 72057594037927936) × (answerRoom ≤ length (now out)) ⌝ }
-    ensures { λ r. ⌜ (r .held ≤ mostPairs) × (r .wrote ≤ turnsMost) × (drop (r .wrote) (now (out .exit)) ≡ drop (r .wrote) (now (out .entry))) × ((m : Model) (p : Packet) → Holding m (now (s .entry)) n → Given (m .mons) p (now (acts .entry)) dev → rssi ≡ p .rssi → Turns m p mostMonitors (now (s .exit)) (r .held) (now (out .entry)) (now (out .exit)) (r .wrote)) ⌝ }
+    requires { ⌜ (length (now s) ≡ blockSize) × (n ≤ mostPairs) × (length (now acts) ≡ mostMonitors) × (dev < 72057594037927936) × (answerRoom ≤ length (now out)) × Framed (now payload) ⌝ }
+    ensures { λ r. ⌜ (r .held ≤ mostPairs) × (r .wrote ≤ turnsMost) × (drop (r .wrote) (now (out .exit)) ≡ drop (r .wrote) (now (out .entry))) × ((m : Model) → Holding m (now (s .entry)) n → Given (m .mons) (packetOf (now (payload .entry))) (now (acts .entry)) dev → Turns m (packetOf (now (payload .entry))) mostMonitors (now (s .exit)) (r .held) (now (out .entry)) (now (out .exit)) (r .wrote) (r .told)) ⌝ }
 {
     let mut held = n;
     let mut wrote = 0;
+    let mut told = false;
     let mut h = 0;
     while h < State::MONITORS {
-        let turn = start_at(s, held, h, acts[h], dev, rssi, out, wrote);
+        let turn = start_at(s, held, h, acts[h], dev, payload, out, wrote);
         held = turn.held;
         wrote += turn.wrote;
+        told = told | turn.told;
         h += 1;
     }
-    Turn { held, wrote }
+    Turn { held, wrote, told }
 }

@@ -44,7 +44,7 @@ both-ways true b f g = sym (f refl)
 both-ways false true f g = g refl
 both-ways false false f g = refl
 
--- "image 9,898": a longer text is none
+-- "image 10,698": a longer text is none
 pub image-long : (t : List ℕ) → saveRoom < length t → isImage t ≡ false
 image-long t h =
     not-so (isImage t) (λ i.

@@ -32,7 +32,7 @@ written s out {after} {n} p h k =
       text = rw (q .0, q .1) (take-put out 0 (savedText s) (omega arith));
     }
 
--- the same of 9,898 octets of 0
+-- the same of 10,698 octets of 0
 pub written-zeros : (s : List ℕ) {after : List ℕ} {n : ℕ} → length s ≡ blockSize
     → (n ≡ pick (saves s (length {A = ℕ} (replicate saveRoom 0))) (length (savedText s)) 0)
     × (after ≡ putIf (saves s (length {A = ℕ} (replicate saveRoom 0))) (replicate saveRoom 0) 0 (savedText s))

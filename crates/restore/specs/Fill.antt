@@ -14,53 +14,29 @@ use Rattle.laws.specs.Put.{put, putIf, put-of, put-left}
 use Rattle.laws.specs.Loops.{every-nil, each, upTo}
 use Rattle.octets.specs.Little.{isOctet}
 use Rattle.model.specs.Accepted.{accepted}
-use Rattle.images.specs.Fits.{sound-fits}
+use Rattle.images.specs.Fits.{MonitorFits, sound-fits, extra-most, monitor-octets}
 use Rattle.laws.specs.Rows.{flat, put-whole}
 use Rattle.lines.specs.Hex.{textOf}
 use Rattle.rule.specs.Base.{All, all-append}
 use Rattle.rule.specs.Engine.{find}
 use Rattle.model.specs.Types.{Model, Monitor, Pair, withLists}
 use Rattle.model.specs.Sound.{soundModel}
-use Rattle.model.specs.Image.{headRow, monitorRow, pairRow, endRow, records, imageText}
+use Rattle.model.specs.Image.{headRow, monitorRow, extraText, monitorText, pairRow, endRow, records, imageText}
 use Rattle.model.specs.Block.{padTo, monitorPlace, monitorBlock, pairBlock, padded}
 use Rattle.blocks.specs.Laid.{empty-padded}
 use Rattle.blocks.specs.Rows.{length-headRow, length-monitorRow, length-pairRow, octets-cons}
-use Rattle.blocks.specs.Facts.{SoundMonitor, SoundMonitors, SoundModel, sound-facts, monitors-tail}
-use Rattle.blocks.specs.Bounds.{Fits, pairs-fit, sound-headRow, sound-monitorRow, fits-pairRow}
-use Rattle.blocks.specs.Monitors.{Short, length-full, put-monitorBlock}
+use Rattle.blocks.specs.Facts.{SoundMonitors, SoundModel, sound-facts, monitors-tail}
+use Rattle.blocks.specs.Bounds.{Fits, pairs-fit, sound-headRow, fits-pairRow}
+use Rattle.blocks.specs.Monitors.{Sized, Short, rowOf, sound-sized, length-full, put-monitorBlock}
 use Rattle.blocks.specs.Block.{Measured, measured, getD-count, length-head}
 use Rattle.blocks.specs.Updates.{put-monitors}
 use Rattle.blocks.specs.Ends.{add-pair}
 use Rattle.restore.specs.Lines.{monitor-own}
 use Rattle.restore.specs.Lines.{stored, storedMonitor, storedPair, storedAll}
-use Rattle.restore.specs.Lines.{name-head, name-monitor, name-pair, name-other}
+use Rattle.restore.specs.Lines.{name-head, name-pair, name-other}
 use Rattle.restore.specs.Rows.{Row}
+use Rattle.restore.specs.Spread.{behind-name, name-of, line-stored}
 use Rattle.model.specs.Layout.{blockSize, bodySize, countAt, dataAt, handleAt, headSize, lineRow, monitorSize, monitorsAt, mostCondition, mostData, mostMonitors, mostPairs, mostPrefix, pairSize, pairsAt}
-
--- the octets of a row behind its name
-
-pub take-padTo : (n k : ℕ) (r : List ℕ) → length r ≤ k → k ≤ n → take k (padTo n r) ≡ padTo k r
-unfolding padTo
-take-padTo n k r h b =
-    let z : List ℕ = replicate (k - length r) 0 in
-    let y : List ℕ = replicate (n - k) 0 in
-    let e : k - length r + (n - k) ≡ n - length r = omega arith in
-    let s : replicate (n - length r) 0 ≡ z ++ y =
-    ap (λ (j : ℕ). replicate j 0) (sym e) ∙ sym (replicate-append-replicate (k - length r) (n - k) 0) in
-    let l : length z ≡ k - length r = length-replicate {A = ℕ} (k - length r) 0 in
-    let m : length (r ++ z) ≡ k = rw (length-append r z) (omega arith) in
-    rw (s, ← append-assoc r z y) (take-at (r ++ z) y k m)
-
--- a name and a row in 72 octets: the row in the octets that its place has
-pub behind-name : (name k : ℕ) (r : List ℕ) → length r ≤ k → k ≤ monitorSize → take k (drop 1 (padTo lineRow (name ∷ r))) ≡ padTo k r
-unfolding padTo
-behind-name name k r h b =
-    let e : lineRow - suc (length r) ≡ monitorSize - length r = omega arith in
-    ap (λ (j : ℕ). take k (r ++ replicate j 0)) e ∙ take-padTo monitorSize k r h b
-
-pub name-of : (name : ℕ) (r : List ℕ) → getD (padTo lineRow (name ∷ r)) 0 0 ≡ name
-unfolding padTo
-name-of name r = refl
 
 -- A0 in an empty block
 pub head-stored : (m : Model) → length (m .prefix) ≤ mostPrefix
@@ -93,14 +69,9 @@ all-below k j [] h a = tt
 all-below k j (y ∷ l) h a = (omega (arith, a .0), all-below k j l h (a .1))
 
 monitor-own-row : (s : List ℕ) (x : ℕ × Monitor) → x .0 < mostMonitors
-    → storedMonitor s (padTo monitorSize (monitorRow x)) ≡ put s (monitorsAt + monitorSize * x .0) (padTo monitorSize (monitorRow x))
+    → storedMonitor s (rowOf (x .0) (x .1)) ≡ put s (monitorsAt + monitorSize * x .0) (rowOf (x .0) (x .1))
 unfolding padTo monitorRow
-monitor-own-row s x b = sym (monitor-own s (padTo monitorSize (monitorRow x)) b (place-at s x))
-  where
-    place-at : (s : List ℕ) (x : ℕ × Monitor)
-        → put s (monitorsAt + monitorSize * x .0) (padTo monitorSize (monitorRow x))
-        ≡ put s (monitorsAt + monitorSize * getD (padTo monitorSize (monitorRow x)) handleAt 0) (padTo monitorSize (monitorRow x))
-    place-at s x = refl
+monitor-own-row s x b = sym (monitor-own s (rowOf (x .0) (x .1)) b refl)
 
 pair-behind : (s r : List ℕ) (n : ℕ) → getD s countAt 0 ≡ n → n < mostPairs
     → storedPair s r ≡ put (put s (pairsAt + pairSize * n) r) countAt ((n + 1) ∷ [])
@@ -109,45 +80,41 @@ pair-behind s r n c b = rw c (pick-true _ s (lt-ltb n mostPairs b))
 
 module _ (m : Model) where
   monitor-stored : (l : List (ℕ × Monitor)) (x : ℕ × Monitor) → Measured (withLists m l []) → All (λ y. y .0 < x .0) l
-      → x .0 < mostMonitors → length (x .1 .condition) ≤ mostCondition
-      → stored (padded (withLists m l [])) (padTo lineRow (0xA1 ∷ monitorRow x)) ≡ padded (withLists m (l ++ (x ∷ [])) [])
+      → x .0 < mostMonitors → Sized (x .1)
+      → stored (padded (withLists m l [])) (padTo lineRow (monitorText x)) ≡ padded (withLists m (l ++ (x ∷ [])) [])
   unfolding withLists monitorPlace
   monitor-stored l x f a b c =
       let w : Model = withLists m l [] in
-      let r : List ℕ = padTo monitorSize (monitorRow x) in
-      let n : length (monitorRow x) ≡ 7 + length (x .1 .condition) = length-monitorRow x in
-      let k : length r ≡ monitorSize = length-full x c in
-      let s : Short (l ++ (x ∷ [])) = all-append (λ y. length (y .1 .condition) ≤ mostCondition) l (x ∷ []) (f .short) (c, tt) in
+      let r : List ℕ = rowOf (x .0) (x .1) in
+      let k : length r ≡ monitorSize = length-full (x .0) (x .1) c in
+      let s : Short (l ++ (x ∷ [])) = all-append (λ y. Sized (y .1)) l (x ∷ []) (f .short) (c, tt) in
       let p : put (monitorBlock l) (monitorSize * x .0) r ≡ monitorBlock (l ++ (x ∷ [])) =
       rw (find-same l (x .0) (x .1) a) at (put-monitorBlock l (l ++ (x ∷ [])) (f .short) s (x .0) b
       (λ g d. find-other l (x .0) g (x .1) d)) in
-      let e : take monitorSize (drop 1 (padTo lineRow (0xA1 ∷ monitorRow x))) ≡ r =
-      behind-name 0xA1 monitorSize (monitorRow x) (omega arith) (omega arith) in
-      sym (name-monitor (padded w) (padTo lineRow (0xA1 ∷ monitorRow x)) (name-of 0xA1 (monitorRow x)) refl)
-      ∙ ap (storedMonitor (padded w)) e
+      line-stored (padded w) x c
       ∙ monitor-own-row (padded w) x b
       ∙ put-monitors w f (l ++ (x ∷ [])) (monitorSize * x .0) r (omega arith) p
 
   monitors-stored : (l r : List (ℕ × Monitor)) (k : ℕ) → Measured (withLists m l []) → All (λ y. y .0 < k) l
       → SoundMonitors k r
-      → storedAll (padded (withLists m l [])) (map (λ (x : ℕ × Monitor). 0xA1 ∷ monitorRow x) r)
+      → storedAll (padded (withLists m l [])) (map monitorText r)
       ≡ padded (withLists m (l ++ r) [])
   unfolding storedAll withLists
   monitors-stored l [] k f a s = ap (λ (x : List (ℕ × Monitor)). padded (withLists m x [])) (sym (append-nil l))
   monitors-stored l (x ∷ r) k f a s =
       let h : k ≤ x .0 = s .handles .0 .0 in
-      let c : length (x .1 .condition) ≤ mostCondition = accepted (x .1) (s .monitors .0 .accept) .short in
+      let c : Sized (x .1) = sound-sized (x .1) (s .monitors .0) in
       let b : All (λ y. y .0 < x .0) l = all-below k (x .0) l h a in
       let d : All (λ y. y .0 < suc (x .0)) (l ++ (x ∷ [])) =
       all-append (λ y. y .0 < suc (x .0)) l (x ∷ []) (all-below k (suc (x .0)) l (omega arith) a) (omega arith, tt) in
       let g : Measured (withLists m (l ++ (x ∷ [])) []) =
       record {
         prefix-most = f .prefix-most;
-        short = all-append (λ y. length (y .1 .condition) ≤ mostCondition) l (x ∷ []) (f .short) (c, tt);
+        short = all-append (λ y. Sized (y .1)) l (x ∷ []) (f .short) (c, tt);
         fit = tt;
         pairs-most = omega arith;
       } in
-      ap (λ (t : List ℕ). storedAll t (map (λ (y : ℕ × Monitor). 0xA1 ∷ monitorRow y) r))
+      ap (λ (t : List ℕ). storedAll t (map monitorText r))
       (monitor-stored l x f b (s .handles .0 .1) c)
       ∙ monitors-stored (l ++ (x ∷ [])) r (suc (x .0)) g d (monitors-tail k x r s)
       ∙ ap (λ (y : List (ℕ × Monitor)). padded (withLists m y [])) (append-assoc l (x ∷ []) r)
@@ -202,6 +169,7 @@ end-stored s r =
     let e : getD (padTo lineRow (0xAF ∷ r)) 0 0 ≡ 0xAF = name-of 0xAF r in
     sym (name-other s (padTo lineRow (0xAF ∷ r)) (λ (x : getD (padTo lineRow (0xAF ∷ r)) 0 0 ≡ 0xA0). omega arith)
     (λ (x : getD (padTo lineRow (0xAF ∷ r)) 0 0 ≡ 0xA1). omega arith)
+    (λ (x : getD (padTo lineRow (0xAF ∷ r)) 0 0 ≡ 0xA5). omega arith)
     (λ (x : getD (padTo lineRow (0xAF ∷ r)) 0 0 ≡ 0xA3). omega arith))
 
 -- The rows of a sound state, stored in an empty block one after another, give its block.
@@ -210,7 +178,7 @@ unfolding records withLists storedAll
 records-stored m e =
     let f : SoundModel m = sound-facts m e in
     let g : Measured m = measured m e in
-    let ms : List (List ℕ) = map (λ (x : ℕ × Monitor). 0xA1 ∷ monitorRow x) (m .mons) in
+    let ms : List (List ℕ) = map monitorText (m .mons) in
     let qs : List (List ℕ) = map (λ (q : Pair). 0xA3 ∷ pairRow q) (m .pairs) in
     let z : List (List ℕ) = (0xAF ∷ endRow m) ∷ [] in
     let a : Measured (withLists m [] []) = record {
@@ -230,24 +198,25 @@ records-stored m e =
     (omega (arith, g .pairs-most)))
     ∙ end-stored (padded m) (endRow m)
 
--- every row of a sound state is octets, at most 72 with its name
+-- every row of a sound state is octets, at most 97 with its name
 
 all-map : {A : Type 0} (P : A → Type 0) (f : A → List ℕ) (l : List A) → All P l → ((a : A) → P a → Row (f a))
     → All Row (map f l)
 all-map P f [] p h = tt
 all-map P f (a ∷ l) p h = (h a (p .0), all-map P f l (p .1) h)
 
-all-and : {A : Type 0} (P Q : A → Type 0) (l : List A) → All P l → All Q l → All (λ a. P a × Q a) l
-all-and P Q [] p q = tt
-all-and P Q (a ∷ l) p q = ((p .0, q .0), all-and P Q l (p .1) (q .1))
-
-monitor-row : (x : ℕ × Monitor) → ((0 ≤ x .0) × (x .0 < mostMonitors)) × SoundMonitor (x .1) → Row (0xA1 ∷ monitorRow x)
-monitor-row x p =
-    let b : x .0 < mostMonitors = p .0 .1 in
-    let c : length (x .1 .condition) ≤ mostCondition = accepted (x .1) (p .1 .accept) .short in
+monitor-row : (x : ℕ × Monitor) → MonitorFits x → Row (monitorText x)
+unfolding monitorText
+monitor-row x f =
     record {
-      octets = octets-cons 0xA1 (monitorRow x) (omega arith) (sound-monitorRow x (omega arith) (p .1));
-      most = omega (arith, length-monitorRow x);
+      octets = monitor-octets x f;
+      most = omega (
+        arith,
+        length-append (monitorRow x) (extraText (x .1 .extra)),
+        length-monitorRow x,
+        accepted (x .1) (f .sound .accept) .short,
+        extra-most (x .1 .extra) (f .sound .extra-sound),
+      );
     }
 
 pair-row : (q : Pair) → Fits q → Row (0xA3 ∷ pairRow q)
@@ -261,7 +230,7 @@ pub records-rows : (m : Model) → soundModel m ≡ true → All Row (records m)
 unfolding records endRow
 records-rows m e =
     let f : SoundModel m = sound-facts m e in
-    let ms : List (List ℕ) = map (λ (x : ℕ × Monitor). 0xA1 ∷ monitorRow x) (m .mons) in
+    let ms : List (List ℕ) = map monitorText (m .mons) in
     let qs : List (List ℕ) = map (λ (q : Pair). 0xA3 ∷ pairRow q) (m .pairs) in
     let n : length (m .mons) ≤ mostMonitors = sound-fits m e .most-mons in
     let z : Row (0xAF ∷ endRow m) =
@@ -275,9 +244,7 @@ records-rows m e =
         octets = octets-cons 0xA0 (headRow m) (omega arith) (sound-headRow m f);
         most = omega (arith, length-headRow m, f .prefix-most);
       },
-      all-append Row ms (qs ++ ((0xAF ∷ endRow m) ∷ [])) (all-map _ (λ (x : ℕ × Monitor). 0xA1 ∷ monitorRow x) (m .mons)
-          (all-and (λ x. (0 ≤ x .0) × (x .0 < mostMonitors)) (λ x. SoundMonitor (x .1)) (m .mons) (f .mons-sound .handles)
-          (f .mons-sound .monitors)) monitor-row)
+      all-append Row ms (qs ++ ((0xAF ∷ endRow m) ∷ [])) (all-map MonitorFits monitorText (m .mons) (sound-fits m e .mons) monitor-row)
           (all-append Row qs ((0xAF ∷ endRow m) ∷ [])
           (all-map Fits (λ (q : Pair). 0xA3 ∷ pairRow q) (m .pairs) (pairs-fit m f) pair-row)
           (z, tt)),

@@ -1,4 +1,4 @@
--- What restore stores of one line, whatever the line holds, in a block of 4,825 octets; and of the lines of a text
+-- What restore stores of one line, whatever the line holds, in a block of 5,225 octets; and of the lines of a text
 -- one after another. Document 01, The image. Nothing is tested here but that each row lies within the block: what was
 -- stored is tested afterwards, by the block's soundness and by saving it again. Assumes nothing.
 use Prim.Native.Nat.{ℕ, suc, _+_, _-_, _*_, _≤_, _<_}
@@ -8,11 +8,12 @@ use mathlib.Core.List.{List, [], _∷_}
 use native.Mathlib.Omega.{arith}
 use borrow.Author.Tests.{lt-ltb, le-ltb, eq-eqb, ne-eqb}
 use lib.Dec.{ltb, eqb}
-use lib.ListN.{length, take, drop, getD, set}
+use lib.ListN.{length, take, drop, getD, replicate, set}
 use Rattle.laws.specs.Tests.{pick}
 use Rattle.laws.specs.Put.{put, set-put, length-put}
+use Rattle.octets.specs.Numbers.{atMost}
 use Rattle.model.specs.Block.{padTo}
-use Rattle.model.specs.Layout.{blockSize, countAt, handleAt, headSize, lineRow, monitorSize, monitorsAt, mostMonitors, mostPairs, pairSize, pairsAt}
+use Rattle.model.specs.Layout.{blockSize, conditionAt, conditionLengthAt, countAt, extraAt, extraSize, handleAt, headSize, lineRow, monitorSize, monitorsAt, mostCondition, mostMonitors, mostPairs, pairSize, pairsAt}
 
 -- A1: the row of its handle, where that is one
 unfoldable pub storedMonitor : List ℕ → List ℕ → List ℕ
@@ -23,12 +24,21 @@ unfoldable pub storedPair : List ℕ → List ℕ → List ℕ
 storedPair s r =
     pick (ltb (getD s countAt 0) mostPairs) (put (put s (pairsAt + pairSize * getD s countAt 0) r) countAt ((getD s countAt 0 + 1) ∷ [])) s
 
--- a line by its name: A0 the head, A1 a monitor, A3 a pair, of every other nothing
+-- A5: the row of its line, what version 2 adds behind the room of the condition
+abbrev pub secondEnd : List ℕ → ℕ
+secondEnd l = 1 + conditionAt + atMost (getD l (1 + conditionLengthAt) 0) mostCondition
+
+unfoldable pub spreadOf : List ℕ → List ℕ
+spreadOf l =
+    put (put (replicate monitorSize 0) 0 (take (secondEnd l - 1) (drop 1 l))) extraAt (take extraSize (drop (secondEnd l) l))
+
+-- a line by its name: A0 the head, A1 and A5 a monitor, A3 a pair, of every other nothing
 unfoldable pub stored : List ℕ → List ℕ → List ℕ
 stored s l =
     pick (eqb (getD l 0 0) 0xA0) (put s 0 (take headSize (drop 1 l))) (
     pick (eqb (getD l 0 0) 0xA1) (storedMonitor s (take monitorSize (drop 1 l))) (
-    pick (eqb (getD l 0 0) 0xA3) (storedPair s (take pairSize (drop 1 l))) s))
+    pick (eqb (getD l 0 0) 0xA5) (storedMonitor s (spreadOf l)) (
+    pick (eqb (getD l 0 0) 0xA3) (storedPair s (take pairSize (drop 1 l))) s)))
 
 -- lines one after another
 unfoldable pub storedAll : List ℕ → List (List ℕ) → List ℕ
@@ -69,17 +79,29 @@ module _ (s l : List ℕ) {t : List ℕ} where
   name-monitor h e =
       rw (ne-eqb (getD l 0 0) 0xA0 (λ (x : getD l 0 0 ≡ 0xA0). omega arith), eq-eqb (getD l 0 0) 0xA1 h) e
 
+  pub name-second : getD l 0 0 ≡ 0xA5 → t ≡ storedMonitor s (spreadOf l) → t ≡ stored s l
+  unfolding stored pick
+  name-second h e =
+      rw (
+        ne-eqb (getD l 0 0) 0xA0 (λ (x : getD l 0 0 ≡ 0xA0). omega arith),
+        ne-eqb (getD l 0 0) 0xA1 (λ (x : getD l 0 0 ≡ 0xA1). omega arith),
+        eq-eqb (getD l 0 0) 0xA5 h,
+      )
+      e
+
   pub name-pair : getD l 0 0 ≡ 0xA3 → t ≡ storedPair s (take pairSize (drop 1 l)) → t ≡ stored s l
   unfolding stored pick
   name-pair h e =
       rw (
         ne-eqb (getD l 0 0) 0xA0 (λ (x : getD l 0 0 ≡ 0xA0). omega arith),
         ne-eqb (getD l 0 0) 0xA1 (λ (x : getD l 0 0 ≡ 0xA1). omega arith),
+        ne-eqb (getD l 0 0) 0xA5 (λ (x : getD l 0 0 ≡ 0xA5). omega arith),
         eq-eqb (getD l 0 0) 0xA3 h,
       )
       e
 
-pub name-other : (s l : List ℕ) → (getD l 0 0 ≡ 0xA0 → ⊥) → (getD l 0 0 ≡ 0xA1 → ⊥) → (getD l 0 0 ≡ 0xA3 → ⊥)
-    → s ≡ stored s l
+pub name-other : (s l : List ℕ) → (getD l 0 0 ≡ 0xA0 → ⊥) → (getD l 0 0 ≡ 0xA1 → ⊥) → (getD l 0 0 ≡ 0xA5 → ⊥)
+    → (getD l 0 0 ≡ 0xA3 → ⊥) → s ≡ stored s l
 unfolding stored pick
-name-other s l a b c = rw (ne-eqb (getD l 0 0) 0xA0 a, ne-eqb (getD l 0 0) 0xA1 b, ne-eqb (getD l 0 0) 0xA3 c)
+name-other s l a b d c =
+    rw (ne-eqb (getD l 0 0) 0xA0 a, ne-eqb (getD l 0 0) 0xA1 b, ne-eqb (getD l 0 0) 0xA5 d, ne-eqb (getD l 0 0) 0xA3 c)

@@ -24,7 +24,7 @@ use Rattle.model.specs.Block.{padTo}
 use Rattle.restore.specs.Lines.{stored, storedAll}
 use Rattle.model.specs.Layout.{lineRow}
 
--- a row with its name that is octets, at most 72
+-- a row with its name that is octets, at most 97
 pub record Row (r : List ℕ) : Type 0 where
   pub octets : every isOctet r ≡ true
   pub most : length r ≤ lineRow

@@ -1,6 +1,6 @@
-// Restore: the state that an image's text holds, read into a block of 4,825 octets (document 01, The image; refusal
-// 10). The lines are stored in one pass, whatever they hold: A0 at the start, A1 in the row of its handle, A3 behind
-// the pairs; the first piece that is no line of at most 72 octets ends it. Then the block is tested: the text is an
+// Restore: the state that an image's text holds, read into a block of 5,225 octets (document 01, The image; refusal
+// 10). The lines are stored in one pass, whatever they hold: A0 at the start, A1 and A5 in the row of their handle, A3
+// behind the pairs; the first piece that is no line of at most 97 octets ends it. Then the block is tested: the text is an
 // image exactly if the block is sound and save writes this text of it.
 use state::State;
 ghost use Prim.Native.Nat.{_+_, _*_, _≤_, _<_};
@@ -18,7 +18,7 @@ ghost use Rattle.model.specs.Types.{Model};
 ghost use Rattle.model.specs.Sound.{soundModel};
 ghost use Rattle.model.specs.Image.{imageText};
 ghost use Rattle.model.specs.Block.{padded};
-ghost use Rattle.restore.specs.Lines.{storedMonitor, storedPair, stored, storedAll};
+ghost use Rattle.restore.specs.Lines.{storedMonitor, storedPair, spreadOf, stored, storedAll};
 ghost use Rattle.restore.specs.Rows.{Row, Placed};
 ghost use Rattle.restore.specs.Accept.{restores, restored, Read};
 ghost use Rattle.model.specs.Layout.{blockSize, lineRow, monitorSize, pairSize};
@@ -33,6 +33,19 @@ fn store_monitor(s: &mut [u8], row: &[u8])
         return;
     }
     parts::copy(s, State::MONITORS_AT + State::MONITOR_ROW * h, row);
+}
+
+// An A5 line as a row, at the place of its handle: what version 2 adds stands behind the room of the condition.
+fn store_second(s: &mut [u8], line: &[u8])
+    requires { ⌜ (length (now s) ≡ blockSize) × (length (now line) ≡ lineRow) ⌝ }
+    ensures { λ _. ⌜ now (s .exit) ≡ storedMonitor (now (s .entry)) (spreadOf (now (line .entry))) ⌝ }
+{
+    let mut row = [0u8; State::MONITOR_ROW];
+    let n = octets::at_most(line[1 + State::CONDITION_LENGTH_AT], State::CONDITION);
+    let end = 1 + State::CONDITION_AT + n;
+    parts::copy(&mut row, 0, &line[1..end]);
+    parts::copy(&mut row, State::OPTIONS_AT, &line[end..end + State::EXTRA]);
+    store_monitor(s, &row);
 }
 
 // An A3 row behind the pairs, and one pair more.
@@ -63,6 +76,10 @@ fn store_line(s: &mut [u8], line: &[u8])
         store_monitor(s, &line[1..State::LINE_ROW]);
         return;
     }
+    if name == 0xA5 {
+        store_second(s, line);
+        return;
+    }
     if name == 0xA3 {
         store_pair(s, &line[1..State::PAIR_LINE]);
         return;
@@ -70,7 +87,7 @@ fn store_line(s: &mut [u8], line: &[u8])
 }
 
 // The line at an index, read in one pass and stored: the answer is the index behind it, or the index itself where no
-// line of at most 72 octets stands there.
+// line of at most 97 octets stands there.
 fn store_text(s: &mut [u8], text: &[u8], at: usize) -> usize
     requires { ⌜ (length (now s) ≡ blockSize) × (at ≤ length (now text)) ⌝ }
     ensures { λ r. ⌜ Placed (now (text .entry)) at (now (s .entry)) (now (s .exit)) r ⌝ }
@@ -137,7 +154,7 @@ fn take_image(text: &[u8], s: &mut [u8]) -> bool
     false
 }
 
-// Restores an image into s: the answer is whether s has 4,825 octets and the text is an image of a sound state. Where it
+// Restores an image into s: the answer is whether s has 5,225 octets and the text is an image of a sound state. Where it
 // is, s is then the block of the state that the text holds; where the text is refused, the blank state's. A block of
 // another length stays as it is.
 pub fn read_image(text: &[u8], s: &mut [u8]) -> bool

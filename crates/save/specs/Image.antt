@@ -1,7 +1,7 @@
 -- Of the block of a sound state save writes the image's text. Document 01, The image. Assumes nothing.
 use Prim.Native.Nat.{ℕ, zero, suc, _+_, _-_, _≤_, _<_}
 use mathlib.Core.Path.{_≡_, refl, sym, ap, _∙_}
-use mathlib.Core.Bool.{true, false}
+use mathlib.Core.Bool.{Bool, true, false}
 use mathlib.Core.List.{List, [], _∷_, _++_, append-assoc, append-nil, map}
 use mathlib.Core.Option.{Option, none, some}
 use native.Mathlib.Nat.{add-zero}
@@ -23,20 +23,22 @@ use Rattle.rule.specs.Finds.{find-above}
 use Rattle.sessions.specs.Machine.{saveRoom}
 use Rattle.model.specs.Types.{Model, Monitor, Pair}
 use Rattle.model.specs.Sound.{soundModel}
-use Rattle.model.specs.Image.{headRow, monitorRow, pairRow, endRow, records, imageText, pairIn}
-use Rattle.model.specs.Block.{padTo, monitorPlace, padded, inUse}
+use Rattle.model.specs.Image.{headRow, monitorRow, extraText, nameOf, monitorText as recordOf, pairRow, endRow, records}
+use Rattle.model.specs.Image.{imageText, extraIn, pairIn}
+use Rattle.model.specs.Block.{padTo, extraRow, monitorPlace, padded, inUse}
 use Rattle.blocks.specs.Rows.{length-headRow, length-monitorRow, length-pairRow, getD-past}
 use Rattle.blocks.specs.Facts.{SoundMonitor, SoundMonitors, SoundModel}
 use Rattle.blocks.specs.Facts.{sound-facts, monitors-tail, monitors-from, monitors-over}
 use Rattle.blocks.specs.Bounds.{Fits}
 use Rattle.blocks.specs.Tables.{from, places-same}
-use Rattle.blocks.specs.Monitors.{inUse-none, inUse-some}
+use Rattle.blocks.specs.Added.{addedIn, added-at}
+use Rattle.blocks.specs.Monitors.{sound-sized, monitor-extra, drop-fields, inUse-none, inUse-some}
 use Rattle.blocks.specs.Block.{Measured, measured, padded-head, behind}
 use Rattle.blocks.specs.Block.{read-count, row-monitors, row-pairs, getD-count, padded-length}
 use Rattle.octets.specs.Numbers.{atMost, at-is}
-use Rattle.save.specs.Text.{headText, monitorText, pairText, endText, monitorAt, pairAt, liveBelow}
+use Rattle.save.specs.Text.{headText, lineOf, monitorText, pairText, endText, monitorAt, pairAt, liveBelow}
 use Rattle.save.specs.Text.{monitorsText, pairsText, pairsIn, savedText, saves}
-use Rattle.model.specs.Layout.{blockSize, conditionLengthAt, dataAt, lengthAt, monitorSize, mostCondition, mostData, mostMonitors, mostPairs, mostPrefix, pairSize}
+use Rattle.model.specs.Layout.{blockSize, conditionLengthAt, dataAt, extraAt, lengthAt, mostCondition, mostData, mostMonitors, mostPairs, mostPrefix, pairSize}
 
 at-most-is : (v n : ℕ) → v ≤ n → atMost v n ≡ v
 at-most-is v n h = sym (at-is v n h)
@@ -63,16 +65,36 @@ place-count h n = refl
 place-row : (h : ℕ) (n : Monitor) → take (7 + length (n .condition)) (monitorPlace h (some n)) ≡ monitorRow (h, n)
 unfolding monitorPlace padTo
 place-row h n =
-    take-at (monitorRow (h, n)) (replicate (monitorSize - length (monitorRow (h, n))) 0) (7 + length (n .condition))
+    ap (take (7 + length (n .condition))) (append-assoc (monitorRow (h, n)) _ (extraRow (n .extra)))
+    ∙ take-at (monitorRow (h, n)) (replicate (extraAt - length (monitorRow (h, n))) 0 ++ extraRow (n .extra)) (7 + length (n .condition))
     (length-monitorRow (h, n))
 
+-- the version's name, and what it adds, by what stands behind the room of the condition
+versioned : (o : Option (List ℕ)) (r : List ℕ) → extraIn (extraRow o) ≡ o
+    → pick (eqb (getD (extraRow o) 0 0) 0) (0xA1 ∷ r) (0xA5 ∷ (r ++ extraRow o)) ≡ nameOf o ∷ (r ++ extraText o)
+unfolding extraIn extraRow extraText nameOf pick
+versioned none r e = ap (λ (x : List ℕ). 0xA1 ∷ x) (sym (append-nil r))
+versioned (some l) r e = go (eqb (getD l 0 0) 0) e
+  where
+    go : (t : Bool) → pick t none (some l) ≡ some l → pick t (0xA1 ∷ r) (0xA5 ∷ (r ++ l)) ≡ 0xA5 ∷ (r ++ l)
+    go true q = absurd (Rattle.rule.specs.Base.none≢some q)
+    go false q = refl
+
+place-added : (h : ℕ) (n : Monitor) → SoundMonitor n → addedIn (monitorPlace h (some n)) ≡ extraRow (n .extra)
+unfolding monitorPlace
+place-added h n f = drop-fields h n (sound-sized n f)
+
 place-some : (h : ℕ) (n : Monitor) → SoundMonitor n
-    → monitorText (monitorPlace h (some n)) ≡ textOf (0xA1 ∷ monitorRow (h, n))
-unfolding monitorText
+    → monitorText (monitorPlace h (some n)) ≡ textOf (recordOf (h, n))
+unfolding monitorText lineOf recordOf
 place-some h n f =
+    let r : List ℕ = monitorPlace h (some n) in
     let k : length (n .condition) ≤ mostCondition = Rattle.model.specs.Accepted.accepted n (f .accept) .short in
+    let a : addedIn r ≡ extraRow (n .extra) = place-added h n f in
+    let o : getD r extraAt 0 ≡ getD (extraRow (n .extra)) 0 0 = sym (added-at r 0 (omega arith)) ∙ ap (λ (x : List ℕ). getD x 0 0) a in
     when-true _ (inUse-some h n f)
-    ∙ rw (place-count h n, at-most-is (length (n .condition)) mostCondition k, place-row h n)
+    ∙ rw (place-count h n, at-most-is (length (n .condition)) mostCondition k, place-row h n, o, a)
+    (ap textOf (versioned (n .extra) (monitorRow (h, n)) (monitor-extra n (f .accept))))
 
 -- what is written place by place, handle by handle, is what is written monitor by monitor
 
@@ -151,7 +173,7 @@ module _ (m : Model) (e : soundModel m ≡ true) where
   unfolding monitorAt
   monitor-at h b = row-monitors m (measured m e) h b
 
-  monitors-image : monitorsText (padded m) mostMonitors ≡ each textOf (map (λ (x : ℕ × Monitor). 0xA1 ∷ monitorRow x) (m .mons))
+  monitors-image : monitorsText (padded m) mostMonitors ≡ each textOf (map recordOf (m .mons))
   unfolding monitorsText
   monitors-image =
       let f : SoundModel m = sound-facts m e in
@@ -159,8 +181,8 @@ module _ (m : Model) (e : soundModel m ≡ true) where
       (λ h b. ap monitorText (monitor-at h b))
       ∙ places-each (λ h o. monitorText (monitorPlace h o)) place-none (m .mons) (f .mons-sound)
       ∙ each-same (λ (x : ℕ × Monitor). SoundMonitor (x .1)) (λ x. monitorText (monitorPlace (x .0) (some (x .1))))
-      (λ x. textOf (0xA1 ∷ monitorRow x)) (m .mons) (f .mons-sound .monitors) (λ x g. place-some (x .0) (x .1) g)
-      ∙ sym (each-map textOf (λ (x : ℕ × Monitor). 0xA1 ∷ monitorRow x) (m .mons))
+      (λ x. textOf (recordOf x)) (m .mons) (f .mons-sound .monitors) (λ x g. place-some (x .0) (x .1) g)
+      ∙ sym (each-map textOf recordOf (m .mons))
 
   count-none : (h : ℕ) → only (inUse (monitorPlace h none)) h ≡ []
   unfolding only
@@ -239,7 +261,7 @@ pub saved-image : (m : Model) → soundModel m ≡ true → savedText (padded m)
 unfolding savedText imageText records each endText endRow
 saved-image m e =
     let f : Measured m = measured m e in
-    let ms : List (List ℕ) = map (λ (x : ℕ × Monitor). 0xA1 ∷ monitorRow x) (m .mons) in
+    let ms : List (List ℕ) = map recordOf (m .mons) in
     let qs : List (List ℕ) = map (λ (q : Pair). 0xA3 ∷ pairRow q) (m .pairs) in
     let z : List ℕ = 0xAF ∷ endRow m in
     rw (

@@ -1,28 +1,29 @@
 -- Steps of the code that writes the lines of a block, each a law that ends in what a function or a turn of a loop owes.
 -- Document 01, The image. Assumes nothing.
-use Prim.Native.Nat.{ℕ, _+_, _-_, _*_, _/_, _%_, _≤_, _<_}
+use Prim.Native.Nat.{ℕ, _+_, _-_, _*_, _≤_, _<_}
 use mathlib.Core.Path.{_≡_, refl, sym, ap, _∙_}
 use mathlib.Core.Bool.{Bool, true, false, not}
-use mathlib.Core.List.{List, [], _∷_, _++_}
+use mathlib.Core.List.{List, [], _∷_, _++_, append-assoc}
 use native.Mathlib.Nat.{zero-add}
 use native.Mathlib.Omega.{arith}
 use lib.Dec.{leb, eqb}
 use borrow.Author.Tests.{eq-eqb, ne-eqb, le-leb, lt-leb}
-use lib.ListN.{length, take, drop, getD, length-append}
-use lib.Seq.{drop-drop, getD-drop}
-use Rattle.laws.specs.Tests.{pick, and-not-right}
+use lib.ListN.{length, take, drop, getD, length-append, length-take, length-drop}
+use lib.Seq.{length-take-le, drop-drop, getD-drop}
+use Rattle.laws.specs.Tests.{pick, pick-true, pick-false, and-not-right}
 use Rattle.laws.specs.Put.{put, put-put, put-then, put-nil, take-before-put, drop-after-put, length-put}
 use Rattle.laws.specs.Loops.{upTo, upTo-more, only, when, when-true, when-false}
 use Rattle.laws.specs.Rows.{row, getD-row}
-use Rattle.lines.specs.Hex.{lf, digit, hexOf, textOf}
-use Rattle.lines.specs.Texts.{length-text}
+use Rattle.lines.specs.Hex.{lf, hexOf, textOf}
+use Rattle.lines.specs.Texts.{length-hex, hex-append, length-text}
 use Rattle.model.specs.Block.{inUse}
-use Rattle.octets.specs.Numbers.{atMost}
-use Rattle.save.specs.Text.{monitorText, monitorAt, pairAt, pairText}
+use Rattle.blocks.specs.Added.{addedIn}
+use Rattle.octets.specs.Numbers.{atMost, at-most}
+use Rattle.save.specs.Text.{fieldsOf, lineOf, monitorText, monitorAt, pairAt, pairText}
 use Rattle.save.specs.Text.{liveBelow, monitorsText, pairsText, headText, endText}
 use Rattle.save.specs.Text.{savedText, saves, pairsIn}
 use Rattle.sessions.specs.Machine.{saveRoom}
-use Rattle.model.specs.Layout.{blockSize, conditionAt, conditionLengthAt, countAt, dataAt, headSize, intervalAt, lengthAt, monitorSize, monitorsAt, mostCondition, mostData, mostMonitors, mostPairs, mostPrefix, pairSize, pairsAt, prefixLengthAt}
+use Rattle.model.specs.Layout.{blockSize, conditionAt, conditionLengthAt, countAt, dataAt, extraAt, extraSize, headSize, intervalAt, lengthAt, monitorLine, monitorSize, monitorsAt, mostCondition, mostData, mostMonitors, mostPairs, mostPrefix, pairSize, pairsAt, prefixLengthAt}
 
 -- what is put over a shorter part that was put there stands alone
 pub put-again : (xs : List ℕ) (at : ℕ) (ys zs : List ℕ) → at ≤ length xs → length ys ≤ length zs
@@ -39,17 +40,27 @@ put-again xs at ys zs h k =
     ap (λ (l : List ℕ). l ++ zs ++ drop (at + length zs) (put xs at ys)) (take-before-put xs at ys h)
     ∙ ap (λ (l : List ℕ). take at xs ++ zs ++ l) d
 
+-- the text of some octets, and the text of more from that one's LF on
+pub more-put : (xs : List ℕ) (at to : ℕ) (a b : List ℕ) {l m : List ℕ} → to ≡ at + 2 * length a → to + 2 * length b + 1 ≤ length xs
+    → l ≡ put xs at (textOf a) → m ≡ put l to (textOf b) → m ≡ put xs at (textOf (a ++ b))
+unfolding textOf
+more-put xs at to a b e h p q =
+    let ds : List ℕ = hexOf a in
+    let n : length ds ≡ 2 * length a = length-hex a in
+    let j : to ≡ at + length ds = omega arith in
+    let t : length (hexOf b ++ (lf ∷ [])) ≡ 2 * length b + 1 = length-text b in
+    let k : length (put xs at ds) ≡ length xs = length-put xs at ds (omega arith) in
+    let u : hexOf a ++ (hexOf b ++ (lf ∷ [])) ≡ hexOf (a ++ b) ++ (lf ∷ []) =
+    sym (append-assoc (hexOf a) (hexOf b) (lf ∷ [])) ∙ ap (λ (x : List ℕ). x ++ (lf ∷ [])) (sym (hex-append a b)) in
+    q ∙ ap (λ (x : List ℕ). put x to (textOf b)) (p ∙ sym (put-put xs at ds (lf ∷ []) (omega arith)))
+    ∙ ap (λ (i : ℕ). put (put (put xs at ds) (at + length ds) (lf ∷ [])) i (textOf b)) j
+    ∙ put-again (put xs at ds) (at + length ds) (lf ∷ []) (textOf b) (omega arith) (omega arith)
+    ∙ put-put xs at ds (textOf b) (omega arith) ∙ ap (put xs at) u
+
 -- a line: the text of its name, and the text of its row from that one's LF on
 pub line-put : (xs : List ℕ) (at name : ℕ) (r : List ℕ) {l m : List ℕ} → at + 2 * length r + 3 ≤ length xs
     → l ≡ put xs at (textOf (name ∷ [])) → m ≡ put l (at + 2) (textOf r) → m ≡ put xs at (textOf (name ∷ r))
-unfolding textOf hexOf
-line-put xs at name r h p q =
-    let ds : List ℕ = digit (name / 16) ∷ digit (name % 16) ∷ [] in
-    let n : length (hexOf r ++ (lf ∷ [])) ≡ 2 * length r + 1 = length-text r in
-    let k : length (put xs at ds) ≡ length xs = length-put xs at ds (omega arith) in
-    q ∙ ap (λ (x : List ℕ). put x (at + 2) (textOf r)) (p ∙ sym (put-put xs at ds (lf ∷ []) (omega arith)))
-    ∙ put-again (put xs at ds) (at + 2) (lf ∷ []) (textOf r) (omega arith) (omega arith)
-    ∙ put-put xs at ds (textOf r) (omega arith)
+line-put xs at name r h p q = more-put xs at (at + 2) (name ∷ []) r refl (omega arith) p q
 
 pub line-length : (at name : ℕ) (r : List ℕ) → at + 2 * length r + 3 ≡ at + length (textOf (name ∷ r))
 line-length at name r =
@@ -69,6 +80,11 @@ part-pair s i =
     let e : pairsAt + pairSize * i + pairSize - (pairsAt + pairSize * i) ≡ pairSize = omega arith in
     rw (e, drop-drop (pairSize * i) pairsAt s)
 
+-- the text of a row in use
+used-text : (r : List ℕ) → (getD r intervalAt 0 ≡ 0 → ⊥) → monitorText r ≡ textOf (lineOf r)
+unfolding monitorText inUse
+used-text r h = when-true (textOf (lineOf r)) (ap not (ne-eqb (getD r intervalAt 0) 0 h))
+
 -- a line of what is used of a row is the line of the row
 module _ (xs r : List ℕ) (at : ℕ) {n k : ℕ} {l : List ℕ} where
   pub head-put : n ≡ atMost (getD r prefixLengthAt 0) mostPrefix
@@ -87,21 +103,58 @@ module _ (xs r : List ℕ) (at : ℕ) {n k : ℕ} {l : List ℕ} where
   unfolding pairText
   pair-put e p = rw e at p
 
-  pub used-put : (getD r intervalAt 0 ≡ 0 → ⊥) → n ≡ atMost (getD r conditionLengthAt 0) mostCondition
-      → (k ≡ at + length (textOf (0xA1 ∷ take (7 + n) r))) × (l ≡ put xs at (textOf (0xA1 ∷ take (7 + n) r)))
-      → (k ≡ at + length (monitorText r)) × (l ≡ put xs at (monitorText r))
-  unfolding monitorText inUse
-  used-put h e p =
-      let w : when (not (eqb (getD r intervalAt 0) 0)) (textOf (0xA1 ∷ take (conditionAt + atMost (getD r conditionLengthAt 0) mostCondition) r))
-      ≡ textOf (0xA1 ∷ take (conditionAt + atMost (getD r conditionLengthAt 0) mostCondition) r) =
-      when-true _ (ap not (ne-eqb (getD r intervalAt 0) 0 h)) in
-      rw w (rw e at p)
+  module _ (h : getD r intervalAt 0 ≡ 0 → ⊥) (e : n ≡ atMost (getD r conditionLengthAt 0) mostCondition) where
+    -- version 1
+    pub used-put : getD r extraAt 0 ≡ 0
+        → (k ≡ at + length (textOf (0xA1 ∷ take (7 + n) r))) × (l ≡ put xs at (textOf (0xA1 ∷ take (7 + n) r)))
+        → (k ≡ at + length (monitorText r)) × (l ≡ put xs at (monitorText r))
+    unfolding lineOf
+    used-put z p =
+        let w : lineOf r ≡ 0xA1 ∷ fieldsOf r = pick-true (0xA1 ∷ fieldsOf r) _ (eq-eqb (getD r extraAt 0) 0 z) in
+        rw (used-text r h, w) (rw e at p)
+
+    -- version 2: its line's first part, and what is added from the LF on
+    pub second-put : {j : ℕ} {o : List ℕ} → length r ≡ monitorSize → at + monitorLine ≤ length xs → (getD r extraAt 0 ≡ 0 → ⊥)
+        → (j ≡ at + length (textOf (0xA5 ∷ take (7 + n) r))) × (o ≡ put xs at (textOf (0xA5 ∷ take (7 + n) r)))
+        → k ≡ j + 2 * extraSize → l ≡ put o (j - 1) (textOf (take (length r - extraAt) (drop extraAt r)))
+        → (k ≡ at + length (monitorText r)) × (l ≡ put xs at (monitorText r))
+    unfolding lineOf
+    second-put {j} {o} c b z p t q =
+        let f : List ℕ = 0xA5 ∷ fieldsOf r in
+        let w : lineOf r ≡ f ++ addedIn r = pick-false (0xA1 ∷ fieldsOf r) _ (ne-eqb (getD r extraAt 0) 0 z) in
+        let p' = rw e at p in
+        let d : length (drop extraAt r) ≡ length r - extraAt = length-drop extraAt r in
+        let g : take (length r - extraAt) (drop extraAt r) ≡ addedIn r =
+        let i : length r - extraAt ≡ extraSize = omega arith in ap (λ (y : ℕ). take y (drop extraAt r)) i in
+        let m : length (addedIn r) ≡ extraSize = length-take-le extraSize (drop extraAt r) (omega arith) in
+        let x : length (fieldsOf r) ≤ conditionAt + mostCondition = simp length-take (omega (arith, at-most (getD r conditionLengthAt 0) mostCondition)) in
+        let y : length (textOf f) ≡ 2 * length f + 1 = length-text f in
+        let v : length (textOf (f ++ addedIn r)) ≡ 2 * length (f ++ addedIn r) + 1 = length-text (f ++ addedIn r) in
+        let u : length (f ++ addedIn r) ≡ length f + length (addedIn r) = length-append f (addedIn r) in
+        rw (used-text r h, w) (
+          omega (arith, p' .0),
+          more-put xs at (j - 1) f (addedIn r) (omega (arith, p' .0)) (omega (arith, p' .0)) (p' .1) (q ∙ ap (λ (i : List ℕ). put o (j - 1) (textOf i)) g),
+        )
+
+-- the room of version 2's line: behind its first part there is room for the rest
+pub record Room (j len : ℕ) (row : List ℕ) : Type 0 where
+  pub some : 1 ≤ j
+  pub end : j + 2 * extraSize ≤ len
+  pub text : j - 1 + 2 * length (take (length row - extraAt) (drop extraAt row)) + 1 ≤ len
+
+pub second-room : (at n len : ℕ) (row : List ℕ) {j : ℕ} → j ≡ at + length (textOf (0xA5 ∷ take (7 + n) row)) → n ≤ mostCondition
+    → length row ≡ monitorSize → at + monitorLine ≤ len → Room j len row
+second-room at n len row {j} e h c b =
+    let l : at + 2 * length (take (7 + n) row) + 3 ≡ at + length (textOf (0xA5 ∷ take (7 + n) row)) = line-length at 0xA5 (take (7 + n) row) in
+    let t : length (take (7 + n) row) ≤ 7 + n = simp length-take (omega arith) in
+    let d : length (take (length row - extraAt) (drop extraAt row)) ≤ extraSize = simp length-take (omega arith) in
+    record { some = omega arith; end = omega arith; text = omega arith }
 
 pub unused-put : (xs r : List ℕ) (at : ℕ) → getD r intervalAt 0 ≡ 0 → (at ≡ at + length (monitorText r))
     × (xs ≡ put xs at (monitorText r))
 unfolding monitorText inUse
 unused-put xs r at h =
-    let e : when (not (eqb (getD r intervalAt 0) 0)) (textOf (0xA1 ∷ take (conditionAt + atMost (getD r conditionLengthAt 0) mostCondition) r)) ≡ [] =
+    let e : when (not (eqb (getD r intervalAt 0) 0)) (textOf (lineOf r)) ≡ [] =
     when-false _ (ap not (eq-eqb (getD r intervalAt 0) 0 h)) in
     rw e (omega arith, sym (put-nil xs at))
 

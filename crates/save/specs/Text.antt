@@ -1,10 +1,10 @@
--- The text that save writes of a block of 4,825 octets, whatever its octets, line by line. Document 01, The image.
+-- The text that save writes of a block of 5,225 octets, whatever its octets, line by line. Document 01, The image.
 -- Lengths that stand in rows are cut to what the row has, so no octet outside a row is read and the text is never
--- over 9,898 characters. That it is the image's text where the block is that of a sound state is the law of Image.
+-- over 10,698 characters. That it is the image's text where the block is that of a sound state is the law of Image.
 -- Assumes nothing.
 use Prim.Native.Nat.{ℕ, _+_, _*_, _≤_, _<_}
 use mathlib.Core.Path.{_≡_}
-use mathlib.Core.Bool.{Bool, _&&_}
+use mathlib.Core.Bool.{Bool, true, false, _&&_}
 use mathlib.Core.List.{List, [], _∷_, _++_}
 use native.Mathlib.Omega.{arith}
 use borrow.Author.Tests.{le-leb, lt-leb}
@@ -17,17 +17,25 @@ use Rattle.octets.specs.Numbers.{atMost, at-most}
 use Rattle.lines.specs.Hex.{textOf}
 use Rattle.lines.specs.Texts.{length-text}
 use Rattle.model.specs.Block.{inUse}
+use Rattle.blocks.specs.Added.{addedIn}
 use Rattle.model.specs.Layout.{headLine, monitorLine, pairLine}
 use Rattle.sessions.specs.Machine.{saveRoom}
-use Rattle.model.specs.Layout.{blockSize, conditionAt, conditionLengthAt, countAt, dataAt, headSize, lengthAt, monitorSize, monitorsAt, mostCondition, mostData, mostMonitors, mostPairs, mostPrefix, pairSize, pairsAt, prefixAt, prefixLengthAt}
+use Rattle.model.specs.Layout.{blockSize, conditionAt, conditionLengthAt, countAt, dataAt, extraAt, extraSize, headSize, lengthAt, monitorSize, monitorsAt, mostCondition, mostData, mostMonitors, mostPairs, mostPrefix, pairSize, pairsAt, prefixAt, prefixLengthAt}
 
 -- "A0 line: position (4), filter, opcode (2), prefix length, prefix", from the start of the block
 unfoldable pub headText : List ℕ → List ℕ
 headText s = textOf (0xA0 ∷ take (prefixAt + atMost (getD s prefixLengthAt 0) mostPrefix) s)
 
--- "A1 per monitor": the line of a monitor row in use, nothing of one that is not
+-- "A1 per monitor"; T-13: an A5 line, with what version 2 adds, where Monitor_options is not 0
+abbrev pub fieldsOf : List ℕ → List ℕ
+fieldsOf r = take (conditionAt + atMost (getD r conditionLengthAt 0) mostCondition) r
+
+unfoldable pub lineOf : List ℕ → List ℕ
+lineOf r = pick (eqb (getD r extraAt 0) 0) (0xA1 ∷ fieldsOf r) (0xA5 ∷ (fieldsOf r ++ addedIn r))
+
+-- the line of a monitor row in use, nothing of one that is not
 unfoldable pub monitorText : List ℕ → List ℕ
-monitorText r = when (inUse r) (textOf (0xA1 ∷ take (conditionAt + atMost (getD r conditionLengthAt 0) mostCondition) r))
+monitorText r = when (inUse r) (textOf (lineOf r))
 
 -- "A3 per pair": the line of a pair row
 unfoldable pub pairText : List ℕ → List ℕ
@@ -64,7 +72,7 @@ unfoldable pub savedText : List ℕ → List ℕ
 savedText s =
     headText s ++ monitorsText s mostMonitors ++ pairsText s (pairsIn s) ++ endText (length (liveBelow s mostMonitors)) (pairsIn s)
 
--- whether save writes: the block has its size, and 9,898 octets are lent
+-- whether save writes: the block has its size, and 10,698 octets are lent
 unfoldable pub saves : List ℕ → ℕ → Bool
 saves s room = eqb (length s) blockSize && leb saveRoom room
 
@@ -82,13 +90,25 @@ unfolding headText
 length-headText s =
     length-line 0xA0 headSize (prefixAt + atMost (getD s prefixLengthAt 0) mostPrefix) s (omega (arith, at-most (getD s prefixLengthAt 0) mostPrefix))
 
+length-lineOf : (r : List ℕ) → length (lineOf r) ≤ 1 + (conditionAt + mostCondition + extraSize)
+unfolding lineOf pick
+length-lineOf r = go (eqb (getD r extraAt 0) 0)
+  where
+    f : length (fieldsOf r) ≤ conditionAt + mostCondition
+    f = simp length-take (omega (arith, at-most (getD r conditionLengthAt 0) mostCondition))
+
+    a : length (addedIn r) ≤ extraSize
+    a = simp length-take (omega arith)
+
+    go : (t : Bool) → length (pick t (0xA1 ∷ fieldsOf r) (0xA5 ∷ (fieldsOf r ++ addedIn r))) ≤ 1 + (conditionAt + mostCondition + extraSize)
+    go true = omega (arith, f)
+    go false = omega (arith, f, a, length-append (fieldsOf r) (addedIn r))
+
 pub length-monitorText : (r : List ℕ) → length (monitorText r) ≤ monitorLine
 unfolding monitorText
 length-monitorText r =
-    let l = textOf (0xA1 ∷ take (conditionAt + atMost (getD r conditionLengthAt 0) mostCondition) r) in
-    let n : length l ≤ monitorLine = length-line 0xA1 (conditionAt + mostCondition) (conditionAt + atMost (getD r conditionLengthAt 0) mostCondition) r
-    (omega (arith, at-most (getD r conditionLengthAt 0) mostCondition)) in
-    omega (arith, length-when (inUse r) l)
+    let n : length (textOf (lineOf r)) ≡ 2 * length (lineOf r) + 1 = length-text (lineOf r) in
+    omega (arith, length-lineOf r, length-when (inUse r) (textOf (lineOf r)))
 
 pub length-pairText : (r : List ℕ) → length (pairText r) ≤ pairLine
 unfolding pairText
@@ -117,7 +137,7 @@ pub pairs-most : (s : List ℕ) → pairsIn s ≤ mostPairs
 unfolding pairsIn
 pairs-most s = at-most (getD s countAt 0) mostPairs
 
--- "image 9,898": no block has a longer text
+-- "image 10,698": no block has a longer text
 pub length-savedText : (s : List ℕ) → length (savedText s) ≤ saveRoom
 unfolding savedText
 length-savedText s =

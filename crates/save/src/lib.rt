@@ -1,6 +1,6 @@
-// Save: the image's text of the state in a block of 4,825 octets (document 01, The image). The rows of the block are
-// the lines before hexadecimal: A0 from its start, A1 of each monitor row in use by handle, A3 of each pair held in
-// start order, AF with their numbers. Lengths that stand in rows are cut to what the row has, so any block whatever
+// Save: the image's text of the state in a block of 5,225 octets (document 01, The image). The rows of the block are
+// the lines before hexadecimal: A0 from its start, A1 or A5 of each monitor row in use by handle, A3 of each pair held
+// in start order, AF with their numbers. Lengths that stand in rows are cut to what the row has, so any block whatever
 // can be given.
 use state::State;
 ghost use Prim.Native.Nat.{_+_, _*_, _≤_, _<_};
@@ -42,6 +42,8 @@ fn put_head(s: &[u8], out: &mut [u8]) -> usize
     put_line(out, 0, 0xA0, &s[..end])
 }
 
+// A monitor's line: A1, or A5 with what version 2 adds. That stands behind the room of the condition, and its text takes
+// the place of the LF of what comes before.
 fn put_monitor(out: &mut [u8], at: usize, row: &[u8]) -> usize
     requires { ⌜ (length (now row) ≡ monitorSize) × (at + monitorLine ≤ length (now out)) ⌝ }
     ensures { λ r. ⌜ (r ≡ at + length (monitorText (now (row .entry)))) × (now (out .exit) ≡ put (now (out .entry)) at (monitorText (now (row .entry)))) ⌝ }
@@ -51,7 +53,12 @@ fn put_monitor(out: &mut [u8], at: usize, row: &[u8]) -> usize
     }
     let n = octets::at_most(row[State::CONDITION_LENGTH_AT], State::CONDITION);
     let end = State::CONDITION_AT + n;
-    put_line(out, at, 0xA1, &row[..end])
+    if row[State::OPTIONS_AT] == 0 {
+        return put_line(out, at, 0xA1, &row[..end]);
+    }
+    let next = put_line(out, at, 0xA5, &row[..end]);
+    lines::put_text(out, next - 1, &row[State::OPTIONS_AT..]);
+    next + 2 * State::EXTRA
 }
 
 fn put_monitors(s: &[u8], out: &mut [u8], at: usize) -> usize
@@ -138,8 +145,8 @@ fn put_image(s: &[u8], out: &mut [u8]) -> usize
     put_end(out, c, u, n)
 }
 
-// The image's text of the state in s, written from the start of out; its length. Where s is not 4,825 octets or out
-// is under 9,898, nothing is written and the answer is 0. Of the block of a sound state that is its image; of any
+// The image's text of the state in s, written from the start of out; its length. Where s is not 5,225 octets or out
+// is under 10,698, nothing is written and the answer is 0. Of the block of a sound state that is its image; of any
 // other block it is savedText, the lines of what stands in its rows.
 pub fn save_image(s: &[u8], out: &mut [u8]) -> usize
     ensures { λ r. ⌜ (r ≡ pick (saves (now (s .entry)) (length (now (out .entry)))) (length (savedText (now (s .entry)))) 0) × (now (out .exit) ≡ putIf (saves (now (s .entry)) (length (now (out .entry)))) (now (out .entry)) 0 (savedText (now (s .entry)))) ⌝ }

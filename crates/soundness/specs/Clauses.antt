@@ -2,7 +2,7 @@
 -- or 1; monitors held in rising handle order .. every unused octet and place of the state 0; pairs distinct, at most
 -- 64, of live handles ..").
 use Prim.Native.Nat.{ℕ, _+_, _-_, _*_}
-use mathlib.Core.Bool.{Bool, _&&_, not}
+use mathlib.Core.Bool.{Bool, true, _&&_, not}
 use mathlib.Core.List.{List}
 use mathlib.Core.Option.{Option, none, some}
 use lib.Dec.{leb, ltb, eqb}
@@ -17,7 +17,7 @@ use Rattle.model.specs.Image.{monitorIn, pairIn}
 use Rattle.model.specs.Monitors.{accepts}
 use Rattle.model.specs.Sound.{soundOf}
 use Rattle.soundness.specs.Below.{allBelow}
-use Rattle.model.specs.Layout.{blockSize, conditionAt, conditionLengthAt, countAt, dataAt, filterAt, handleAt, headSize, intervalAt, lengthAt, monitorSize, monitorsAt, mostCondition, mostData, mostMonitors, mostPairs, mostPrefix, opcodeAt, pairSize, pairsAt, positionAt, prefixAt, prefixLengthAt, samplingAt, typeAt}
+use Rattle.model.specs.Layout.{blockSize, conditionAt, conditionLengthAt, countAt, dataAt, extraAt, filterAt, handleAt, headSize, intervalAt, lengthAt, monitorSize, monitorsAt, mostCondition, mostData, mostMonitors, mostPairs, mostPrefix, opcodeAt, pairSize, pairsAt, positionAt, prefixAt, prefixLengthAt, samplingAt, typeAt}
 
 -- the monitor row of a handle, the pair row at a place
 unfoldable pub monitorRowAt : List ℕ → ℕ → List ℕ
@@ -36,10 +36,15 @@ headTest r =
 unfoldable pub monitorOfRow : List ℕ → Option Monitor
 monitorOfRow r = pick (eqb (getD r intervalAt 0) 0) none (some (monitorIn r .1))
 
--- a row in use: its handle is its place, "every monitor as 0x03 would accept it", the octets behind the condition 0
+-- a row without what version 2 adds has zeros there
+unfoldable pub bareTest : List ℕ → Bool
+bareTest r = pick (eqb (getD r extraAt 0) 0) (every isZero (drop extraAt r)) true
+
+-- a row in use: its handle is its place, "every monitor as 0x03 would accept it" (or 0x0F), the octets behind the condition 0
 unfoldable pub heldTest : ℕ → List ℕ → Bool
 heldTest h r =
-    eqb (getD r handleAt 0) h && leb (getD r conditionLengthAt 0) mostCondition && every isZero (drop (conditionAt + getD r conditionLengthAt 0) r) && accepts (monitorIn r .1)
+    eqb (getD r handleAt 0) h && leb (getD r conditionLengthAt 0) mostCondition
+    && every isZero (drop (conditionAt + getD r conditionLengthAt 0) (take extraAt r)) && bareTest r && accepts (monitorIn r .1)
 
 unfoldable pub monitorTest : ℕ → List ℕ → Bool
 monitorTest h r = pick (eqb (getD r intervalAt 0) 0) (every isZero r) (heldTest h r)

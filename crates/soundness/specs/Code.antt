@@ -19,13 +19,14 @@ use Rattle.model.specs.Types.{ticksOf}
 use Rattle.model.specs.Level.{raised, inRange, sumInRange}
 use Rattle.model.specs.Levels.{sum-levels}
 use Rattle.model.specs.Image.{monitorIn}
-use Rattle.model.specs.Monitors.{accepts, settingsGood}
+use Rattle.model.specs.Monitors.{accepts, allowed, settingsGood}
 use Rattle.advert.specs.Condition.{formOf, formStatus}
 use Rattle.soundness.specs.Below.{allBelow, below-more, below-fails}
-use Rattle.soundness.specs.Clauses.{monitorRowAt, headTest, heldTest, monitorTest}
+use Rattle.blocks.specs.Added.{addedIn}
+use Rattle.soundness.specs.Clauses.{monitorRowAt, headTest, bareTest, heldTest, monitorTest}
 use Rattle.soundness.specs.Clauses.{monitorsTest}
-use Rattle.soundness.specs.Fields.{windowTest, emptyTest, fieldsTest, accepts-tests}
-use Rattle.model.specs.Layout.{blockSize, conditionAt, conditionLengthAt, dataAt, eventAt, filterAt, headSize, highAt, intervalAt, lengthAt, lowAt, monitorSize, monitorsAt, mostCondition, mostData, mostMonitors, mostPrefix, opcodeAt, packetsAt, pairSize, prefixAt, prefixLengthAt, rssiAt, sumAt, ticksAt, typeAt}
+use Rattle.soundness.specs.Fields.{windowTest, emptyTest, fieldsTest, addedTest, formTest, row-accepts}
+use Rattle.model.specs.Layout.{blockSize, conditionAt, conditionLengthAt, dataAt, eventAt, extraAt, extraSize, filterAt, headSize, highAt, intervalAt, lengthAt, lowAt, monitorSize, monitorsAt, mostCondition, mostData, mostMonitors, mostPrefix, opcodeAt, packetsAt, pairSize, prefixAt, prefixLengthAt, rssiAt, samplingAt, sumAt, ticksAt, typeAt}
 
 -- parts of a slice: the rest, and a part before an end
 pub rest-of : {A : Type 0} (a : ℕ) (l : List A) → take (length l - a) (drop a l) ≡ drop a l
@@ -71,37 +72,62 @@ above-range sum packets h b =
     (λ j. and-not-right low most (lt-leb r (20 * packets + 9223372036854775808) (omega arith)))
     (λ j. and-not-left low most (lt-leb 9223372036854775808 (r + 127 * packets) j))))
 
--- a monitor that passes
-pub row-accepts : (r : List ℕ) (n : ℕ) {b g : Bool} → length r ≡ monitorSize → n ≡ getD r conditionLengthAt 0 → n ≤ mostCondition
+-- a monitor whose settings and condition pass
+pub row-formed : (r : List ℕ) (n : ℕ) {b g : Bool} → n ≡ getD r conditionLengthAt 0
     → b ≡ settingsGood (getD r highAt 0) (getD r lowAt 0) (getD r intervalAt 0)
-    → g ≡ eqb (formStatus (formOf (getD r typeAt 0) (take (7 + n - 7) (drop conditionAt r)))) 0 → (b && g) ≡ accepts (monitorIn r .1)
-unfolding monitorIn
-row-accepts r n l e h p q =
-    let k : 7 + n - 7 ≡ getD r conditionLengthAt 0 = omega arith in
-    let c : length (take (getD r conditionLengthAt 0) (drop conditionAt r)) ≤ mostCondition = rw (length-take (getD r conditionLengthAt 0) (drop conditionAt r)) (omega arith) in
-    rw (p, q, k) (sym (accepts-tests (monitorIn r .1) c))
+    → g ≡ eqb (formStatus (formOf (getD r typeAt 0) (take (7 + n - 7) (drop conditionAt r)))) 0 → (b && g) ≡ formTest r
+unfolding formTest
+row-formed r n e p q = let k : 7 + n - 7 ≡ getD r conditionLengthAt 0 = omega arith in rw (p, q, k) refl
+
+-- what version 2 adds: nothing, or what its tables allow
+module _ (r : List ℕ) (l : length r ≡ monitorSize) where
+  rest-added : take (length r - extraAt) (drop extraAt r) ≡ addedIn r
+  rest-added = let k : length r - extraAt ≡ extraSize = omega arith in ap (λ (j : ℕ). take j (drop extraAt r)) k
+
+  pub added-none : {b : Bool} → getD r extraAt 0 ≡ 0 → b ≡ every isZero (take (length r - extraAt) (drop extraAt r))
+      → b ≡ addedTest r
+  unfolding addedTest
+  added-none e q =
+      q ∙ ap (every isZero) (rest-of extraAt r) ∙ sym (pick-true (every isZero (drop extraAt r)) _ (eq-eqb (getD r extraAt 0) 0 e))
+
+  pub added-some : {b : Bool} → (getD r extraAt 0 ≡ 0 → ⊥)
+      → b ≡ (eqb (length (take (length r - extraAt) (drop extraAt r))) extraSize
+      && allowed (take (length r - extraAt) (drop extraAt r)) (getD r samplingAt 0) (getD r typeAt 0))
+      → b ≡ addedTest r
+  unfolding addedTest
+  added-some e q =
+      let d : length (drop extraAt r) ≡ length r - extraAt = length-drop extraAt r in
+      let n : length (addedIn r) ≡ extraSize = length-take-le extraSize (drop extraAt r) (omega arith) in
+      q ∙ rw (rest-added, n) refl ∙ sym (pick-false (every isZero (drop extraAt r)) _ (ne-eqb (getD r extraAt 0) 0 e))
 
 -- a monitor row in use
 module _ (h : ℕ) (r : List ℕ) where
   pub held-long : mostCondition < getD r conditionLengthAt 0 → false ≡ heldTest h r
   unfolding heldTest
-  held-long b =
-      sym (and-not-left (eqb (getD r 0 0) h && leb (getD r conditionLengthAt 0) mostCondition && every isZero (drop (conditionAt + getD r conditionLengthAt 0) r))
-      (accepts (monitorIn r .1))
-      (and-not-left (eqb (getD r 0 0) h && leb (getD r conditionLengthAt 0) mostCondition) (every isZero (drop (conditionAt + getD r conditionLengthAt 0) r))
-      (and-not-right (eqb (getD r 0 0) h) (leb (getD r conditionLengthAt 0) mostCondition) (lt-leb (getD r conditionLengthAt 0) mostCondition b))))
-
-  pub held-short : (n k : ℕ) {z a : Bool} → k ≡ getD r 0 0 → n ≡ getD r conditionLengthAt 0 → n ≤ mostCondition
-      → z ≡ every isZero (take (length r - (7 + n)) (drop (7 + n) r)) → a ≡ accepts (monitorIn r .1)
-      → (eqb k h && z && a) ≡ heldTest h r
-  unfolding heldTest
-  held-short n k i e b p q =
-      rw (p, q, i, rest-of (7 + n) r, e, le-leb (getD r conditionLengthAt 0) mostCondition (rw (← e) b))
-      (go (eqb (getD r 0 0) h) (every isZero (drop (conditionAt + getD r conditionLengthAt 0) r)) (accepts (monitorIn r .1)))
+  held-long b = rw (lt-leb (getD r conditionLengthAt 0) mostCondition b) (sym (go (eqb (getD r 0 0) h)))
     where
-      go : (x y w : Bool) → (x && y && w) ≡ (x && true && y && w)
-      go true y w = refl
-      go false y w = refl
+      go : (x : Bool) → (x && false && every isZero (drop (conditionAt + getD r conditionLengthAt 0) (take extraAt r)) && bareTest r
+          && accepts (monitorIn r .1)) ≡ false
+      go true = refl
+      go false = refl
+
+  pub held-short : (n k : ℕ) {z d a : Bool} → length r ≡ monitorSize → k ≡ getD r 0 0 → n ≡ getD r conditionLengthAt 0 → n ≤ mostCondition
+      → z ≡ every isZero (take (extraAt - (7 + n)) (drop (7 + n) r)) → d ≡ addedTest r → a ≡ formTest r
+      → (eqb k h && z && d && a) ≡ heldTest h r
+  unfolding heldTest
+  held-short n k {z} {d} {a} l i e b p q f =
+      let u : every isZero (take (extraAt - (7 + n)) (drop (7 + n) r))
+      ≡ every isZero (drop (conditionAt + getD r conditionLengthAt 0) (take extraAt r)) =
+      ap (every isZero) (part-of (7 + n) extraAt r (omega arith) (omega arith)) ∙ rw e refl in
+      let v : (d && a) ≡ (bareTest r && accepts (monitorIn r .1)) = rw (q, f) (row-accepts r l (omega arith)) in
+      rw (p ∙ u, i, le-leb (getD r conditionLengthAt 0) mostCondition (rw (← e) b))
+      (go (eqb (getD r 0 0) h) (every isZero (drop (conditionAt + getD r conditionLengthAt 0) (take extraAt r))) d a (bareTest r)
+      (accepts (monitorIn r .1)) v)
+    where
+      go : (x y d a w s : Bool) → (d && a) ≡ (w && s) → (x && y && d && a) ≡ (x && true && y && w && s)
+      go true true d a w s e = e
+      go true false d a w s e = refl
+      go false y d a w s e = refl
 
   pub monitor-empty : {b : Bool} → getD r intervalAt 0 ≡ 0 → b ≡ every isZero r → b ≡ monitorTest h r
   unfolding monitorTest
@@ -183,17 +209,17 @@ module _ (position sampling ticks packets sum : ℕ) where
   window-idle e = rw e
 
 -- a pair's row by its numbers
-module _ (position interval sampling : ℕ) (r : List ℕ) where
-  pub fields-long : mostData < getD r lengthAt 0 → false ≡ fieldsTest position interval sampling r
+module _ (position interval sampling : ℕ) (sifting : Bool) (r : List ℕ) where
+  pub fields-long : mostData < getD r lengthAt 0 → false ≡ fieldsTest position interval sampling sifting r
   unfolding fieldsTest
   fields-long h = rw (lt-leb (getD r lengthAt 0) mostData h)
 
   pub fields-short : (n : ℕ) {z w e i : Bool} {v t p u : ℕ} → length r ≡ pairSize → n ≡ getD r lengthAt 0 → n ≤ mostData
       → z ≡ every isZero (take (length r - (dataAt + n)) (drop (dataAt + n) r))
       → v ≡ numberAt 2 r 8 → t ≡ ticksOf interval → p ≡ numberAt 4 r packetsAt → u ≡ numberAt 8 r sumAt
-      → w ≡ windowTest position sampling (getD r ticksAt 0) p u → e ≡ emptyTest p u (getD r eventAt 0) (getD r lengthAt 0)
+      → w ≡ windowTest position sampling (getD r ticksAt 0) p u → e ≡ emptyTest sifting p u (getD r eventAt 0) (getD r lengthAt 0)
       → i ≡ inRange (getD r rssiAt 0)
-      → (leb (getD r highAt 0) 1 && leb (getD r eventAt 0) 3 && i && ltb v t && w && e && z) ≡ fieldsTest position interval sampling r
+      → (leb (getD r highAt 0) 1 && i && ltb v t && w && e && z) ≡ fieldsTest position interval sampling sifting r
   unfolding fieldsTest
   fields-short n {z} {w} {e} {i} {v} {t} {p} {u} l k b dz dv dt dp du dw de di =
       let ev : v ≡ little 2 r 8 = number-of 2 r 8 dv (omega arith) in

@@ -1,9 +1,10 @@
 -- What the functions over the pairs and the whole block owe, as laws over plain values. Assumes nothing.
-use Prim.Native.Nat.{ℕ, _+_, _-_, _*_, _≤_, _<_}
+use Prim.Native.Nat.{ℕ, _+_, _-_, _*_, _/_, _%_, _≤_, _<_}
 use mathlib.Core.Path.{_≡_, sym, ap, _∙_}
 use mathlib.Core.Bool.{Bool, true, false, _&&_, not}
 use mathlib.Core.List.{List}
 use mathlib.Core.Option.{Option, none, some}
+use native.Mathlib.Nat.{div-one}
 use native.Mathlib.Omega.{arith}
 use lib.Dec.{eqb}
 use lib.ListN.{length, take, drop, getD}
@@ -16,9 +17,11 @@ use Rattle.octets.specs.Little.{little}
 use Rattle.octets.specs.Numbers.{numberAt, number-of}
 use Rattle.parts.specs.Parts.{isZero}
 use Rattle.model.specs.Types.{Monitor}
-use Rattle.model.specs.Image.{monitorIn}
+use Rattle.model.specs.Monitors.{bit, sifts, siftsBy}
+use Rattle.model.specs.Image.{monitorFrom, monitorIn}
 use Rattle.model.specs.Sound.{soundOf}
 use Rattle.model.specs.Block.{sound}
+use Rattle.blocks.specs.Added.{filteringOf, row-filtering}
 use Rattle.state.specs.Start.{octets-known}
 use Rattle.soundness.specs.Below.{allBelow, below-more, below-fails}
 use Rattle.soundness.specs.Clauses.{monitorRowAt, pairRowAt, headTest, monitorOfRow}
@@ -30,7 +33,14 @@ use Rattle.soundness.specs.Fields.{pair-tests}
 use Rattle.soundness.specs.Front.{live-row, live-none}
 use Rattle.soundness.specs.Pairs.{length-pairRowAt, octets-pairRowAt}
 use Rattle.soundness.specs.Same.{sound-block}
-use Rattle.model.specs.Layout.{blockSize, countAt, handleAt, headSize, monitorSize, monitorsAt, mostMonitors, mostPairs, pairSize, pairsAt, positionAt}
+use Rattle.model.specs.Layout.{blockSize, countAt, extraAt, handleAt, headSize, monitorSize, monitorsAt, mostMonitors, mostPairs, pairSize, pairsAt, positionAt}
+
+-- whether a row's monitor filters duplicates
+row-sifts : (r : List ℕ) → sifts (monitorIn r .1) ≡ eqb (filteringOf (getD r extraAt 0) (getD r (extraAt + 1) 0) % 2) 1
+unfolding sifts siftsBy bit
+row-sifts r =
+    let f : ℕ = filteringOf (getD r extraAt 0) (getD r (extraAt + 1) 0) in
+    ap (λ (j : ℕ). eqb (j / 1 % 2) 1) (row-filtering r) ∙ ap (λ (j : ℕ). eqb (j % 2) 1) (div-one f)
 
 -- the pair at a place
 module _ (s : List ℕ) (l : length s ≡ blockSize) (i : ℕ) where
@@ -74,27 +84,33 @@ module _ (s : List ℕ) (l : length s ≡ blockSize) (i : ℕ) where
       ∙ pick-true none (some (monitorIn r .1)) (eq-eqb (getD r 3 0) 0 (field-of h 3 (omega arith) ∙ z)) in
       sym (none-fails (liveAt s (getD (pairRowAt s i) handleAt 0)) n)
 
-  pub pair-live : (h : ℕ) {b : Bool} {p : ℕ} → i < mostPairs → ((k : ℕ) → getD s k 0 < 256) → h ≡ getD s (pairsAt + pairSize * i) 0
+  pub pair-live : (h : ℕ) {b : Bool} {p f : ℕ} → i < mostPairs → ((k : ℕ) → getD s k 0 < 256) → h ≡ getD s (pairsAt + pairSize * i) 0
       → h < mostMonitors
       → (getD s (monitorsAt + monitorSize * h + 3) 0 ≡ 0 → ⊥) → p ≡ numberAt 4 s positionAt
-      → b ≡ fieldsTest p (getD s (monitorsAt + monitorSize * h + 3) 0) (getD s (monitorsAt + monitorSize * h + 4) 0)
+      → f ≡ filteringOf (getD s (monitorsAt + monitorSize * h + extraAt) 0) (getD s (monitorsAt + monitorSize * h + (extraAt + 1)) 0)
+      → b ≡ fieldsTest p (getD s (monitorsAt + monitorSize * h + 3) 0) (getD s (monitorsAt + monitorSize * h + 4) 0) (eqb (f % 2) 1)
       (take (pairsAt + pairSize * i + pairSize - (pairsAt + pairSize * i)) (drop (pairsAt + pairSize * i) s))
       → b ≡ placeTest s i
-  unfolding placeTest monitorOfRow monitorIn
-  pair-live h {b} {p} a o e k z dp q =
+  unfolding placeTest monitorOfRow monitorIn monitorFrom
+  pair-live h {b} {p} {f} a o e k z dp df q =
       let r : List ℕ = monitorRowAt s h in
       let m : Monitor = monitorIn r .1 in
       let ep : p ≡ little 4 s positionAt = number-of 4 s 0 dp (omega arith) in
       let u : getD s (monitorsAt + monitorSize * h + 3) 0 ≡ m .interval = sym (field-of h 3 (omega arith)) in
       let v : getD s (monitorsAt + monitorSize * h + 4) 0 ≡ m .sampling = sym (field-of h 4 (omega arith)) in
+      let w : eqb (f % 2) 1 ≡ sifts m =
+      ap (λ (j : ℕ). eqb (j % 2) 1) (df ∙ ap (λ (j : ℕ). filteringOf j (getD s (monitorsAt + monitorSize * h + (extraAt + 1)) 0))
+      (sym (field-of h extraAt (omega arith))) ∙ ap (filteringOf (getD r extraAt 0)) (sym (field-of h (extraAt + 1) (omega arith))))
+      ∙ sym (row-sifts r) in
       let n : liveAt s (getD (pairRowAt s i) handleAt 0) ≡ some m =
       ap (liveAt s) (handle-of h e) ∙ live-row s l h k
       ∙ pick-false none (some m) (ne-eqb (getD r 3 0) 0 (λ (w : getD r 3 0 ≡ 0). z (u ∙ w))) in
       let x : List ℕ = take (pairsAt + pairSize * i + pairSize - (pairsAt + pairSize * i)) (drop (pairsAt + pairSize * i) s) in
-      q ∙ ap (λ (j : ℕ). fieldsTest j (getD s (monitorsAt + monitorSize * h + 3) 0) (getD s (monitorsAt + monitorSize * h + 4) 0) x) ep
-      ∙ ap (λ (j : ℕ). fieldsTest (little 4 s positionAt) j (getD s (monitorsAt + monitorSize * h + 4) 0) x) u
-      ∙ ap (λ (j : ℕ). fieldsTest (little 4 s positionAt) (m .interval) j x) v
-      ∙ ap (fieldsTest (little 4 s positionAt) (m .interval) (m .sampling)) part-pair
+      q ∙ ap (λ (t : Bool). fieldsTest p (getD s (monitorsAt + monitorSize * h + 3) 0) (getD s (monitorsAt + monitorSize * h + 4) 0) t x) w
+      ∙ ap (λ (j : ℕ). fieldsTest j (getD s (monitorsAt + monitorSize * h + 3) 0) (getD s (monitorsAt + monitorSize * h + 4) 0) (sifts m) x) ep
+      ∙ ap (λ (j : ℕ). fieldsTest (little 4 s positionAt) j (getD s (monitorsAt + monitorSize * h + 4) 0) (sifts m) x) u
+      ∙ ap (λ (j : ℕ). fieldsTest (little 4 s positionAt) (m .interval) j (sifts m) x) v
+      ∙ ap (fieldsTest (little 4 s positionAt) (m .interval) (m .sampling) (sifts m)) part-pair
       ∙ sym (pair-tests (little 4 s positionAt) m (pairRowAt s i) (length-pairRowAt s l i a)
       (octets-pairRowAt s l (octets-known s o) i))
       ∙ ap (λ (x : Option Monitor). pairTest (little 4 s positionAt) x (pairRowAt s i)) (sym n)

@@ -7,7 +7,7 @@ use mathlib.Core.List.{List}
 use mathlib.Core.Option.{some}
 use native.Mathlib.Omega.{arith}
 use lib.Dec.{leb, ltb, eqb}
-use lib.ListN.{length, take, drop, getD, length-drop}
+use lib.ListN.{length, take, drop, getD, length-take, length-drop}
 use lib.Seq.{length-take-le}
 use borrow.Author.Tests.{le-leb, lt-leb, lt-ltb, le-ltb, eq-eqb}
 use Rattle.laws.specs.Tests.{pick, and-not-left, and-not-right, cases-le}
@@ -17,12 +17,15 @@ use Rattle.parts.specs.Parts.{isZero}
 use Rattle.advert.specs.Condition.{formOf, formStatus}
 use Rattle.model.specs.Types.{Monitor, Pair, ticksOf}
 use Rattle.model.specs.Level.{inRange, sumInRange}
-use Rattle.model.specs.Monitors.{settingsGood, conditionFault, faultOf, accepts, runOf, windowed, invalid}
-use Rattle.model.specs.Image.{pairIn}
-use Rattle.model.specs.Sound.{octetsUpTo, soundWindow, soundEmpty, soundFields, soundOf}
-use Rattle.soundness.specs.Clauses.{pairTest}
+use Rattle.model.specs.Monitors.{settingsGood, allowed, missing, parameters, sifts, conditionFault, faultOf, accepts}
+use Rattle.model.specs.Monitors.{runOf, windowed, invalid}
+use Rattle.model.specs.Image.{monitorFrom, monitorIn, pairIn}
+use Rattle.model.specs.Sound.{octetsUpTo, soundWindow, soundLatest, soundEmpty, soundFields, soundOf}
+use Rattle.blocks.specs.Added.{addedIn, row-parameters}
+use Rattle.statuses.specs.Second.{missing-allowed}
+use Rattle.soundness.specs.Clauses.{bareTest, pairTest}
 use Rattle.soundness.specs.Head.{little-lt}
-use Rattle.model.specs.Layout.{kindAt, addressAt, dataAt, eventAt, lengthAt, mostCondition, mostData, packetsAt, pairSize, rssiAt, silentAt, sumAt, ticksAt}
+use Rattle.model.specs.Layout.{kindAt, addressAt, conditionAt, conditionLengthAt, dataAt, eventAt, extraAt, highAt, intervalAt, lengthAt, lowAt, monitorSize, mostCondition, mostData, packetsAt, pairSize, rssiAt, samplingAt, silentAt, sumAt, ticksAt, typeAt}
 
 -- "for P in 1 to 0xFE window ticks below P, packets at most the position, sum from −127 × packets to 20 × packets;
 -- with other sampling window ticks and packets 0"
@@ -32,32 +35,79 @@ windowTest position sampling ticks packets sum =
     (ltb ticks sampling && leb packets position && sumInRange sum packets)
     (eqb ticks 0 && eqb packets 0)
 
--- "with packets 0 the sum, event type and n are 0"
-unfoldable pub emptyTest : ℕ → ℕ → ℕ → ℕ → Bool
-emptyTest packets sum event n = leb 1 packets || (eqb sum 0 && eqb event 0 && eqb n 0)
+-- T-13: what stands there "though packets is 0" where duplicates are filtered: a packet, or event type 0xFF and n 0
+unfoldable pub latestTest : Bool → ℕ → ℕ → Bool
+latestTest sifting event n = pick sifting (leb event 3 || (eqb event 0xFF && eqb n 0)) (eqb event 0 && eqb n 0)
 
--- a pair's row, with its monitor's interval and sampling period
-unfoldable pub fieldsTest : ℕ → ℕ → ℕ → List ℕ → Bool
-fieldsTest position interval sampling r =
+-- "with packets 0 the sum, event type and n are 0"
+unfoldable pub emptyTest : Bool → ℕ → ℕ → ℕ → ℕ → Bool
+emptyTest sifting packets sum event n = pick (leb 1 packets) (leb event 3) (eqb sum 0 && latestTest sifting event n)
+
+-- a pair's row, with its monitor's interval and sampling period, and whether it filters duplicates
+unfoldable pub fieldsTest : ℕ → ℕ → ℕ → Bool → List ℕ → Bool
+fieldsTest position interval sampling sifting r =
     leb (getD r lengthAt 0) mostData
-    && (leb (getD r kindAt 0) 1 && leb (getD r eventAt 0) 3 && inRange (getD r rssiAt 0) && ltb (little 2 r silentAt) (ticksOf interval)
+    && (leb (getD r kindAt 0) 1 && inRange (getD r rssiAt 0) && ltb (little 2 r silentAt) (ticksOf interval)
     && windowTest position sampling (getD r ticksAt 0) (little 4 r packetsAt) (little 8 r sumAt)
-    && emptyTest (little 4 r packetsAt) (little 8 r sumAt) (getD r eventAt 0) (getD r lengthAt 0)
+    && emptyTest sifting (little 4 r packetsAt) (little 8 r sumAt) (getD r eventAt 0) (getD r lengthAt 0)
     && every isZero (drop (dataAt + getD r lengthAt 0) r))
 
--- 0x03 accepts a monitor whose settings and condition pass
-pub accepts-tests : (m : Monitor) → length (m .condition) ≤ mostCondition
-    → accepts m ≡ (settingsGood (m .high) (m .low) (m .interval) && eqb (formStatus (formOf (m .kind) (m .condition))) 0)
+-- what version 2 adds, in a row: allowed, or nothing
+unfoldable pub addedTest : List ℕ → Bool
+addedTest r =
+    pick (eqb (getD r extraAt 0) 0) (every isZero (drop extraAt r)) (allowed (addedIn r) (getD r samplingAt 0) (getD r typeAt 0))
+
+-- the settings and the condition of a row
+unfoldable pub formTest : List ℕ → Bool
+formTest r =
+    settingsGood (getD r highAt 0) (getD r lowAt 0) (getD r intervalAt 0)
+    && eqb (formStatus (formOf (getD r typeAt 0) (take (getD r conditionLengthAt 0) (drop conditionAt r)))) 0
+
+-- 0x03 or 0x0F accepts a monitor whose settings, added parameters and condition pass
+accepts-tests : (m : Monitor) → length (m .condition) ≤ mostCondition
+    → accepts m ≡ (settingsGood (m .high) (m .low) (m .interval) && allowed (parameters m) (m .sampling) (m .kind)
+    && eqb (formStatus (formOf (m .kind) (m .condition))) 0)
 unfolding accepts faultOf conditionFault pick
 accepts-tests m h =
     rw (le-ltb mostCondition (length (m .condition)) h)
-    (go (settingsGood (m .high) (m .low) (m .interval)) (eqb (formStatus (formOf (m .kind) (m .condition))) 0)
+    (go (settingsGood (m .high) (m .low) (m .interval) && allowed (parameters m) (m .sampling) (m .kind))
+    (eqb (formStatus (formOf (m .kind) (m .condition))) 0)
     (formStatus (formOf (m .kind) (m .condition))) refl)
   where
     go : (a t : Bool) (n : ℕ) → eqb n 0 ≡ t → eqb (pick a (pick t 0 n) invalid) 0 ≡ (a && t)
     go true true n e = refl
     go true false n e = e
     go false t n e = refl
+
+-- so a row passes where its octets do
+pub row-accepts : (r : List ℕ) → length r ≡ monitorSize → getD r conditionLengthAt 0 ≤ mostCondition
+    → (addedTest r && formTest r) ≡ (bareTest r && accepts (monitorIn r .1))
+unfolding addedTest formTest bareTest monitorIn monitorFrom pick
+row-accepts r l h =
+    let n : ℕ = getD r conditionLengthAt 0 in
+    let c : List ℕ = take n (drop conditionAt r) in
+    let s : Bool = settingsGood (getD r highAt 0) (getD r lowAt 0) (getD r intervalAt 0) in
+    let f : Bool = eqb (formStatus (formOf (getD r typeAt 0) c)) 0 in
+    let k : length c ≤ mostCondition = rw (length-take n (drop conditionAt r)) (omega arith) in
+    rw (accepts-tests (monitorIn r .1) k, row-parameters r) (go (eqb (getD r extraAt 0) 0) s f)
+  where
+    bare : (z s f : Bool) → (z && (s && f)) ≡ (z && (s && true && f))
+    bare false s f = refl
+    bare true false f = refl
+    bare true true f = refl
+
+    full : (a s f : Bool) → (a && (s && f)) ≡ (s && a && f)
+    full false false f = refl
+    full false true f = refl
+    full true false f = refl
+    full true true f = refl
+
+    go : (t s f : Bool)
+        → (pick t (every isZero (drop extraAt r)) (allowed (addedIn r) (getD r samplingAt 0) (getD r typeAt 0)) && (s && f))
+        ≡ (pick t (every isZero (drop extraAt r)) true
+        && (s && allowed (pick t missing (addedIn r)) (getD r samplingAt 0) (getD r typeAt 0) && f))
+    go true s f = rw (missing-allowed (getD r samplingAt 0) (getD r typeAt 0)) (bare (every isZero (drop extraAt r)) s f)
+    go false s f = full (allowed (addedIn r) (getD r samplingAt 0) (getD r typeAt 0)) s f
 
 -- a pair's window and its emptiness, by its numbers
 window-tests : (position : ℕ) (m : Monitor) (q : Pair) → q .sum < 18446744073709551616
@@ -74,27 +124,32 @@ window-tests position m q h =
     go true false c = refl
     go true true c = refl
 
-empty-tests : (q : Pair) (n : ℕ) → length (q .adv) ≡ n → soundEmpty q ≡ emptyTest (q .packets) (q .sum) (q .event) n
+latest-tests : (t : Bool) (event n : ℕ) (adv : List ℕ) → length adv ≡ n → soundLatest t event adv ≡ latestTest t event n
+unfolding soundLatest latestTest pick
+latest-tests true event n adv e = rw e
+latest-tests false event n adv e = rw e
+
+empty-tests : (m : Monitor) (q : Pair) (n : ℕ) → length (q .adv) ≡ n
+    → soundEmpty m q ≡ emptyTest (sifts m) (q .packets) (q .sum) (q .event) n
 unfolding soundEmpty emptyTest
-empty-tests q n e = rw e
+empty-tests m q n e = rw (latest-tests (sifts m) (q .event) n (q .adv) e)
 
 -- a pair's fields: the address is 6 octets and the data are octets whatever stands there
 fields-tests : (q : Pair) → length (q .address) ≡ 6 → every isOctet (q .address) ≡ true → length (q .adv) ≤ mostData
     → every isOctet (q .adv) ≡ true → isOctet (q .kept) ≡ true
-    → soundFields q ≡ (leb (q .kind) 1 && leb (q .event) 3 && inRange (q .kept))
+    → soundFields q ≡ (leb (q .kind) 1 && inRange (q .kept))
 unfolding soundFields octetsUpTo
 fields-tests q a b c d k =
     rw (eq-eqb (length (q .address)) 6 a, b, le-leb (length (q .adv)) mostData c, d, k)
-    (go (leb (q .kind) 1) (leb (q .event) 3) (inRange (q .kept)))
+    (go (leb (q .kind) 1) (inRange (q .kept)))
   where
-    go : (a b c : Bool) → (a && true && true && b && true && (true && c)) ≡ (a && b && c)
-    go false b c = refl
-    go true false c = refl
-    go true true c = refl
+    go : (a b : Bool) → (a && true && true && true && (true && b)) ≡ (a && b)
+    go false b = refl
+    go true b = refl
 
 -- a pair's row passes where its numbers do
 module _ (position : ℕ) (m : Monitor) (r : List ℕ) (l : length r ≡ pairSize) (o : every isOctet r ≡ true) where
-  few-tests : getD r lengthAt 0 ≤ mostData → pairTest position (some m) r ≡ fieldsTest position (m .interval) (m .sampling) r
+  few-tests : getD r lengthAt 0 ≤ mostData → pairTest position (some m) r ≡ fieldsTest position (m .interval) (m .sampling) (sifts m) r
   unfolding pairTest soundOf fieldsTest pairIn runOf
   few-tests h =
       let q : Pair = pairIn r in
@@ -108,21 +163,20 @@ module _ (position : ℕ) (m : Monitor) (r : List ℕ) (l : length r ≡ pairSiz
       rw (
         fields-tests q la oa (omega arith) od (every-at isOctet r rssiAt 0 o (omega arith)),
         window-tests position m q (little-lt 8 r 15 o),
-        empty-tests q n ld,
+        empty-tests m q n ld,
         le-leb n mostData h,
       )
-      (go (leb (getD r kindAt 0) 1) (leb (getD r eventAt 0) 3) (inRange (getD r rssiAt 0)) (ltb (little 2 r silentAt) (ticksOf (m .interval)))
+      (go (leb (getD r kindAt 0) 1) (inRange (getD r rssiAt 0)) (ltb (little 2 r silentAt) (ticksOf (m .interval)))
       (windowTest position (m .sampling) (getD r ticksAt 0) (little 4 r packetsAt) (little 8 r sumAt))
-      (emptyTest (little 4 r packetsAt) (little 8 r sumAt) (getD r eventAt 0) n) (every isZero (drop (dataAt + n) r)))
+      (emptyTest (sifts m) (little 4 r packetsAt) (little 8 r sumAt) (getD r eventAt 0) n) (every isZero (drop (dataAt + n) r)))
     where
-      go : (a b k c d e f : Bool) → (a && b && k && c && d && e && true && f) ≡ (a && b && k && c && d && e && f)
-      go false b k c d e f = refl
-      go true false k c d e f = refl
-      go true true false c d e f = refl
-      go true true true false d e f = refl
-      go true true true true false e f = refl
-      go true true true true true false f = refl
-      go true true true true true true f = refl
+      go : (a k c d e f : Bool) → (a && k && c && d && e && true && f) ≡ (a && k && c && d && e && f)
+      go false k c d e f = refl
+      go true false c d e f = refl
+      go true true false d e f = refl
+      go true true true false e f = refl
+      go true true true true false f = refl
+      go true true true true true f = refl
 
   many-tests : mostData < getD r lengthAt 0 → pairTest position (some m) r ≡ false
   unfolding pairTest
@@ -131,11 +185,11 @@ module _ (position : ℕ) (m : Monitor) (r : List ℕ) (l : length r ≡ pairSiz
       (every isZero (drop (dataAt + getD r lengthAt 0) r))
       (and-not-right (soundOf position (some m) (pairIn r)) (leb (getD r lengthAt 0) mostData) (lt-leb (getD r lengthAt 0) mostData h))
 
-  pub fields-many : mostData < getD r lengthAt 0 → false ≡ fieldsTest position (m .interval) (m .sampling) r
+  pub fields-many : mostData < getD r lengthAt 0 → false ≡ fieldsTest position (m .interval) (m .sampling) (sifts m) r
   unfolding fieldsTest
   fields-many h = rw (lt-leb (getD r lengthAt 0) mostData h)
 
-  pub pair-tests : pairTest position (some m) r ≡ fieldsTest position (m .interval) (m .sampling) r
+  pub pair-tests : pairTest position (some m) r ≡ fieldsTest position (m .interval) (m .sampling) (sifts m) r
   pair-tests =
       cases-le (getD r lengthAt 0) mostData (λ (u : getD r lengthAt 0 ≤ mostData). few-tests u)
       (λ (u : mostData < getD r lengthAt 0). many-tests u ∙ fields-many u)

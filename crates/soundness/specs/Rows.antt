@@ -6,14 +6,14 @@ use mathlib.Core.Bool.{true}
 use mathlib.Core.List.{List, _∷_, _++_, append-assoc}
 use native.Mathlib.Omega.{arith}
 use lib.ListN.{length, take, drop, getD, replicate, length-drop, take-append-drop}
-use lib.Seq.{length-take-le, drop-cons, drop-drop}
+use lib.Seq.{length-take-le, drop-at, drop-cons, drop-drop, getD-take, take-add, take-take}
 use Rattle.laws.specs.Loops.{every, every-take, every-drop}
 use Rattle.octets.specs.Little.{little, value, octetsOf, isOctet, little-value, octets-value}
 use Rattle.parts.specs.Parts.{isZero}
-use Rattle.model.specs.Image.{monitorRow, pairRow, monitorIn, pairIn}
+use Rattle.model.specs.Image.{monitorRow, pairRow, monitorFrom, pairIn}
 use Rattle.model.specs.Block.{padTo}
 use Rattle.soundness.specs.Below.{zeros-run}
-use Rattle.model.specs.Layout.{addressAt, conditionAt, conditionLengthAt, dataAt, eventAt, handleAt, highAt, intervalAt, lengthAt, lowAt, monitorSize, mostCondition, mostData, packetsAt, pairSize, rssiAt, samplingAt, silentAt, sumAt, ticksAt, typeAt}
+use Rattle.model.specs.Layout.{addressAt, conditionAt, conditionLengthAt, dataAt, eventAt, extraAt, handleAt, highAt, intervalAt, lengthAt, lowAt, monitorSize, mostCondition, mostData, packetsAt, pairSize, rssiAt, samplingAt, silentAt, sumAt, ticksAt, typeAt}
 
 -- what is left at index i, with the octet, the octets or the number that stands there first
 pub one-cut : (r : List ℕ) (i : ℕ) → i < length r → getD r i 0 ∷ drop (suc i) r ≡ drop i r
@@ -44,15 +44,15 @@ pad-zeros size n f r l k h e z =
     let d : length (drop n r) ≡ size - length f = length-drop n r ∙ omega arith in
     ap (λ (j : ℕ). f ++ replicate j 0) (sym d) ∙ ap (λ (x : List ℕ). f ++ x) (sym (zeros-run (drop n r) z)) ∙ e
 
--- a monitor's row
-pub monitor-row : (r : List ℕ) → length r ≡ monitorSize → getD r conditionLengthAt 0 ≤ mostCondition → every isZero (drop (conditionAt + getD r conditionLengthAt 0) r) ≡ true
-    → padTo monitorSize (monitorRow (monitorIn r)) ≡ r
-unfolding monitorRow monitorIn
-monitor-row r l h z =
+-- A1's fields in a monitor's row
+pub monitor-row : (r a : List ℕ) → length r ≡ extraAt → getD r conditionLengthAt 0 ≤ mostCondition
+    → every isZero (drop (conditionAt + getD r conditionLengthAt 0) r) ≡ true → padTo extraAt (monitorRow (monitorFrom r a)) ≡ r
+unfolding monitorRow monitorFrom
+monitor-row r a l h z =
     let n : ℕ = getD r conditionLengthAt 0 in
     let c : List ℕ = take n (drop conditionAt r) in
     let k : length c ≡ n = length-take-le n (drop conditionAt r) (rw (length-drop 7 r) (omega arith)) in
-    pad-zeros monitorSize (7 + n) (monitorRow (monitorIn r)) r l (omega arith) (omega arith) (
+    pad-zeros extraAt (7 + n) (monitorRow (monitorFrom r a)) r l (omega arith) (omega arith) (
     ap (λ (j : ℕ). getD r handleAt 0 ∷ getD r highAt 0 ∷ getD r lowAt 0 ∷ getD r intervalAt 0 ∷ getD r samplingAt 0 ∷ getD r typeAt 0 ∷ j ∷
     (c ++ drop (7 + n) r)) k
     ∙ ap (λ (x : List ℕ). getD r handleAt 0 ∷ getD r highAt 0 ∷ getD r lowAt 0 ∷ getD r intervalAt 0 ∷ getD r samplingAt 0 ∷ getD r typeAt 0 ∷ n ∷ x)
@@ -66,6 +66,28 @@ monitor-row r l h z =
     ∙ ap (λ (x : List ℕ). getD r handleAt 0 ∷ getD r highAt 0 ∷ x) (one-cut r 2 (omega arith))
     ∙ ap (λ (x : List ℕ). getD r handleAt 0 ∷ x) (one-cut r 1 (omega arith))
     ∙ one-cut r 0 (omega arith)) z
+
+-- the same fields stand in the whole row
+pub fields-whole : (r a : List ℕ) → getD r conditionLengthAt 0 ≤ mostCondition → length r ≡ monitorSize
+    → monitorRow (monitorFrom (take extraAt r) a) ≡ monitorRow (monitorFrom r a)
+unfolding monitorRow monitorFrom
+fields-whole r a h l =
+    let n : ℕ = getD r conditionLengthAt 0 in
+    let m : getD (take extraAt r) conditionLengthAt 0 ≡ n = getD-take extraAt r 6 0 (omega arith) in
+    let t : length (take conditionAt r) ≡ conditionAt = length-take-le conditionAt r (omega arith) in
+    let c : drop conditionAt (take extraAt r) ≡ take mostCondition (drop conditionAt r) =
+    ap (drop conditionAt) (take-add conditionAt mostCondition r) ∙ drop-at (take conditionAt r) (take mostCondition (drop conditionAt r)) conditionAt t in
+    rw (
+      getD-take extraAt r 0 0 (omega arith),
+      getD-take extraAt r 1 0 (omega arith),
+      getD-take extraAt r 2 0 (omega arith),
+      getD-take extraAt r 3 0 (omega arith),
+      getD-take extraAt r 4 0 (omega arith),
+      getD-take extraAt r 5 0 (omega arith),
+      m,
+      c,
+      take-take n mostCondition (drop conditionAt r) h,
+    )
 
 -- a pair's row
 pub pair-row : (r : List ℕ) → length r ≡ pairSize → every isOctet r ≡ true → getD r lengthAt 0 ≤ mostData

@@ -6,14 +6,12 @@ use state::Ticks;
 ghost use Prim.Native.Nat.{_≤_, _<_};
 ghost use mathlib.Core.Path.{_≡_};
 ghost use lib.ListN.{length, take, getD};
-ghost use Rattle.model.specs.Image.{monitorIn};
-ghost use Rattle.model.specs.Monitors.{accepts};
 ghost use Rattle.model.specs.Block.{sound};
 ghost use Rattle.soundness.specs.Below.{allBelow};
 ghost use Rattle.soundness.specs.Clauses.{headTest, heldTest, monitorTest, placeTest, otherTest, heldPairTest};
 ghost use Rattle.soundness.specs.Clauses.{monitorsTest, pairsTest};
 ghost use Rattle.soundness.specs.Code.{sumAbove};
-ghost use Rattle.soundness.specs.Fields.{windowTest, emptyTest, fieldsTest};
+ghost use Rattle.soundness.specs.Fields.{windowTest, latestTest, emptyTest, fieldsTest, addedTest, formTest};
 ghost use Rattle.model.specs.Layout.{blockSize, conditionLengthAt, countAt, headSize, monitorSize, mostCondition, mostPairs, pairSize};
 
 // How far a window's sum, in two's complement, stands above −127 for each of its packets.
@@ -29,10 +27,10 @@ fn sum_above(sum: u64, packets: u32) -> u64
     sum - room - 1
 }
 
-// Whether the monitor of a row is one that 0x03 would accept.
-fn accepted(r: &[u8], n: usize) -> bool
+// Whether the settings and the condition of a row are such as 0x03 and 0x0F accept.
+fn formed(r: &[u8], n: usize) -> bool
     requires { ⌜ (length (now r) ≡ monitorSize) × (n ≡ getD (now r) conditionLengthAt 0) × (n ≤ mostCondition) ⌝ }
-    ensures { λ b. ⌜ b ≡ accepts (monitorIn (now (r .entry)) .1) ⌝ }
+    ensures { λ b. ⌜ b ≡ formTest (now (r .entry)) ⌝ }
 {
     let settings = statuses::settings_good(
         r[State::HIGH_AT],
@@ -43,6 +41,21 @@ fn accepted(r: &[u8], n: usize) -> bool
     let form = advert::condition_form(r[State::TYPE_AT], &r[State::CONDITION_AT..e]);
     let good = advert::status_of(form) == 0;
     settings & good
+}
+
+// Whether a row holds what version 2 adds as 0x0F accepts it, or nothing there.
+fn added_sound(r: &[u8]) -> bool
+    requires { ⌜ length (now r) ≡ monitorSize ⌝ }
+    ensures { λ b. ⌜ b ≡ addedTest (now (r .entry)) ⌝ }
+{
+    if r[State::OPTIONS_AT] == 0 {
+        return parts::zeros(&r[State::OPTIONS_AT..]);
+    }
+    statuses::is_allowed(
+        &r[State::OPTIONS_AT..],
+        r[State::SAMPLING_AT],
+        r[State::TYPE_AT],
+    )
 }
 
 // Whether a row in use stands at its handle's place, holds an accepted monitor, and has zeros behind its condition.
@@ -56,9 +69,10 @@ fn held_sound(r: &[u8], place: usize) -> bool
         return false;
     }
     let e = State::CONDITION_AT + n;
-    let behind = parts::zeros(&r[e..]);
-    let accept = accepted(r, n);
-    (h == place) & behind & accept
+    let behind = parts::zeros(&r[e..State::OPTIONS_AT]);
+    let added = added_sound(r);
+    let form = formed(r, n);
+    (h == place) & behind & added & form
 }
 
 // Whether a monitor row is empty, or holds what it may.
@@ -116,17 +130,33 @@ fn window_sound(position: u32, sampling: u8, ticks: u8, packets: u32, sum: u64) 
     (ticks == 0) & (packets == 0)
 }
 
-// Whether a window without packets holds nothing else.
-fn empty_sound(packets: u32, sum: u64, event: u8, n: u8) -> bool
-    ensures { λ b. ⌜ b ≡ emptyTest packets sum event n ⌝ }
+// Whether a window without packets holds none; where duplicates are filtered it may keep one for them, and event type
+// 0xFF says that it does not.
+fn latest_sound(sifts: bool, event: u8, n: u8) -> bool
+    ensures { λ b. ⌜ b ≡ latestTest sifts event n ⌝ }
 {
-    (1 <= packets) | ((sum == 0) & (event == 0) & (n == 0))
+    if sifts {
+        return (event <= 3) | ((event == 0xFF) & (n == 0));
+    }
+    (event == 0) & (n == 0)
 }
 
-// Whether a pair's row holds what it may, with its monitor's interval and sampling period.
-fn fields_sound(r: &[u8], position: u32, interval: u8, sampling: u8) -> bool
+// Whether a window has an event type, and without packets no sum.
+fn empty_sound(sifts: bool, packets: u32, sum: u64, event: u8, n: u8) -> bool
+    ensures { λ b. ⌜ b ≡ emptyTest sifts packets sum event n ⌝ }
+{
+    if 1 <= packets {
+        return event <= 3;
+    }
+    let latest = latest_sound(sifts, event, n);
+    (sum == 0) & latest
+}
+
+// Whether a pair's row holds what it may, with its monitor's interval and sampling period, and whether it filters
+// duplicates.
+fn fields_sound(r: &[u8], position: u32, interval: u8, sampling: u8, sifts: bool) -> bool
     requires { ⌜ length (now r) ≡ pairSize ⌝ }
-    ensures { λ b. ⌜ b ≡ fieldsTest position interval sampling (now (r .entry)) ⌝ }
+    ensures { λ b. ⌜ b ≡ fieldsTest position interval sampling sifts (now (r .entry)) ⌝ }
 {
     let n = octets::wide(r[State::LENGTH_AT]);
     if State::DATA < n {
@@ -138,10 +168,10 @@ fn fields_sound(r: &[u8], position: u32, interval: u8, sampling: u8) -> bool
     let packets = octets::get32(r, State::PACKETS_AT);
     let sum = octets::get64(r, State::SUM_AT);
     let window = window_sound(position, sampling, r[State::TICKS_AT], packets, sum);
-    let empty = empty_sound(packets, sum, r[State::EVENT_AT], r[State::LENGTH_AT]);
+    let empty = empty_sound(sifts, packets, sum, r[State::EVENT_AT], r[State::LENGTH_AT]);
     let short = silent.below(Seconds(interval).ticks());
     let kept = state::in_range(r[State::RSSI_AT]);
-    (r[State::KIND_AT] <= 1) & (r[State::EVENT_AT] <= 3) & kept & short & window & empty & behind
+    (r[State::KIND_AT] <= 1) & kept & short & window & empty & behind
 }
 
 // Whether the pair at a place is of a live monitor and holds what it may.
@@ -161,8 +191,9 @@ fn pair_sound(s: &[u8], i: usize) -> bool
         return false;
     }
     let sampling = s[m + State::SAMPLING_AT];
+    let filtering = state::filtering_of(s[m + State::OPTIONS_AT], s[m + State::FILTERING_AT]);
     let position = octets::get32(s, State::POSITION_AT);
-    fields_sound(&s[a..e], position, interval, sampling)
+    fields_sound(&s[a..e], position, interval, sampling, filtering % 2 == 1)
 }
 
 // Whether the pair at a place is another than each one before it.

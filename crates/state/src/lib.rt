@@ -1,17 +1,19 @@
 // The state: a block of octets whose rows are the image's before hexadecimal (document 01, Sizes of the gateway, The
 // image), its limits and offsets, how one is begun, and the two units of time.
+mod settings;
+
 use refusals::Refusal;
-ghost use Prim.Native.Nat.{_≤_, _<_};
+ghost use Prim.Native.Nat.{_<_};
 ghost use mathlib.Core.Path.{_≡_};
 ghost use lib.Dec.{ltb};
 ghost use lib.ListN.{length};
-ghost use Rattle.laws.specs.Put.{put};
 ghost use Rattle.model.specs.Types.{ticksOf, blank};
 ghost use Rattle.model.specs.Level.{level, inRange};
+ghost use Rattle.model.specs.Monitors.{letsThrough};
+ghost use Rattle.blocks.specs.Added.{filteringOf};
 ghost use Rattle.model.specs.Block.{padded, advanced, ready as isReady};
 ghost use Rattle.model.specs.Engine.{begin};
-ghost use Rattle.state.specs.Start.{settingsOf, settingsRow, blankIn};
-ghost use Rattle.model.specs.Layout.{headSize, mostPrefix};
+ghost use Rattle.state.specs.Start.{settingsOf, blankIn};
 
 // Seconds of the low interval.
 pub struct Seconds(pub u8);
@@ -54,6 +56,23 @@ pub fn in_range(rssi: u8) -> bool
     (State::LEAST_LEVEL <= level) & (level <= State::MOST_LEVEL)
 }
 
+// The report filtering that holds for a monitor, from its row's octets: where options are 0 that of version 1, bits 1 and 2.
+pub fn filtering_of(options: u8, filtering: u8) -> u8
+    ensures { λ r. ⌜ r ≡ filteringOf options filtering ⌝ }
+{
+    if options == 0 {
+        return 6;
+    }
+    filtering
+}
+
+// Whether report filtering lets packets of an event type through: bit 1 all, which are legacy ones, bit 3 the directed, of event type 1.
+pub fn lets_through(filtering: u8, event: u8) -> bool
+    ensures { λ r. ⌜ r ≡ letsThrough filtering event ⌝ }
+{
+    (filtering / 2 % 2 == 1) | ((filtering / 8 % 2 == 1) & (event == 1))
+}
+
 // The position one frame further. A block of under 4 octets is left as it is; behind the last number comes 0.
 pub fn advance(block: &mut [u8])
     ensures { λ _. ⌜ now (block .exit) ≡ advanced (now (block .entry)) ⌝ }
@@ -88,7 +107,7 @@ pub fn put_blank(block: &mut [u8])
     }
     let none = [0u8; 0];
     parts::fill(block, 0, State::SIZE, 0);
-    set_settings(block, State::LEAST_OPCODE, &none);
+    settings::set_settings(block, State::LEAST_OPCODE, &none);
 }
 
 // What is said of settings: in range, or why not.
@@ -139,7 +158,7 @@ impl State {
     // The longest answer, image and line.
     pub const ANSWER: usize = 2880;
 
-    pub const IMAGE: usize = 9898;
+    pub const IMAGE: usize = 10698;
 
     pub const LINE: usize = lines::LINE_ROOM;
     // The head: position (4), filter, opcode (2), prefix length, prefix.
@@ -169,7 +188,23 @@ impl State {
 
     pub const CONDITION_AT: usize = State::CONDITION_LENGTH_AT + 1;
 
-    pub const MONITOR_ROW: usize = State::CONDITION_AT + State::CONDITION;
+    // Behind the room of the condition, what version 2 adds: options, report filtering, peer address (6), its type, IRK (16). Options 0
+    // say that there is none of it.
+    pub const OPTIONS_AT: usize = State::CONDITION_AT + State::CONDITION;
+
+    pub const FILTERING_AT: usize = State::OPTIONS_AT + 1;
+
+    pub const PEER_AT: usize = State::FILTERING_AT + 1;
+
+    pub const PEER_TYPE_AT: usize = State::PEER_AT + 6;
+
+    pub const IRK_AT: usize = State::PEER_TYPE_AT + 1;
+
+    pub const IRK: usize = 16;
+
+    pub const EXTRA: usize = State::IRK_AT + State::IRK - State::OPTIONS_AT;
+
+    pub const MONITOR_ROW: usize = State::OPTIONS_AT + State::EXTRA;
     // A pair's row: its key (handle, and the device: address type and address), ticks since a good packet (2), ticks in the
     // window, packets (4), sum (8), kept RSSI, event type, n, data.
     pub const KIND_AT: usize = 1;
@@ -241,7 +276,7 @@ impl State {
             };
         }
         let mut block = [0u8; State::SIZE];
-        set_settings(&mut block, opcode, prefix);
+        settings::set_settings(&mut block, opcode, prefix);
         Begun {
             answer: Start::Fresh,
             state: State { block },
@@ -254,18 +289,7 @@ impl State {
     {
         let mut block = [0u8; State::SIZE];
         let none = [0u8; 0];
-        set_settings(&mut block, State::LEAST_OPCODE, &none);
+        settings::set_settings(&mut block, State::LEAST_OPCODE, &none);
         State { block }
     }
-}
-
-// The settings written into a block.
-fn set_settings(block: &mut [u8], opcode: u16, prefix: &[u8])
-    requires { ⌜ (length (now prefix) ≤ mostPrefix) × (headSize ≤ length (now block)) ⌝ }
-    ensures { λ _. ⌜ now (block .exit) ≡ put (now (block .entry)) 5 (settingsRow opcode (now (prefix .entry))) ⌝ }
-{
-    octets::put16(block, State::OPCODE_AT, opcode);
-    let n = prefix.len() as u8;
-    octets::put8(block, State::PREFIX_LENGTH_AT, n);
-    parts::copy(block, State::PREFIX_AT, prefix);
 }

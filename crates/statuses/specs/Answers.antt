@@ -12,10 +12,9 @@ use Rattle.laws.specs.Tests.{pick, pick-true, pick-false, cases-le}
 use Rattle.octets.specs.Little.{little}
 use Rattle.octets.specs.Numbers.{numberAt}
 use Rattle.advert.specs.Condition.{formOf, formStatus}
-use Rattle.model.specs.Monitors.{settingsGood, conditionFault, faultOf, monitorOf, invalid, full, disallowed}
-use Rattle.model.specs.Commands.{table, paramsIn, readStatus}
-use Rattle.statuses.specs.Statuses.{addOf}
-use Rattle.statuses.specs.Statuses.{cancelOf, enableOf}
+use Rattle.model.specs.Monitors.{conditionFault, faultOf, monitorOf, invalid, full, disallowed, unknown}
+use Rattle.model.specs.Commands.{table, paramsIn, subOf, readStatus}
+use Rattle.statuses.specs.Statuses.{addOf, addsBy, cancelOf, enableOf}
 use Rattle.model.specs.Layout.{mostCondition}
 
 -- an octet that was read is the list's element; 0 past the end
@@ -43,20 +42,6 @@ module _ (kind : ℕ) (condition : List ℕ) {n : ℕ} (e : n ≡ formStatus (fo
   pub form-good : n ≡ 0 → length condition ≤ mostCondition → 0 ≡ conditionFault kind condition
   form-good q h = sym (formed q ∙ pick-false 7 0 (le-ltb mostCondition (length condition) h))
 
--- the monitor's status
-module _ (l : List ℕ) {t : Bool} (e : t ≡ settingsGood (getD l 1 0) (getD l 2 0) (getD l 3 0)) where
-  pub fault-condition : {r : ℕ} → t ≡ true → r ≡ conditionFault (getD l 5 0) (take (length l - 6) (drop 6 l))
-      → r ≡ faultOf (monitorOf l)
-  unfolding monitorOf faultOf
-  fault-condition q s =
-      let n : length (drop 6 l) ≡ length l - 6 = length-drop 6 l in
-      s ∙ ap (conditionFault (getD l 5 0)) (take-all (length l - 6) (drop 6 l) (omega arith))
-      ∙ sym (pick-true _ invalid (sym e ∙ q))
-
-  pub fault-settings : t ≡ false → 18 ≡ faultOf (monitorOf l)
-  unfolding monitorOf faultOf
-  fault-settings q = sym (pick-false _ invalid (sym e ∙ q))
-
 -- 00
 module _ (l : List ℕ) {n : ℕ} (e : n ≡ paramsIn table 0) where
   pub read-good : length l ≡ n → 0 ≡ readStatus l
@@ -67,38 +52,51 @@ module _ (l : List ℕ) {n : ℕ} (e : n ≡ paramsIn table 0) where
   unfolding readStatus
   read-wrong h = sym (pick-false 0 invalid (ne-eqb (length l) (paramsIn table 0) (λ q. h (q ∙ sym e))))
 
--- 03
-module _ (room : Bool) (l : List ℕ) {n : ℕ} (e : n ≡ paramsIn table 3) where
-  pub add-short : length l < n → 18 ≡ addOf room l
+-- 03 and 0F
+module _ (room : Bool) (l : List ℕ) {sub : ℕ} (g : sub ≡ numberAt 1 l 0) where
+  pub sub-said : sub ≡ subOf l
+  unfolding subOf
+  sub-said = octet-at l 0 g
+
+  pub add-other : addsBy sub ≡ false → 1 ≡ addOf room l
   unfolding addOf
-  add-short h = sym (pick-true invalid _ (lt-ltb (length l) (paramsIn table 3) (omega arith)))
+  add-other h = sym (pick-true unknown _ (ap not (ap addsBy (sym sub-said) ∙ h)))
 
-  pub add-least : n ≤ length l → 6 ≤ length l
-  unfolding table paramsIn pick
-  add-least h = omega arith
+  module _ (a : addsBy sub ≡ true) {n : ℕ} (e : n ≡ paramsIn table sub) where
+    known : not (addsBy (subOf l)) ≡ false
+    known = ap not (ap addsBy (sym sub-said) ∙ a)
 
-  module _ (h : n ≤ length l) {f : ℕ} (g : f ≡ faultOf (monitorOf l)) where
-    enough : ltb (length l) (paramsIn table 3) ≡ false
-    enough = le-ltb (length l) (paramsIn table 3) (omega arith)
+    least : n ≡ paramsIn table (subOf l)
+    least = e ∙ ap (paramsIn table) sub-said
 
-    pub add-fault : (f ≡ 0 → ⊥) → f ≡ addOf room l
+    pub add-short : length l < n → 18 ≡ addOf room l
     unfolding addOf
-    add-fault q =
-        g ∙ sym (pick-false invalid _ enough
-        ∙ pick-true (faultOf (monitorOf l)) _ (ap not (ne-eqb (faultOf (monitorOf l)) 0 (λ s. q (g ∙ s)))))
+    add-short h =
+        sym (pick-false unknown _ known ∙ pick-true invalid _ (lt-ltb (length l) (paramsIn table (subOf l)) (omega
+        (arith, least))))
 
-    good : f ≡ 0 → not (eqb (faultOf (monitorOf l)) 0) ≡ false
-    good q = ap not (eq-eqb (faultOf (monitorOf l)) 0 (sym g ∙ q))
+    module _ (h : n ≤ length l) {f : ℕ} (s : f ≡ faultOf (monitorOf l)) where
+      enough : ltb (length l) (paramsIn table (subOf l)) ≡ false
+      enough = le-ltb (length l) (paramsIn table (subOf l)) (omega (arith, least))
 
-    pub add-good : f ≡ 0 → room ≡ true → 0 ≡ addOf room l
-    unfolding addOf
-    add-good q r = sym (pick-false invalid _ enough ∙ pick-false (faultOf (monitorOf l)) _ (good q)
-        ∙ pick-true 0 full r)
+      pub add-fault : (f ≡ 0 → ⊥) → f ≡ addOf room l
+      unfolding addOf
+      add-fault q =
+          s ∙ sym (pick-false unknown _ known ∙ pick-false invalid _ enough
+          ∙ pick-true (faultOf (monitorOf l)) _ (ap not (ne-eqb (faultOf (monitorOf l)) 0 (λ z. q (s ∙ z)))))
 
-    pub add-full : f ≡ 0 → room ≡ false → 7 ≡ addOf room l
-    unfolding addOf
-    add-full q r = sym (pick-false invalid _ enough ∙ pick-false (faultOf (monitorOf l)) _ (good q)
-        ∙ pick-false 0 full r)
+      good : f ≡ 0 → not (eqb (faultOf (monitorOf l)) 0) ≡ false
+      good q = ap not (eq-eqb (faultOf (monitorOf l)) 0 (sym s ∙ q))
+
+      pub add-good : f ≡ 0 → room ≡ true → 0 ≡ addOf room l
+      unfolding addOf
+      add-good q r = sym (pick-false unknown _ known ∙ pick-false invalid _ enough
+          ∙ pick-false (faultOf (monitorOf l)) _ (good q) ∙ pick-true 0 full r)
+
+      pub add-full : f ≡ 0 → room ≡ false → 7 ≡ addOf room l
+      unfolding addOf
+      add-full q r = sym (pick-false unknown _ known ∙ pick-false invalid _ enough
+          ∙ pick-false (faultOf (monitorOf l)) _ (good q) ∙ pick-false 0 full r)
 
 -- 04
 module _ (live : Bool) (l : List ℕ) {n : ℕ} (e : n ≡ paramsIn table 4) where

@@ -2,3 +2,4 @@
 pub mod Statuses
 pub mod Lookup
 pub mod Answers
+pub mod Second

@@ -20,6 +20,7 @@ use Rattle.model.specs.Events.{complete, stopEvent, packetReports, windowReport
 use Rattle.model.specs.Watch.{packetMove, turnsAnswer, reported, packetAnswer, goesOn, windowSays, tickOctets, tickAnswer}
 use Rattle.model.specs.Step.{answerTyped, act}
 use Rattle.model.specs.Sound.{soundModel}
+use Rattle.blocks.specs.Bounds.{empty-event}
 use Rattle.steps.specs.Lists.{short-nil, short-append, short-more, short-when, short-pick, short-each}
 use Rattle.steps.specs.Lists.{all-weaken}
 use Rattle.steps.specs.Facts.{Settings, settings-of, Fields, fields-of}
@@ -64,7 +65,8 @@ module _ (m : Model) (s : Sound m) where
       rw (h .live)
       (short-pick isOctet (goesOn (h .mon) q) reportMost (when (windowSays (m .filter) (h .mon) q) (windowReport q))
       (stopEvent (m .prefix) q)
-      (λ e. short-when isOctet (windowSays (m .filter) (h .mon) q) reportMost (windowReport q) (window-report-short q f))
+      (λ e. short-when isOctet (windowSays (m .filter) (h .mon) q) reportMost (windowReport q)
+      (window-report-short q f (empty-event (h .mon) q (h .kept .empty))))
       (λ e. short-more isOctet eventMost reportMost _ (omega arith) stop))
 
   -- a tick: at most 64 of these

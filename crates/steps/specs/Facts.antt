@@ -4,18 +4,18 @@ use Prim.Native.Nat.{ℕ, _≤_, _<_}
 use native.Mathlib.Omega.{arith}
 use mathlib.Core.Path.{_≡_, refl, sym, _∙_}
 use mathlib.Core.Bool.{Bool, true, false, _&&_, _||_}
-use mathlib.Core.List.{List}
+use mathlib.Core.List.{List, []}
 use lib.Dec.{leb, ltb, eqb}
 use lib.ListN.{length}
 use borrow.Author.Tests.{leb-true, leb-false, ltb-true, eqb-true, le-leb, lt-ltb, eq-eqb}
-use Rattle.laws.specs.Tests.{and-left, and-right, and-both, pick-true, pick-false}
+use Rattle.laws.specs.Tests.{pick, and-left, and-right, and-both, pick-true, pick-false}
 use Rattle.laws.specs.Loops.{every}
 use Rattle.octets.specs.Little.{isOctet}
 use Rattle.model.specs.Types.{Monitor, Pair}
 use Rattle.model.specs.Level.{inRange, sumInRange}
 use Rattle.model.specs.Levels.{Summed, summed-of, summed-holds}
-use Rattle.model.specs.Monitors.{accepts, windowed}
-use Rattle.model.specs.Sound.{octetsUpTo, soundSettings, soundMonitor, soundWindow, soundEmpty, soundFields}
+use Rattle.model.specs.Monitors.{accepts, sifts, windowed}
+use Rattle.model.specs.Sound.{octetsUpTo, soundSettings, soundExtra, soundMonitor, soundWindow, soundLatest, soundEmpty, soundFields}
 use Rattle.model.specs.Layout.{mostData, mostPrefix}
 
 -- the parts of a conjunction
@@ -70,34 +70,42 @@ settings-hold opcode prefix s =
     and-both (and-both (le-leb 64512 opcode (s .opcode-least)) (le-leb opcode 65535 (s .opcode-most)))
     (up-to-holds mostPrefix prefix (s .prefix-short) (s .prefix-octets))
 
--- "every monitor as 0x03 would accept it", its fields octets
+-- "every monitor as 0x03 would accept it", or 0x0F, its fields octets
 pub record Stored (m : Monitor) : Type 0 where
   pub accepted : accepts m ≡ true
   pub high-octet : isOctet (m .high) ≡ true
   pub low-octet : isOctet (m .low) ≡ true
   pub sampling-octet : isOctet (m .sampling) ≡ true
   pub condition-octets : every isOctet (m .condition) ≡ true
+  pub extra-sound : soundExtra (m .extra) ≡ true
 
 pub stored-of : (m : Monitor) → soundMonitor m ≡ true → Stored m
 unfolding soundMonitor
 stored-of m e =
-    let r =
-    and-five (accepts m) (isOctet (m .high)) (isOctet (m .low)) (isOctet (m .sampling))
-    (every isOctet (m .condition)) e in
-    record { accepted = r .0; high-octet = r .1; low-octet = r .2; sampling-octet = r .3; condition-octets = r .4 }
+    let c : Bool = every isOctet (m .condition) in
+    let x : Bool = soundExtra (m .extra) in
+    let a : Bool = accepts m && isOctet (m .high) && isOctet (m .low) && isOctet (m .sampling) && c in
+    let r = and-five (accepts m) (isOctet (m .high)) (isOctet (m .low)) (isOctet (m .sampling)) c (and-left a x e) in
+    record {
+      accepted = r .0;
+      high-octet = r .1;
+      low-octet = r .2;
+      sampling-octet = r .3;
+      condition-octets = r .4;
+      extra-sound = and-right a x e;
+    }
 
 pub stored-holds : (m : Monitor) → Stored m → soundMonitor m ≡ true
 unfolding soundMonitor
 stored-holds m s =
-    and-both (and-both (and-both (and-both (s .accepted) (s .high-octet)) (s .low-octet)) (s .sampling-octet))
-    (s .condition-octets)
+    and-both (and-both (and-both (and-both (and-both (s .accepted) (s .high-octet)) (s .low-octet)) (s .sampling-octet))
+    (s .condition-octets)) (s .extra-sound)
 
--- "with valid address type and event type, n at most 31"; T-05: the kept RSSI "between −127 and 20"
+-- "with valid address type .., n at most 31"; T-05: the kept RSSI "between −127 and 20"
 pub record Fields (q : Pair) : Type 0 where
   pub kind-most : q .kind ≤ 1
   pub address-six : length (q .address) ≡ 6
   pub address-octets : every isOctet (q .address) ≡ true
-  pub event-most : q .event ≤ 3
   pub adv-short : length (q .adv) ≤ mostData
   pub adv-octets : every isOctet (q .adv) ≡ true
   pub kept-octet : q .kept < 256
@@ -106,20 +114,18 @@ pub record Fields (q : Pair) : Type 0 where
 pub fields-of : (q : Pair) → soundFields q ≡ true → Fields q
 unfolding soundFields
 fields-of q e =
-    let a : Bool = leb (q .kind) 1 && eqb (length (q .address)) 6 && every isOctet (q .address) && leb (q .event) 3
-    && octetsUpTo mostData (q .adv) in
+    let a : Bool = leb (q .kind) 1 && eqb (length (q .address)) 6 && every isOctet (q .address) && octetsUpTo mostData (q .adv) in
     let o : Bool = isOctet (q .kept) in
     let i : Bool = inRange (q .kept) in
     let k : (o && i) ≡ true = and-right a (o && i) e in
     let r =
-    and-five (leb (q .kind) 1) (eqb (length (q .address)) 6) (every isOctet (q .address)) (leb (q .event) 3)
-    (octetsUpTo mostData (q .adv)) (and-left a (o && i) e) in
-    let u = up-to mostData (q .adv) (r .4) in
+    and-four (leb (q .kind) 1) (eqb (length (q .address)) 6) (every isOctet (q .address)) (octetsUpTo mostData (q .adv))
+    (and-left a (o && i) e) in
+    let u = up-to mostData (q .adv) (r .3) in
     record {
       kind-most = leb-true (q .kind) 1 (r .0);
       address-six = eqb-true (length (q .address)) 6 (r .1);
       address-octets = r .2;
-      event-most = leb-true (q .event) 3 (r .3);
       adv-short = u .0;
       adv-octets = u .1;
       kept-octet = ltb-true (q .kept) 256 (and-left o i k);
@@ -129,9 +135,9 @@ fields-of q e =
 pub fields-hold : (q : Pair) → Fields q → soundFields q ≡ true
 unfolding soundFields
 fields-hold q f =
-    and-both (and-both (and-both (and-both (and-both
+    and-both (and-both (and-both (and-both
     (le-leb (q .kind) 1 (f .kind-most)) (eq-eqb (length (q .address)) 6 (f .address-six)))
-    (f .address-octets)) (le-leb (q .event) 3 (f .event-most)))
+    (f .address-octets))
     (up-to-holds mostData (q .adv) (f .adv-short) (f .adv-octets)))
     (and-both (lt-ltb (q .kept) 256 (f .kept-octet)) (f .kept-in))
 
@@ -189,36 +195,38 @@ module _ (position : ℕ) (m : Monitor) (q : Pair) where
   shut-holds w s =
       pick-false _ _ w ∙ and-both (eq-eqb (q .ticks) 0 (s .no-ticks)) (eq-eqb (q .packets) 0 (s .no-packets))
 
--- "with packets 0 the sum, event type and n are 0"
-pub record Empty (q : Pair) : Type 0 where
+-- "with packets 0 the sum, event type and n are 0"; T-13: or the packet kept for duplicates
+pub record Empty (m : Monitor) (q : Pair) : Type 0 where
   pub no-sum : q .sum ≡ 0
-  pub no-event : q .event ≡ 0
-  pub no-adv : length (q .adv) ≡ 0
+  pub latest : soundLatest (sifts m) (q .event) (q .adv) ≡ true
 
-pub empty-of : (q : Pair) → soundEmpty q ≡ true → q .packets ≡ 0 → Empty q
-unfolding soundEmpty
-empty-of q e n = go (leb 1 (q .packets)) refl e
+-- no packet, and event type 0: with both kinds of monitors
+pub latest-none : (t : Bool) → soundLatest t 0 [] ≡ true
+unfolding soundLatest
+latest-none true = refl
+latest-none false = refl
+
+pub empty-of : (m : Monitor) (q : Pair) → soundEmpty m q ≡ true → q .packets ≡ 0 → Empty m q
+unfolding soundEmpty pick
+empty-of m q e n = go (leb 1 (q .packets)) refl e
   where
-    go : (t : Bool) → leb 1 (q .packets) ≡ t
-        → (t || (eqb (q .sum) 0 && eqb (q .event) 0 && eqb (length (q .adv)) 0)) ≡ true → Empty q
+    l : Bool
+    l = soundLatest (sifts m) (q .event) (q .adv)
+
+    go : (t : Bool) → leb 1 (q .packets) ≡ t → pick t (leb (q .event) 3) (eqb (q .sum) 0 && l) ≡ true → Empty m q
     go true h r = let k : 1 ≤ q .packets = leb-true 1 (q .packets) h in absurd (omega arith)
-    go false h r =
-        let z = and-three (eqb (q .sum) 0) (eqb (q .event) 0) (eqb (length (q .adv)) 0) r in
-        record {
-          no-sum = eqb-true (q .sum) 0 (z .0);
-          no-event = eqb-true (q .event) 0 (z .1);
-          no-adv = eqb-true (length (q .adv)) 0 (z .2);
-        }
+    go false h r = record { no-sum = eqb-true (q .sum) 0 (and-left (eqb (q .sum) 0) l r); latest = and-right (eqb (q .sum) 0) l r }
 
-pub empty-holds : (q : Pair) → (q .packets ≡ 0 → Empty q) → soundEmpty q ≡ true
-unfolding soundEmpty
-empty-holds q f = go (leb 1 (q .packets)) refl
+pub empty-holds : (m : Monitor) (q : Pair) → (q .packets ≡ 0 → Empty m q) → (1 ≤ q .packets → q .event ≤ 3) → soundEmpty m q ≡ true
+unfolding soundEmpty pick
+empty-holds m q f g = go (leb 1 (q .packets)) refl
   where
-    go : (t : Bool) → leb 1 (q .packets) ≡ t
-        → (t || (eqb (q .sum) 0 && eqb (q .event) 0 && eqb (length (q .adv)) 0)) ≡ true
-    go true h = refl
+    l : Bool
+    l = soundLatest (sifts m) (q .event) (q .adv)
+
+    go : (t : Bool) → leb 1 (q .packets) ≡ t → pick t (leb (q .event) 3) (eqb (q .sum) 0 && l) ≡ true
+    go true h = le-leb (q .event) 3 (g (leb-true 1 (q .packets) h))
     go false h =
         let k : q .packets < 1 = leb-false 1 (q .packets) h in
-        let z : Empty q = f (omega arith) in
-        and-both (and-both (eq-eqb (q .sum) 0 (z .no-sum)) (eq-eqb (q .event) 0 (z .no-event)))
-        (eq-eqb (length (q .adv)) 0 (z .no-adv))
+        let z : Empty m q = f (omega arith) in
+        and-both (eq-eqb (q .sum) 0 (z .no-sum)) (z .latest)

@@ -6,6 +6,7 @@ pub mod Whole
 pub mod Typed
 pub mod Sums
 pub mod Moves
+pub mod Stays
 pub mod Drops
 pub mod Turns
 pub mod Orders

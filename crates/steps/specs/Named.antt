@@ -4,7 +4,7 @@ use Prim.Native.Nat.{ℕ, zero, suc, _+_, _*_, _≤_, _<_}
 use native.Mathlib.Omega.{arith}
 use native.Mathlib.Nat.{mul-suc}
 use mathlib.Core.Path.{_≡_, refl, sym, subst}
-use mathlib.Core.Bool.{Bool, true, false}
+use mathlib.Core.Bool.{Bool, true, false, _&&_}
 use mathlib.Core.Option.{Option, none, some}
 use mathlib.Core.List.{List, [], _∷_, _++_, map}
 use lib.ListN.{length}
@@ -16,9 +16,9 @@ use Rattle.rule.specs.Engine.{find}
 use Rattle.rule.specs.Finds.{find-all}
 use Rattle.model.specs.Types.{Model, Monitor, Packet, Pair}
 use Rattle.model.specs.Events.{startEvent, stopEvent}
-use Rattle.model.specs.Watch.{withSilent, withKept, gathered, counts, refreshed, windowTakes, atPacket, packetMove, begins, startPair}
+use Rattle.model.specs.Watch.{withSilent, withKept, withLatest, gathered, counts, refreshed, remembered, windowTakes, atPacket, packetMove, begins, startLike, startPair}
 use Rattle.model.specs.Watch.{goesFor, staysFor, startOf, stopOf, turn, turns, turnAnswer, turnsAnswer}
-use Rattle.model.specs.Monitors.{good, windowed}
+use Rattle.model.specs.Monitors.{allows, good, sifts, windowed}
 use Rattle.steps.specs.Lists.{all-weaken, short-nil, short-append, short-more, short-each}
 use Rattle.steps.specs.Facts.{Settings, Fields, fields-of}
 use Rattle.steps.specs.Whole.{Row, Held, Sound}
@@ -40,9 +40,9 @@ held-named m s q h =
     let row : Row (q .handle, h .mon) = find-all Row (m .mons) (q .handle) (h .mon) (s .monitors .rows) (h .live) in
     record { handle-most = row .0; kind-most = f .kind-most; address-six = f .address-six; address-octets = f .address-octets }
 
-pub start-named : (p : Packet) (h : ℕ) → Sent p → h < mostMonitors → Named (startPair h p)
-unfolding startPair
-start-named p h t b =
+pub start-named : (m : Monitor) (p : Packet) (h : ℕ) → Sent p → h < mostMonitors → Named (startPair m h p)
+unfolding startPair startLike
+start-named m p h t b =
     record { handle-most = b; kind-most = t .kind-most; address-six = t .address-six; address-octets = t .address-octets }
 
 -- a packet changes no key
@@ -56,12 +56,16 @@ named-so q r n h k a =
     }
 
 move-named : (o : Option Monitor) (p : Packet) (q : Pair) → Named q → Named (atPacket o p q)
-unfolding atPacket windowTakes refreshed pick gathered withSilent withKept
+unfolding atPacket remembered windowTakes refreshed pick gathered withLatest withSilent withKept
 move-named none p q n = n
-move-named (some m) p q n = pick-both Named (counts m p q) _ q (λ e. takes (windowed m) (good m p)) (λ e. n)
+move-named (some m) p q n = pick-both Named (counts m p q) _ q (λ e. remembers (sifts m && allows m (p .event)) _ (takes (windowed m) (good m p))) (λ e. n)
   where
     k : Pair
     k = withKept q (p .rssi)
+
+    remembers : (a : Bool) (r : Pair) → Named r → Named (pick a (withLatest (p .event) (p .adv) r) r)
+    remembers true r x = named-so r (withLatest (p .event) (p .adv) r) x refl refl refl
+    remembers false r x = x
 
     takes : (a b : Bool) → Named (pick a (gathered p (pick b (withSilent k 0) k)) (pick b (withSilent k 0) k))
     takes true true = named-so q (gathered p (withSilent k 0)) n refl refl refl
@@ -80,8 +84,8 @@ unfolding turn
 turn-named none p h qs t b a = a
 turn-named (some m) p h qs t b a =
     pick-both (All Named) (begins m p h qs) _ qs
-    (λ e. all-append Named (staysFor (p .rssi) qs) (startPair h p ∷ []) (stays-all Named (p .rssi) qs a)
-    (start-named p h t b, tt))
+    (λ e. all-append Named (staysFor (p .rssi) qs) (startPair m h p ∷ []) (stays-all Named (p .rssi) qs a)
+    (start-named m p h t b, tt))
     (λ e. a)
 
 pub turns-named : (mons : List (ℕ × Monitor)) (p : Packet) (n : ℕ) (qs : List Pair) → Sent p → n ≤ mostMonitors → All Named qs
@@ -108,8 +112,8 @@ unfolding startOf when
 starts-named none p h qs t b = (omega arith, tt)
 starts-named (some m) p h qs t b = go (begins m p h qs)
   where
-    go : (u : Bool) → (length (when u (startPair h p ∷ [])) ≤ 1) × All Named (when u (startPair h p ∷ []))
-    go true = (omega arith, (start-named p h t b, tt))
+    go : (u : Bool) → (length (when u (startPair m h p ∷ [])) ≤ 1) × All Named (when u (startPair m h p ∷ []))
+    go true = (omega arith, (start-named m p h t b, tt))
     go false = (omega arith, tt)
 
 module _ (opcode : ℕ) (prefix : List ℕ) (mons : List (ℕ × Monitor)) (p : Packet) (s : Settings opcode prefix) (t : Sent p) where

@@ -1,34 +1,35 @@
 -- What a command does to a sound state: the monitor added under the lowest free handle, the monitor cancelled with
 -- its pairs, the filter set; it stays sound. Document 01, Commands, and The image ("Sound: .."). Assumes nothing.
-use Prim.Native.Nat.{ℕ, _≤_}
+use Prim.Native.Nat.{ℕ, _+_, _-_, _≤_}
 use native.Mathlib.Omega.{arith}
 use mathlib.Core.Path.{_≡_, refl, sym, ap, _∙_, subst}
-use mathlib.Core.Bool.{true, not}
+use mathlib.Core.Bool.{Bool, true, false, not}
 use mathlib.Core.Option.{Option, none, some}
 use mathlib.Core.List.{List}
 use lib.Dec.{ltb, eqb}
-use lib.ListN.{length, getD}
+use lib.ListN.{length, take, drop, getD, length-drop}
+use lib.Seq.{length-take-le}
 use borrow.Author.Tests.{eqb-true, eqb-false, eq-eqb, ltb-false, not-true}
-use Rattle.laws.specs.Tests.{pick, pick-true, pick-false}
-use Rattle.laws.specs.Loops.{every, every-drop, keep}
+use Rattle.laws.specs.Tests.{pick, and-both, pick-true, pick-false}
+use Rattle.laws.specs.Loops.{every, every-take, every-drop, keep}
 use Rattle.octets.specs.Little.{isOctet}
 use Rattle.rule.specs.Base.{none≢some}
 use Rattle.rule.specs.Engine.{find, slot, insert, insertAt, remove}
 use Rattle.rule.specs.Finds.{rising-insert, rising-remove, all-insert, all-remove, find-insert-other}
 use Rattle.rule.specs.Finds.{find-remove-other, slot-some, Lowest}
 use Rattle.model.specs.Types.{Model, Monitor, Pair, withLists, withFilter}
-use Rattle.model.specs.Monitors.{faultOf, accepts, monitorOf, invalid}
+use Rattle.model.specs.Monitors.{faultOf, accepts, isSecond, typeIn, extraOf, monitorOf, invalid}
 use Rattle.model.specs.Accepted.{pick-none}
-use Rattle.model.specs.Commands.{table, paramsIn, subOf, addStatus, enableStatus, status, ofOther, cancelled}
+use Rattle.model.specs.Commands.{adds, table, paramsIn, subOf, addStatus, enableStatus, status, ofOther, cancelled}
 use Rattle.model.specs.Commands.{added, changed, commanded}
-use Rattle.model.specs.Sound.{soundMonitor}
+use Rattle.model.specs.Sound.{soundExtra, soundMonitor}
 use Rattle.steps.specs.Lists.{keep-each, all-weaken, picked}
 use Rattle.steps.specs.Facts.{stored-holds}
 use Rattle.steps.specs.Whole.{Row, key, Held, Pairs, Monitors, Sound}
 use Rattle.steps.specs.Typed.{pick-both, at-octet}
 use Rattle.steps.specs.Moves.{by-test}
 use Rattle.steps.specs.Turns.{pairs-moved}
-use Rattle.model.specs.Layout.{mostMonitors}
+use Rattle.model.specs.Layout.{extraSize, mostMonitors}
 
 -- the lists of a sound state
 pub record Both (position : ℕ) (mons : List (ℕ × Monitor)) (qs : List Pair) : Type 0 where
@@ -89,25 +90,42 @@ removed k mons qs h s =
         subst (Held k (remove h mons)) (w .1) old
 
 -- the monitor of an accepted command is sound
-pub monitor-sound : (l : List ℕ) → every isOctet l ≡ true → faultOf (monitorOf l) ≡ 0
+params-second : (l : List ℕ) → paramsIn table (subOf l) ≤ length l → subOf l ≡ 15 → 31 ≤ length l
+unfolding paramsIn table pick
+params-second l h e = rw e at h
+
+extra-sound : (l : List ℕ) → every isOctet l ≡ true → paramsIn table (subOf l) ≤ length l → soundExtra (extraOf l) ≡ true
+unfolding extraOf isSecond subOf pick soundExtra
+extra-sound l o h = go (eqb (getD l 0 0) 15) refl
+  where
+    go : (t : Bool) → eqb (getD l 0 0) 15 ≡ t → soundExtra (pick t (some (take extraSize (drop 5 l))) none) ≡ true
+    go true e =
+        let n : 31 ≤ length l = params-second l h (eqb-true (getD l 0 0) 15 e) in
+        let d : length (drop 5 l) ≡ length l - 5 = length-drop 5 l in
+        and-both (eq-eqb (length (take extraSize (drop 5 l))) extraSize (length-take-le extraSize (drop 5 l) (omega arith)))
+        (every-take isOctet extraSize (drop 5 l) (every-drop isOctet 5 l o))
+    go false e = refl
+
+pub monitor-sound : (l : List ℕ) → every isOctet l ≡ true → paramsIn table (subOf l) ≤ length l → faultOf (monitorOf l) ≡ 0
     → soundMonitor (monitorOf l) ≡ true
 unfolding monitorOf accepts
-monitor-sound l o e =
+monitor-sound l o h e =
     stored-holds (monitorOf l) (record {
       accepted = eq-eqb (faultOf (monitorOf l)) 0 e;
       high-octet = at-octet l 1 o;
       low-octet = at-octet l 2 o;
       sampling-octet = at-octet l 4 o;
-      condition-octets = every-drop isOctet 6 l o;
+      condition-octets = every-drop isOctet (typeIn l + 1) l o;
+      extra-sound = extra-sound l o h;
     })
 
--- 03 of status 0: the monitor is accepted
-pub add-accepted : (m : Model) (l : List ℕ) → addStatus m l ≡ 0 → faultOf (monitorOf l) ≡ 0
+-- 03 and 0F of status 0: the parameters are enough, and the monitor is accepted
+pub add-accepted : (m : Model) (l : List ℕ) → addStatus m l ≡ 0 → (paramsIn table (subOf l) ≤ length l) × (faultOf (monitorOf l) ≡ 0)
 unfolding addStatus
 add-accepted m l e =
     let n : ℕ = faultOf (monitorOf l) in
-    let a = pick-none (ltb (length l) (paramsIn table 3)) invalid _ (omega arith) e in
-    by-test (eqb n 0) (λ t. eqb-true n 0 t) (λ t. sym (pick-true n _ (ap not t)) ∙ a .1)
+    let a = pick-none (ltb (length l) (paramsIn table (subOf l))) invalid _ (omega arith) e in
+    (ltb-false (length l) (paramsIn table (subOf l)) (a .0), by-test (eqb n 0) (λ t. eqb-true n 0 t) (λ t. sym (pick-true n _ (ap not t)) ∙ a .1))
 
 -- 05 of status 0: enable is 0 or 1
 pub enable-most : (m : Model) (l : List ℕ) → enableStatus m l ≡ 0 → getD l 1 0 ≤ 1
@@ -118,13 +136,17 @@ enable-most m l e =
     ltb-false 1 (getD l 1 0) (b .0)
 
 -- the status of each sub-opcode
-pub status-add : (m : Model) (l : List ℕ) → eqb (subOf l) 3 ≡ true → status m l ≡ addStatus m l
-unfolding status
-status-add m l e =
-    let n : subOf l ≡ 3 = eqb-true (subOf l) 3 e in rw n (pick-false _ _ refl ∙ pick-true _ _ refl)
+pub status-add : (m : Model) (l : List ℕ) → adds l ≡ true → status m l ≡ addStatus m l
+unfolding status adds
+status-add m l e = go (eqb (subOf l) 3) refl
+  where
+    go : (t : Bool) → eqb (subOf l) 3 ≡ t → status m l ≡ addStatus m l
+    go true h = let n : subOf l ≡ 3 = eqb-true (subOf l) 3 h in rw n (pick-false _ _ refl ∙ pick-true _ _ refl)
+    go false h =
+        let n : subOf l ≡ 15 = eqb-true (subOf l) 15 (rw h at e) in rw n (pick-false _ _ refl ∙ pick-true _ _ refl)
 
 pub status-enable : (m : Model) (l : List ℕ) → eqb (subOf l) 5 ≡ true → status m l ≡ enableStatus m l
-unfolding status
+unfolding status adds
 status-enable m l e =
     let n : subOf l ≡ 5 = eqb-true (subOf l) 5 e in
     rw n (pick-false _ _ refl ∙ pick-false _ _ refl ∙ pick-false _ _ refl ∙ pick-true _ _ refl)
@@ -162,8 +184,8 @@ module _ (m : Model) (s : Sound m) where
   pub changed-keeps : (l : List ℕ) → every isOctet l ≡ true → status m l ≡ 0 → Commanded m (changed m l)
   unfolding changed
   changed-keeps l o e =
-      pick-both (Commanded m) (eqb (subOf l) 3) (added m (monitorOf l)) _
-      (λ t. added-keeps (monitorOf l) (monitor-sound l o (add-accepted m l (sym (status-add m l t) ∙ e))))
+      pick-both (Commanded m) (adds l) (added m (monitorOf l)) _
+      (λ t. let a = add-accepted m l (sym (status-add m l t) ∙ e) in added-keeps (monitorOf l) (monitor-sound l o (a .0) (a .1)))
       (λ t. pick-both (Commanded m) (eqb (subOf l) 4) (cancelled m (getD l 1 0)) _ (λ u. cancelled-keeps (getD l 1 0))
       (λ u. pick-both (Commanded m) (eqb (subOf l) 5) (withFilter m (getD l 1 0)) m
       (λ v. with-filter (getD l 1 0) (enable-most m l (sym (status-enable m l v) ∙ e))) (λ v. same)))

@@ -19,8 +19,8 @@ use Rattle.model.specs.Level.{signed, floorOf, mean, inRange}
 use Rattle.model.specs.Levels.{wrapped-below}
 use Rattle.advert.specs.Condition.{formOf, formStatus}
 use Rattle.advert.specs.Laws.{status-below}
-use Rattle.model.specs.Monitors.{settingsGood, conditionFault, faultOf, monitorOf}
-use Rattle.model.specs.Commands.{table, paramsIn, present, subOf, readStatus, addStatus, cancelStatus, enableStatus}
+use Rattle.model.specs.Monitors.{allowed, parameters, settingsGood, conditionFault, faultOf, monitorOf}
+use Rattle.model.specs.Commands.{adds, table, paramsIn, present, subOf, readStatus, addStatus, cancelStatus, enableStatus}
 use Rattle.model.specs.Commands.{status, handleOr, newHandle, features, success, failure, returned}
 use Rattle.model.specs.Events.{complete, event, report, packetReport, scanReport, packetReports, windowReport}
 use Rattle.steps.specs.Lists.{Short, short-nil, short-cons, short-append, short-more, short-pick}
@@ -48,7 +48,7 @@ over t a b p q = pick-both (λ n. isOctet n ≡ true) t a b (λ e. p) (λ e. q)
 pub fault-octet : (m : Monitor) → isOctet (faultOf m) ≡ true
 unfolding faultOf conditionFault
 fault-octet m =
-    over (settingsGood (m .high) (m .low) (m .interval)) _ 18
+    over (settingsGood (m .high) (m .low) (m .interval) && allowed (parameters m) (m .sampling) (m .kind)) _ 18
     (over (eqb (formStatus (formOf (m .kind) (m .condition))) 0) _ _ (over (ltb mostCondition (length (m .condition))) 7 0 refl refl)
     (octet (formStatus (formOf (m .kind) (m .condition))) (status-below (formOf (m .kind) (m .condition)))))
     refl
@@ -57,8 +57,8 @@ pub status-octet : (m : Model) (l : List ℕ) → isOctet (status m l) ≡ true
 unfolding status readStatus addStatus cancelStatus enableStatus
 status-octet m l =
     over (eqb (subOf l) 0) _ _ (over (eqb (length l) (paramsIn table 0)) 0 18 refl refl)
-    (over (eqb (subOf l) 3) _ _
-    (over (ltb (length l) (paramsIn table 3)) 18 _ refl
+    (over (adds l) _ _
+    (over (ltb (length l) (paramsIn table (subOf l))) 18 _ refl
     (over (not (eqb (faultOf (monitorOf l)) 0)) _ _ (fault-octet (monitorOf l))
     (over (present (slot (m .mons) mostMonitors 0)) 0 7 refl refl)))
     (over (eqb (subOf l) 4) _ _
@@ -90,8 +90,8 @@ success-short m l s t =
     short-pick isOctet (eqb (subOf l) 0) 43 _ _
     (λ e. octets-cons 42 0 _ (omega arith)
     (octets-cons 41 0 _ (omega arith) (short-append isOctet 8 33 features _ eight tail)))
-    (λ e. short-pick isOctet (eqb (subOf l) 3) 43 _ _
-    (λ u. short-more isOctet 3 43 _ (omega arith) (octets-cons 2 0 _ (omega arith) (octets-cons 1 3 _ (omega arith)
+    (λ e. short-pick isOctet (adds l) 43 _ _
+    (λ u. short-more isOctet 3 43 _ (omega arith) (octets-cons 2 0 _ (omega arith) (short-cons isOctet 1 (subOf l) _ sub
     (short-cons isOctet 0 (newHandle m) [] (handle-octet m) (short-nil isOctet 0)))))
     (λ u. short-more isOctet 2 43 _ (omega arith) (octets-cons 1 0 _ (omega arith)
     (short-cons isOctet 0 (subOf l) [] sub (short-nil isOctet 0)))))
@@ -99,9 +99,9 @@ success-short m l s t =
 pub failure-short : (s : ℕ) (l : List ℕ) → isOctet s ≡ true → Params l → Octets 3 (failure s l)
 unfolding failure subOf
 failure-short s l e t =
-    short-pick isOctet (eqb (subOf l) 3) 3 _ _
+    short-pick isOctet (adds l) 3 _ _
     (λ u. short-cons isOctet 2 s _ e
-    (octets-cons 1 3 _ (omega arith) (octets-cons 0 0 [] (omega arith) (short-nil isOctet 0))))
+    (short-cons isOctet 1 (subOf l) _ (at-octet l 0 (t .octets)) (octets-cons 0 0 [] (omega arith) (short-nil isOctet 0))))
     (λ u. short-more isOctet 2 3 _ (omega arith) (short-cons isOctet 1 s _ e
     (short-cons isOctet 0 (subOf l) [] (at-octet l 0 (t .octets)) (short-nil isOctet 0))))
 
@@ -170,9 +170,9 @@ packet-reports-short p t =
     short-append isOctet 45 45 (packetReport p) (scanReport p (p .scan)) (packet-report-short p t)
     (scan-report-short p (p .scan) t (t .scan-short) (t .scan-octets))
 
-pub window-report-short : (q : Pair) → Fields q → Octets 45 (windowReport q)
+pub window-report-short : (q : Pair) → Fields q → q .event < 256 → Octets 45 (windowReport q)
 unfolding windowReport mean
-window-report-short q f =
-    report-short (q .event) (q .kind) (q .address) (q .adv) _ (omega (arith, f .event-most)) (f .kind-most) (f .address-six)
+window-report-short q f v =
+    report-short (q .event) (q .kind) (q .address) (q .adv) _ v (f .kind-most) (f .address-six)
     (f .address-octets) (f .adv-short) (f .adv-octets)
     (wrapped-below 256 (floorOf (signed (q .sum)) (q .packets)) (omega arith))

@@ -21,7 +21,8 @@ use Rattle.model.specs.Layout.{mostMonitors}
 pub record Started (p : Packet) (n : ℕ) (q : Pair) : Type 0 where
   pub of : ℕ
   pub below : of < n
-  pub is : q ≡ startPair of p
+  pub mon : Monitor
+  pub is : q ≡ startPair mon of p
 
 -- a turn, by its test
 pub turn-none : (p : Packet) (h : ℕ) (qs : List Pair) → turn none p h qs ≡ qs
@@ -29,7 +30,7 @@ unfolding turn
 turn-none p h qs = refl
 
 pub turn-pick : (m : Monitor) (p : Packet) (h : ℕ) (qs : List Pair)
-    → turn (some m) p h qs ≡ pick (begins m p h qs) (staysFor (p .rssi) qs ++ (startPair h p ∷ [])) qs
+    → turn (some m) p h qs ≡ pick (begins m p h qs) (staysFor (p .rssi) qs ++ (startPair m h p ∷ [])) qs
 unfolding turn
 turn-pick m p h qs = refl
 
@@ -44,8 +45,8 @@ unfolding startOf when
 start-below none p n qs = (omega arith, tt)
 start-below (some m) p n qs = go (begins m p n qs)
   where
-    go : (t : Bool) → (length (when t (startPair n p ∷ [])) ≤ 1) × All (Started p (suc n)) (when t (startPair n p ∷ []))
-    go true = (omega arith, (record { of = n; below = omega arith; is = refl }, tt))
+    go : (t : Bool) → (length (when t (startPair m n p ∷ [])) ≤ 1) × All (Started p (suc n)) (when t (startPair m n p ∷ []))
+    go true = (omega arith, (record { of = n; below = omega arith; mon = m; is = refl }, tt))
     go false = (omega arith, tt)
 
 pub starts-below : (mons : List (ℕ × Monitor)) (p : Packet) (n : ℕ) (qs : List Pair) → Below p n (startsBelow mons p n qs)
@@ -62,7 +63,7 @@ starts-below mons p (suc n) qs =
     }
   where
     up : (q : Pair) → Started p n q → Started p (suc n) q
-    up q s = record { of = s .of; below = omega (arith, s .below); is = s .is }
+    up q s = record { of = s .of; below = omega (arith, s .below); mon = s .mon; is = s .is }
 
 -- the starts of a packet
 pub packet-starts : (m : Model) (p : Packet) → Below p mostMonitors (startsOf m p)

@@ -16,7 +16,7 @@ use Rattle.rule.specs.Finds.{find-all}
 use Rattle.model.specs.Types.{Model, Monitor, Packet, Pair, deviceOf, watched}
 use Rattle.model.specs.Accepted.{accepts-run}
 use Rattle.model.specs.Monitors.{runOf, matches, strong}
-use Rattle.model.specs.Watch.{atPacket, packetMove, atTick, holds, fits, staysFor, begins, startPair, turn, turns, packetPairs}
+use Rattle.model.specs.Watch.{atPacket, packetMove, atTick, holds, fits, staysFor, begins, startLike, startPair, turn, turns, packetPairs}
 use Rattle.model.specs.Watch.{tickPairs}
 use Rattle.steps.specs.Lists.{map-each, all-weaken}
 use Rattle.steps.specs.Facts.{stored-of}
@@ -24,8 +24,8 @@ use Rattle.steps.specs.Whole.{Row, key, in-holds, Kept, Held, Pairs, Mon
 use Rattle.steps.specs.Typed.{pick-both, Sent}
 use Rattle.steps.specs.Starts.{turn-none, turn-pick}
 use Rattle.steps.specs.Drops.{stays-fewer, stays-all, stays-once, stays-in}
-use Rattle.steps.specs.Moves.{packet-key, Ticked, ticked, tick-key, kept-later, kept-packet, kept-tick}
-use Rattle.steps.specs.Moves.{kept-start}
+use Rattle.steps.specs.Moves.{packet-key, Ticked, ticked, tick-key}
+use Rattle.steps.specs.Stays.{kept-later, kept-packet, kept-tick, kept-start}
 use Rattle.model.specs.Layout.{mostMonitors}
 
 -- the run of a monitor that is held has ticks
@@ -96,11 +96,11 @@ held-packet k mons p q s t h w =
 
 -- What a start tells: the pair is not held, and there is room, or a pair that goes.
 pub record Begins (p : Packet) (h : ℕ) (qs : List Pair) : Type 0 where
-  pub new : In (key (startPair h p)) (map key qs) → ⊥
+  pub new : In (h, deviceOf p) (map key qs) → ⊥
   pub fit : fits (p .rssi) qs ≡ true
 
 pub begins-tells : (m : Monitor) (p : Packet) (h : ℕ) (qs : List Pair) → begins m p h qs ≡ true → Begins p h qs
-unfolding begins startPair watched deviceOf
+unfolding begins watched deviceOf
 begins-tells m p h qs e =
     let d : List ℕ = deviceOf p in
     let f : Bool = fits (p .rssi) qs in
@@ -112,28 +112,28 @@ begins-tells m p h qs e =
 -- one handle's turn
 pub turn-pairs : (k : ℕ) (mons : List (ℕ × Monitor)) (p : Packet) (h : ℕ) (qs : List Pair) → Monitors mons → Sent p
     → Pairs k mons qs → Pairs k mons (turn (find mons h) p h qs)
-unfolding startPair
+unfolding startPair startLike watched deviceOf
 turn-pairs k mons p h qs s t w = go (find mons h) refl
   where
     l : List Pair
     l = staysFor (p .rssi) qs
 
-    started : (n : Monitor) → find mons h ≡ some n → Begins p h qs → Pairs k mons (l ++ (startPair h p ∷ []))
+    started : (n : Monitor) → find mons h ≡ some n → Begins p h qs → Pairs k mons (l ++ (startPair n h p ∷ []))
     started n e b =
-        let new : Held k mons (startPair h p) =
+        let new : Held k mons (startPair n h p) =
         record { mon = n; live = e; kept = kept-start n k h p (live-run mons h n s e) t } in
         record {
-          room = rw (length-append l (startPair h p ∷ [])) (omega (arith, stays-fewer (p .rssi) qs (w .room) (b .fit)));
-          once = rw (map-append key l (startPair h p ∷ []))
-              (distinct-snoc (map key l) (key (startPair h p)) (stays-once (p .rssi) qs (w .once))
-              (λ i. b .new (stays-in (p .rssi) qs (key (startPair h p)) i)));
-          held = all-append (Held k mons) l (startPair h p ∷ []) (stays-all (Held k mons) (p .rssi) qs (w .held)) (new, tt);
+          room = rw (length-append l (startPair n h p ∷ [])) (omega (arith, stays-fewer (p .rssi) qs (w .room) (b .fit)));
+          once = rw (map-append key l (startPair n h p ∷ []))
+              (distinct-snoc (map key l) (key (startPair n h p)) (stays-once (p .rssi) qs (w .once))
+              (λ i. b .new (stays-in (p .rssi) qs (key (startPair n h p)) i)));
+          held = all-append (Held k mons) l (startPair n h p ∷ []) (stays-all (Held k mons) (p .rssi) qs (w .held)) (new, tt);
         }
 
     go : (o : Option Monitor) → find mons h ≡ o → Pairs k mons (turn o p h qs)
     go none e = subst (Pairs k mons) (sym (turn-none p h qs)) w
     go (some n) e =
-        subst (Pairs k mons) (sym (turn-pick n p h qs)) (pick-both (Pairs k mons) (begins n p h qs) (l ++ (startPair h p ∷ [])) qs
+        subst (Pairs k mons) (sym (turn-pick n p h qs)) (pick-both (Pairs k mons) (begins n p h qs) (l ++ (startPair n h p ∷ [])) qs
         (λ b. started n e (begins-tells n p h qs b)) (λ b. w))
 
 pub turns-pairs : (k : ℕ) (mons : List (ℕ × Monitor)) (p : Packet) (n : ℕ) (qs : List Pair) → Monitors mons → Sent p

@@ -116,7 +116,7 @@ pub record Kept (position : ℕ) (m : Monitor) (q : Pair) : Type 0 where
   pub fields : soundFields q ≡ true
   pub silent-below : q .silent < runOf m
   pub window : soundWindow position m q ≡ true
-  pub empty : soundEmpty q ≡ true
+  pub empty : soundEmpty m q ≡ true
 
 -- a pair "of live handles"
 pub record Held (position : ℕ) (mons : List (ℕ × Monitor)) (q : Pair) : Type 0 where
@@ -133,7 +133,7 @@ held-of m q e = go (find (m .mons) (q .handle)) refl e
     go none w u = absurd (false≢true u)
     go (some n) w u =
         let r =
-        and-four (soundFields q) (ltb (q .silent) (runOf n)) (soundWindow (m .position) n q) (soundEmpty q) u in
+        and-four (soundFields q) (ltb (q .silent) (runOf n)) (soundWindow (m .position) n q) (soundEmpty n q) u in
         let k : Kept (m .position) n q =
         record { fields = r .0; silent-below = ltb-true (q .silent) (runOf n) (r .1); window = r .2; empty = r .3 } in
         record { mon = n; live = w; kept = k }

@@ -2,22 +2,25 @@
 -- Document 01,
 -- Watching, by history (Tick), The image. Assumes nothing.
 use Prim.Native.Nat.{ℕ, zero, suc, _+_, _-_, _*_, _≤_, _<_}
-use mathlib.Core.Path.{_≡_, refl, sym, ap, _∙_}
+use mathlib.Core.Path.{_≡_, refl, sym, ap, ap₂, _∙_}
 use mathlib.Core.Bool.{true}
 use mathlib.Core.List.{List, [], _∷_}
 use mathlib.Core.Option.{Option, none, some}
 use native.Mathlib.Omega.{arith}
+use lib.Dec.{eqb}
 use lib.ListN.{length, take, drop, getD, set, length-append, length-set, List·getD-append}
 use lib.Seq.{getD-at, getD-take, getD-drop, take-take}
 use borrow.Rule.Slice.PartMut.{putMid}
 use Rattle.laws.specs.Put.{put, set-put, length-put}
-use Rattle.laws.specs.Tests.{cases-le}
+use Rattle.laws.specs.Tests.{pick, cases-le}
 use Rattle.laws.specs.Loops.{upTo}
 use Rattle.laws.specs.Rows.{getD-row}
 use Rattle.rule.specs.Base.{All, each-length}
 use Rattle.rule.specs.Engine.{find}
+use Rattle.rule.specs.Finds.{find-all}
 use Rattle.sessions.specs.Machine.{lastNumber}
 use Rattle.model.specs.Types.{Model, Monitor, Pair, withLists, moved}
+use Rattle.model.specs.Monitors.{filtering, parameters}
 use Rattle.model.specs.Image.{monitorRow}
 use Rattle.model.specs.Watch.{tickPairs, tickAnswer}
 use Rattle.model.specs.Frames.{tick}
@@ -27,7 +30,9 @@ use Rattle.model.specs.Block.{padTo, pairBlock, padded, monitorPlace, advanced}
 use Rattle.steps.specs.Stepped.{Stepped}
 use Rattle.steps.specs.Keeps.{step-sound}
 use Rattle.steps.specs.Whole.{sound-of, sound-holds}
-use Rattle.blocks.specs.Facts.{sound-facts}
+use Rattle.blocks.specs.Facts.{SoundMonitor, SoundModel, sound-facts}
+use Rattle.blocks.specs.Monitors.{monitorIn-some}
+use Rattle.blocks.specs.Added.{filteringOf, row-filtering}
 use Rattle.blocks.specs.Bounds.{Fits, pairs-fit}
 use Rattle.blocks.specs.Pairs.{length-pairBlock}
 use Rattle.blocks.specs.Block.{Measured, measured, take-pairs, getD-count, row-monitors, read-filter, read-count}
@@ -35,28 +40,27 @@ use Rattle.blocks.specs.Block.{read-prefix}
 use Rattle.blocks.specs.Block.{length-padded}
 use Rattle.blocks.specs.Updates.{put-lists, advanced-moved}
 use Rattle.ticks.specs.Row.{keptAt, toldAt}
-use Rattle.ticks.specs.Table.{Cleared, columnOf}
+use Rattle.ticks.specs.Table.{Cleared, columnBy, columnOf, filterBy, filterIn}
 use Rattle.ticks.specs.Written.{mid-put}
-use Rattle.ticks.specs.Pairs.{intervalOf, samplingOf}
+use Rattle.ticks.specs.Pairs.{intervalOf, samplingOf, filteringIn, filterOf}
 use Rattle.ticks.specs.Whole.{told-all, cleared-table, movePair}
-use Rattle.model.specs.Layout.{blockSize, countAt, filterAt, headSize, intervalAt, intervalsAt, monitorSize, monitorsAt, mostMonitors, mostPairs, mostPrefix, pairsAt, pairsSize, periodsAt, positionAt, prefixAt, prefixLengthAt, samplingAt}
+use Rattle.model.specs.Layout.{blockSize, countAt, extraAt, filterAt, headSize, intervalAt, intervalsAt, monitorSize, monitorsAt, mostMonitors, mostPairs, mostPrefix, pairsAt, pairsSize, periodsAt, prefixAt, prefixLengthAt, samplingAt}
 
 -- an octet of a column
-length-column : (s : List ℕ) (at n : ℕ) → length (columnOf s at n) ≡ n
-unfolding columnOf upTo
-length-column s at zero = refl
-length-column s at (suc n) =
-    let h : length (columnOf s at n) ≡ n = length-column s at n in
-    length-append (columnOf s at n) (getD s (at + monitorSize * n) 0 ∷ []) ∙ omega arith
+length-column : (f : ℕ → ℕ) (n : ℕ) → length (columnBy f n) ≡ n
+unfolding columnBy upTo
+length-column f zero = refl
+length-column f (suc n) =
+    let h : length (columnBy f n) ≡ n = length-column f n in length-append (columnBy f n) (f n ∷ []) ∙ omega arith
 
-column-at : (s : List ℕ) (at n h : ℕ) → h < n → getD (columnOf s at n) h 0 ≡ getD s (at + monitorSize * h) 0
-unfolding columnOf upTo
-column-at s at zero h b = absurd (omega arith)
-column-at s at (suc n) h b =
-    let l : length (columnOf s at n) ≡ n = length-column s at n in
+column-at : (f : ℕ → ℕ) (n h : ℕ) → h < n → getD (columnBy f n) h 0 ≡ f h
+unfolding columnBy upTo
+column-at f zero h b = absurd (omega arith)
+column-at f (suc n) h b =
+    let l : length (columnBy f n) ≡ n = length-column f n in
     cases-le n h
-    (λ k. let e : h ≡ n = omega arith in rw e (getD-at (columnOf s at n) (getD s (at + monitorSize * n) 0) [] 0 n l))
-    (λ k. List·getD-append (columnOf s at n) (getD s (at + monitorSize * n) 0 ∷ []) 0 h (omega arith) ∙ column-at s at n h k)
+    (λ k. let e : h ≡ n = omega arith in rw e (getD-at (columnBy f n) (f n) [] 0 n l))
+    (λ k. List·getD-append (columnBy f n) (f n ∷ []) 0 h (omega arith) ∙ column-at f n h k)
 
 -- the octets 3 and 4 of a handle's row: the interval and the sampling of its monitor
 place-interval : (h : ℕ) (o : Option Monitor) → getD (monitorPlace h o) intervalAt 0 ≡ intervalOf o
@@ -69,6 +73,19 @@ unfolding monitorPlace padTo monitorRow samplingOf
 place-sampling h none = refl
 place-sampling h (some m) = refl
 
+none-filtering : (h : ℕ) → filteringOf (getD (monitorPlace h none) extraAt 0) (getD (monitorPlace h none) (extraAt + 1) 0) ≡ 6
+unfolding monitorPlace filteringOf pick
+none-filtering h = refl
+
+-- and the report filtering of its monitor
+place-filtering : (h : ℕ) (o : Option Monitor) → ((m : Monitor) → o ≡ some m → SoundMonitor m)
+    → filteringOf (getD (monitorPlace h o) extraAt 0) (getD (monitorPlace h o) (extraAt + 1) 0) ≡ filteringIn o
+unfolding filteringIn
+place-filtering h none s = none-filtering h
+place-filtering h (some m) s =
+    sym (row-filtering (monitorPlace h (some m)))
+    ∙ ap (λ (x : ℕ × Monitor). filtering (parameters (x .1))) (monitorIn-some h m (s m refl))
+
 module _ (m : Model) (f : Measured m) where
   octet-at : (k h : ℕ) → k < monitorSize → h < mostMonitors → getD (padded m) (monitorsAt + k + monitorSize * h) 0 ≡ getD
       (monitorPlace h (find (m .mons) h)) k 0
@@ -78,11 +95,23 @@ module _ (m : Model) (f : Measured m) where
       ∙ sym (getD-row monitorSize h k (drop monitorsAt (padded m)) 0 a) ∙ ap (λ (l : List ℕ). getD l k 0) (row-monitors m f h b)
 
   intervals-are : (h : ℕ) → h < mostMonitors → getD (columnOf (padded m) intervalsAt mostMonitors) h 0 ≡ intervalOf (find (m .mons) h)
-  intervals-are h b = column-at (padded m) intervalsAt mostMonitors h b ∙ octet-at 3 h (omega arith) b
+  intervals-are h b = column-at (λ j. getD (padded m) (intervalsAt + monitorSize * j) 0) mostMonitors h b ∙ octet-at 3 h (omega arith) b
       ∙ place-interval h (find (m .mons) h)
 
   periods-are : (h : ℕ) → h < mostMonitors → getD (columnOf (padded m) periodsAt mostMonitors) h 0 ≡ samplingOf (find (m .mons) h)
-  periods-are h b = column-at (padded m) periodsAt mostMonitors h b ∙ octet-at 4 h (omega arith) b ∙ place-sampling h (find (m .mons) h)
+  periods-are h b = column-at (λ j. getD (padded m) (periodsAt + monitorSize * j) 0) mostMonitors h b ∙ octet-at 4 h (omega arith) b ∙ place-sampling h (find (m .mons) h)
+
+  filters-are : SoundModel m → (filter h : ℕ) → h < mostMonitors
+      → getD (columnBy (filterIn (padded m) filter) mostMonitors) h 0 ≡ filterOf filter (find (m .mons) h)
+  unfolding filterIn filterBy filterOf
+  filters-are s filter h b =
+      let x : monitorsAt + monitorSize * h + extraAt ≡ monitorsAt + extraAt + monitorSize * h = omega arith in
+      let y : monitorsAt + monitorSize * h + (extraAt + 1) ≡ monitorsAt + (extraAt + 1) + monitorSize * h = omega arith in
+      column-at (filterIn (padded m) filter) mostMonitors h b
+      ∙ ap (λ (n : ℕ). pick (eqb filter 1) n 0)
+      (ap₂ filteringOf (ap (λ (i : ℕ). getD (padded m) i 0) x ∙ octet-at extraAt h (omega arith) b)
+      (ap (λ (i : ℕ). getD (padded m) i 0) y ∙ octet-at (extraAt + 1) h (omega arith) b)
+      ∙ place-filtering h (find (m .mons) h) (λ n e. find-all (λ z. SoundMonitor (z .1)) (m .mons) h n (s .mons-sound .monitors) e))
 
 -- the pairs after a tick fit their rows
 ticks-fit : (m : Model) → soundModel m ≡ true → m .position < lastNumber → All Fits (tickPairs m)
@@ -132,15 +161,16 @@ written-block m f qs a h p {t} {x} {k} et ek ex =
 
 -- a tick, from what was read of the block and what the pass over its pairs left
 pub ticked : (s out : List ℕ) (m : Model) → soundModel m ≡ true → s ≡ padded m → m .position < lastNumber
-    → {head intervals periods t x o : List ℕ} {n e k w : ℕ}
+    → {head intervals periods filters t x o : List ℕ} {n e k w : ℕ}
     → head ≡ take headSize s → intervals ≡ columnOf s intervalsAt mostMonitors → periods ≡ columnOf s periodsAt mostMonitors
+    → filters ≡ columnBy (filterIn s (getD head filterAt 0)) mostMonitors
     → (getD s countAt 0 ≤ mostPairs → n ≡ getD s countAt 0) → (getD head prefixLengthAt 0 ≤ mostPrefix → e ≡ getD head prefixLengthAt 0)
     → Cleared (take pairsSize (drop pairsAt s)) t out o k w (keptAt intervals periods (take pairsSize (drop pairsAt s)))
-    (toldAt intervals periods (getD head filterAt 0) (take (8 + e - 8) (drop prefixAt head)) (take pairsSize (drop pairsAt s))) n
+    (toldAt intervals periods filters (take (8 + e - 8) (drop prefixAt head)) (take pairsSize (drop pairsAt s))) n
     → x ≡ advanced (set (putMid pairsAt pairsSize s t) countAt k)
     → Stepped m tick x out o w
 unfolding stepTyped answerTyped tickAnswer tickPairs
-ticked s out m z q h {head} {intervals} {periods} {t} {x} {o} {n} {e} {k} {w} eh ei ep en ee c ex =
+ticked s out m z q h {head} {intervals} {periods} {filters} {t} {x} {o} {n} {e} {k} {w} eh ei ep ef en ee c ex =
     let f : Measured m = measured m z in
     let hd : head ≡ take headSize (padded m) = rw q at eh in
     let iv : intervals ≡ columnOf (padded m) intervalsAt mostMonitors = rw q at ei in
@@ -154,14 +184,17 @@ ticked s out m z q h {head} {intervals} {periods} {t} {x} {o} {n} {e} {k} {w} eh
     let pr : take (8 + e - 8) (drop prefixAt head) ≡ m .prefix = rw (ne, hd) (head-prefix m (f .prefix-most)) in
     let pb : take pairsSize (drop pairsAt s) ≡ pairBlock (m .pairs) = rw q (take-pairs m f) in
     let d : Cleared (pairBlock (m .pairs)) t out o k w (keptAt intervals periods (pairBlock (m .pairs)))
-    (toldAt intervals periods (m .filter) (m .prefix) (pairBlock (m .pairs))) (length (m .pairs)) =
-    rw (pb, fl, pr, nn) at c in
+    (toldAt intervals periods filters (m .prefix) (pairBlock (m .pairs))) (length (m .pairs)) =
+    rw (pb, pr, nn) at c in
     let is : (j : ℕ) → j < mostMonitors → getD intervals j 0 ≡ intervalOf (find (m .mons) j) =
     λ j l. rw iv (intervals-are m f j l) in
     let ps : (j : ℕ) → j < mostMonitors → getD periods j 0 ≡ samplingOf (find (m .mons) j) = λ j l. rw pe (periods-are m f j l) in
+    let fe : filters ≡ columnBy (filterIn (padded m) (m .filter)) mostMonitors = rw (q, fl) at ef in
+    let fs : (j : ℕ) → j < mostMonitors → getD filters j 0 ≡ filterOf (m .filter) (find (m .mons) j) =
+    λ j l. rw fe (filters-are m f (sound-facts m z) (m .filter) j l) in
     let a : All Fits (tickPairs m) = ticks-fit m z h in
     let u = cleared-table (m .mons) intervals periods is ps (m .pairs) (f .fit) (f .pairs-most) _ a d in
-    let g = told-all (m .mons) intervals periods is ps (m .pairs) (f .fit) (f .pairs-most) (m .filter) (m .prefix) in
+    let g = told-all (m .mons) intervals periods is ps (m .pairs) (f .fit) (f .pairs-most) (m .filter) filters (m .prefix) fs in
     let l : length s ≡ blockSize = rw q (length-padded m f) in
     let vp : m .position < 4294967296 = omega (arith, sound-facts m z .position-most) in
     let y : length (tickPairs m) ≤ mostPairs = omega (arith, f .pairs-most, each-length (movePair (m .mons)) (m .pairs)) in

@@ -1,12 +1,12 @@
 -- A tick on the rows of pairs is the model's tick on the pairs. Document 01, Watching, by history (Tick). Assumes
 -- nothing.
-use Prim.Native.Nat.{ℕ, suc, _+_, _-_, _*_, zero-le}
+use Prim.Native.Nat.{ℕ, suc, _+_, _*_, zero-le}
 use mathlib.Core.Path.{_≡_, refl, sym, ap, _∙_}
 use mathlib.Core.Bool.{Bool, true, false, _&&_, not}
 use mathlib.Core.List.{List, [], _∷_, _++_, append-nil, map}
 use mathlib.Core.Option.{Option, none, some}
-use lib.Dec.{leb, ltb}
-use lib.ListN.{length, take, drop, getD, replicate}
+use lib.Dec.{leb, ltb, eqb}
+use lib.ListN.{length, take, drop, getD}
 use borrow.Author.Tests.{le-ltb, le-leb}
 use Rattle.laws.specs.Put.{put}
 use Rattle.laws.specs.Tests.{pick}
@@ -16,7 +16,7 @@ use Rattle.octets.specs.Little.{little}
 use Rattle.rule.specs.Base.{push}
 use Rattle.model.specs.Types.{Monitor, Pair, ticksOf}
 use Rattle.model.specs.Image.{pairRow, pairIn}
-use Rattle.model.specs.Monitors.{runOf, windowed}
+use Rattle.model.specs.Monitors.{allows, bit, filtering, letsThrough, parameters, runOf, windowed}
 use Rattle.model.specs.Watch.{withSilent, withTicks, emptied, goesOn as goesOnPair, closes, windowTick, atTick}
 use Rattle.model.specs.Watch.{windowSays, tickOctets}
 use Rattle.model.specs.Events.{event, stopEvent, windowReport}
@@ -40,6 +40,26 @@ intervalOf (some m) = m .interval
 unfoldable pub samplingOf : Option Monitor → ℕ
 samplingOf none = 0
 samplingOf (some m) = m .sampling
+
+-- the report filtering of a monitor, where the filter is on; else 0. A row without a monitor reads as one of version 1
+unfoldable pub filteringIn : Option Monitor → ℕ
+filteringIn none = 6
+filteringIn (some m) = filtering (parameters m)
+
+unfoldable pub filterOf : ℕ → Option Monitor → ℕ
+filterOf filter o = pick (eqb filter 1) (filteringIn o) 0
+
+-- report filtering 0 lets nothing through
+through : (t : Bool) (bits event : ℕ) → letsThrough (pick t bits 0) event ≡ (t && letsThrough bits event)
+unfolding letsThrough bit pick
+through true bits event = refl
+through false bits event = refl
+
+shuffle : (t a b l : Bool) → (a && (b && (t && l))) ≡ (t && (a && (b && l)))
+shuffle true a b l = refl
+shuffle false true true l = refl
+shuffle false true false l = refl
+shuffle false false b l = refl
 
 and-same : (t : Bool) → (t && true) ≡ t
 and-same true = refl
@@ -131,21 +151,26 @@ module _ (q : Pair) (f : Fits q) where
       rw (place-event, place-device, place-adv, place-sum, place-packets)
       (report-device (q .event) (q .kind) (q .address) (q .adv) (mean (q .sum) (q .packets)))
 
-  pub place-told : (o : Option Monitor) (filter : ℕ) (prefix : List ℕ)
-      → toldRow (ticksOf (intervalOf o)) (samplingOf o) filter prefix
+  pub place-told : (o : Option Monitor) (filter : ℕ) (filters prefix : List ℕ) → getD filters (q .handle) 0 ≡ filterOf filter o
+      → toldRow (ticksOf (intervalOf o)) (samplingOf o) filters prefix
       (padTo pairSize (pairRow q)) ≡ tickOctets filter prefix o q
   unfolding toldRow toldOn saysRow goesOn intervalOf samplingOf closesAt windowedBy tickOctets goesOnPair windowSays closes windowed
-      runOf ticksOf stopEvent when pick
-  place-told none filter prefix =
+      runOf ticksOf stopEvent allows filterOf filteringIn when pick
+  place-told none filter filters prefix e =
       rw (le-ltb (little 2 (padTo pairSize (pairRow q)) silentAt + 1) 0 zero-le) (event-pair prefix q 0 (f .address-length))
-  place-told (some m) filter prefix =
+  place-told (some m) filter filters prefix e =
       rw (
         place-silent,
         place-ticks,
         place-packets,
         place-count,
+        place-handle,
+        place-event,
+        e,
         le-leb (length (q .adv)) mostData (f .adv-most),
-        and-same (leb 1 (q .packets)),
+        through (eqb filter 1) (filtering (parameters m)) (q .event),
+        shuffle (eqb filter 1) (leb 1 (m .sampling) && leb (m .sampling) 254 && leb (m .sampling) (q .ticks + 1)) (leb 1 (q .packets))
+            (letsThrough (filtering (parameters m)) (q .event)),
         place-report,
         event-pair prefix q 0 (f .address-length),
       )

@@ -4,7 +4,7 @@
 use Prim.Native.Nat.{ℕ, _+_}
 use mathlib.Core.Bool.{Bool, _&&_, not}
 use mathlib.Core.List.{List, [], _∷_, _++_}
-use lib.Dec.{leb, ltb, eqb}
+use lib.Dec.{leb, ltb}
 use lib.ListN.{take, drop, getD, replicate}
 use Rattle.laws.specs.Put.{put}
 use Rattle.laws.specs.Tests.{pick}
@@ -13,6 +13,7 @@ use Rattle.laws.specs.Rows.{row}
 use Rattle.octets.specs.Little.{little, octetsOf}
 use Rattle.model.specs.Types.{ticksOf}
 use Rattle.model.specs.Level.{mean}
+use Rattle.model.specs.Monitors.{letsThrough}
 use Rattle.events.specs.Octets.{eventOctets, reportOctets}
 use Rattle.model.specs.Layout.{dataAt, eventAt, handleAt, lengthAt, mostData, packetsAt, pairSize, silentAt, sumAt, ticksAt, countsSize, latestSize}
 
@@ -52,19 +53,20 @@ reportRow r =
     reportOctets (getD r eventAt 0) (take 7 (drop 1 r)) (take (getD r lengthAt 0) (drop dataAt r))
     (mean (little 8 r sumAt) (little 4 r packetsAt))
 
--- "if the filter is on and the window had matching packets", of a pair that stays; a row with more data than 31
--- octets says nothing
-unfoldable pub saysRow : Bool → ℕ → ℕ → List ℕ → Bool
-saysRow on period filter r =
-    on && (eqb filter 1 && (closesAt period (getD r ticksAt 0) && (leb 1 (little 4 r packetsAt) && leb (getD r lengthAt 0) mostData)))
+-- "if the filter is on and the window had matching packets", of a pair that stays, and the report filtering of its monitor lets the
+-- latest packet through: it stands by handle, 0 where the filter is off; a row with more data than 31 octets says nothing
+unfoldable pub saysRow : Bool → ℕ → List ℕ → List ℕ → Bool
+saysRow on period filters r =
+    on && (closesAt period (getD r ticksAt 0) && (leb 1 (little 4 r packetsAt)
+    && (leb (getD r lengthAt 0) mostData && letsThrough (getD filters (getD r handleAt 0) 0) (getD r eventAt 0))))
 
 -- "if the watch ends, a stop event and no report. Otherwise .. one report"
-unfoldable pub toldOn : Bool → ℕ → ℕ → List ℕ → List ℕ → List ℕ
-toldOn on period filter prefix r = when (saysRow on period filter r) (reportRow r) ++ when (not on)
+unfoldable pub toldOn : Bool → ℕ → List ℕ → List ℕ → List ℕ → List ℕ
+toldOn on period filters prefix r = when (saysRow on period filters r) (reportRow r) ++ when (not on)
     (eventOctets prefix r 0)
 
-unfoldable pub toldRow : ℕ → ℕ → ℕ → List ℕ → List ℕ → List ℕ
-toldRow run period filter prefix r = toldOn (goesOn run r) period filter prefix r
+unfoldable pub toldRow : ℕ → ℕ → List ℕ → List ℕ → List ℕ → List ℕ
+toldRow run period filters prefix r = toldOn (goesOn run r) period filters prefix r
 
 -- a row's run and period, from the intervals and periods by handle; 0 where there are none
 unfoldable pub runIn : List ℕ → List ℕ → ℕ
@@ -79,7 +81,7 @@ keptAt intervals periods t j =
     keptRow (runIn intervals (row pairSize j t)) (periodIn periods (row pairSize j t))
     (row pairSize j t)
 
-unfoldable pub toldAt : List ℕ → List ℕ → ℕ → List ℕ → List ℕ → ℕ → List ℕ
-toldAt intervals periods filter prefix t j =
-    toldRow (runIn intervals (row pairSize j t)) (periodIn periods (row pairSize j t)) filter prefix
+unfoldable pub toldAt : List ℕ → List ℕ → List ℕ → List ℕ → List ℕ → ℕ → List ℕ
+toldAt intervals periods filters prefix t j =
+    toldRow (runIn intervals (row pairSize j t)) (periodIn periods (row pairSize j t)) filters prefix
     (row pairSize j t)

@@ -7,22 +7,24 @@ use mathlib.Core.Bool.{Bool, true, false, _&&_}
 use mathlib.Core.List.{List, [], _∷_, _++_}
 use native.Mathlib.Omega.{arith}
 use native.Mathlib.Nat.{zero-add}
-use lib.Dec.{leb, ltb}
+use lib.Dec.{leb, ltb, eqb}
 use lib.ListN.{length, take, drop, getD, set, replicate, length-append}
 use native.Mathlib.Numerals.{add-one}
 use lib.Seq.{drop-drop, take-suc-set, take-all}
 use borrow.Rule.Slice.PartMut.{putMid}
-use borrow.Author.Tests.{ltb-true, le-leb}
+use borrow.Author.Tests.{ltb-true, le-leb, eq-eqb, ne-eqb}
+use Rattle.laws.specs.Tests.{pick, pick-true, pick-false}
 use Rattle.laws.specs.Put.{put, putIf, put-nil, put-of, put-then, take-put, drop-after-put}
 use Rattle.laws.specs.Loops.{when-true, when-false, upTo, upTo-more}
 use Rattle.laws.specs.Rows.{row, length-row, getD-row, put-whole}
 use Rattle.octets.specs.Little.{little, little-row}
 use Rattle.octets.specs.Numbers.{numberAt, number-of}
 use Rattle.model.specs.Types.{ticksOf}
+use Rattle.blocks.specs.Added.{filteringOf}
 use Rattle.ticks.specs.Row.{goesOn, tickedRow, keptRow, toldOn, toldRow, runIn, periodIn, keptAt, toldAt}
 use Rattle.ticks.specs.Written.{Appended, put-over, put-same, mid-put, length-ticked, length-told}
 use Rattle.model.specs.Layout.{reportMost}
-use Rattle.model.specs.Layout.{handleAt, monitorSize, mostMonitors, mostPairs, mostPrefix, pairSize, pairsSize, silentAt}
+use Rattle.model.specs.Layout.{extraAt, handleAt, monitorSize, monitorsAt, mostMonitors, mostPairs, mostPrefix, pairSize, pairsSize, silentAt}
 
 -- what one row's turn leaves: K the octets of the rows kept, T the octets written
 pub record Turned (t₀ t out₀ out : List ℕ) (kept at k n : ℕ) (K T : List ℕ) : Type 0 where
@@ -88,13 +90,13 @@ module _ (to from period : ℕ) (t : List ℕ) (h : to ≤ from) (b : from < mos
       ∙ rw (w, q) (put-over t (pairSize * to) (row pairSize from t) (tickedRow period (row pairSize from t)) (omega arith) (omega arith))
 
 -- one row's turn, from what was read of the row and of the tables
-module _ (intervals periods : List ℕ) (filter : ℕ) (prefix t out : List ℕ) (i kept at : ℕ) (hp : length prefix ≤ mostPrefix)
+module _ (intervals periods filters prefix t out : List ℕ) (i kept at : ℕ) (hp : length prefix ≤ mostPrefix)
     (hi : i < mostPairs)
     (hl : length t ≡ pairsSize) {low run period silent w : ℕ} {on : Bool} {m : List ℕ}
     (e1 : low ≡ getD intervals (getD t (pairSize * i) 0) 0) (e2 : run ≡ ticksOf low)
     (e3 : period ≡ getD periods (getD t (pairSize * i) 0) 0) (e4 : silent ≡ numberAt 2 t (pairSize * i + 8))
     (e5 : on ≡ ltb (silent + 1) run)
-    (e6 : Appended out m at w (toldOn on period filter prefix (take (pairSize * i + pairSize - pairSize * i) (drop (pairSize * i) t)))) where
+    (e6 : Appended out m at w (toldOn on period filters prefix (take (pairSize * i + pairSize - pairSize * i) (drop (pairSize * i) t)))) where
   part-row : take (pairSize * i + pairSize - pairSize * i) (drop (pairSize * i) t) ≡ row pairSize i t
   unfolding row
   part-row = let k : pairSize * i + pairSize - pairSize * i ≡ pairSize = omega arith in ap (λ (n : ℕ). take n (drop (pairSize * i) t)) k
@@ -117,18 +119,18 @@ module _ (intervals periods : List ℕ) (filter : ℕ) (prefix t out : List ℕ)
   unfolding goesOn
   on-is = e5 ∙ rw (silent-is, run-is)
 
-  told-is : toldOn on period filter prefix (take (pairSize * i + pairSize - pairSize * i) (drop (pairSize * i) t))
-      ≡ toldAt intervals periods filter prefix t i
+  told-is : toldOn on period filters prefix (take (pairSize * i + pairSize - pairSize * i) (drop (pairSize * i) t))
+      ≡ toldAt intervals periods filters prefix t i
   unfolding toldAt toldRow
   told-is = rw (part-row, on-is, period-is)
 
-  told : Appended out m at w (toldAt intervals periods filter prefix t i)
+  told : Appended out m at w (toldAt intervals periods filters prefix t i)
   told = rw told-is at e6
 
   pub turn-room : w ≤ reportMost
   turn-room =
       let n : length (row pairSize i t) ≡ pairSize = length-of i t hi hl in
-      rw (e6 .count, part-row) (length-told on period filter prefix (row pairSize i t) n hp)
+      rw (e6 .count, part-row) (length-told on period filters prefix (row pairSize i t) n hp)
 
   -- a row that stays is one tick from its run at most
   pub silent-most : on ≡ true → run ≤ 65535 → little 2 (row pairSize i t) silentAt < 65535
@@ -139,7 +141,7 @@ module _ (intervals periods : List ℕ) (filter : ℕ) (prefix t out : List ℕ)
 
   pub turn-stays : {l : List ℕ} → on ≡ true → l ≡ put t (pairSize * kept) (tickedRow period (row pairSize i t))
       → Turned t l out m kept at (kept + 1) (at + w) (keptAt intervals periods t i)
-      (toldAt intervals periods filter prefix t i)
+      (toldAt intervals periods filters prefix t i)
   unfolding keptAt keptRow
   turn-stays {l} e q =
       let n : length (row pairSize i t) ≡ pairSize = length-of i t hi hl in
@@ -159,7 +161,7 @@ module _ (intervals periods : List ℕ) (filter : ℕ) (prefix t out : List ℕ)
 
   pub turn-ends : on ≡ false
       → Turned t t out m kept at kept (at + w) (keptAt intervals periods t i)
-      (toldAt intervals periods filter prefix t i)
+      (toldAt intervals periods filters prefix t i)
   unfolding keptAt keptRow
   turn-ends e =
       let g : goesOn (runIn intervals (row pairSize i t)) (row pairSize i t) ≡ false = sym on-is ∙ e in
@@ -192,20 +194,20 @@ row-ahead t ys i {m} h q =
     ∙ ap (drop (pairSize * i - length ys)) d ∙ drop-drop (pairSize * i - length ys) (length ys) t ∙ ap (λ (k : ℕ). drop k t) e)
 
 -- one row more
-module _ (intervals periods : List ℕ) (filter : ℕ) (prefix t₀ out₀ : List ℕ)
+module _ (intervals periods filters prefix t₀ out₀ : List ℕ)
     (i : ℕ) {t out l m : List ℕ} {k n k′ n′ : ℕ} where
   pub passed-turn : k ≤ i
-      → Passed t₀ t out₀ out k n (keptAt intervals periods t₀) (toldAt intervals periods filter prefix t₀) i
-      → Turned t l out m k n k′ n′ (keptAt intervals periods t i) (toldAt intervals periods filter prefix t i)
-      → Passed t₀ l out₀ m k′ n′ (keptAt intervals periods t₀) (toldAt intervals periods filter prefix t₀) (i + 1)
+      → Passed t₀ t out₀ out k n (keptAt intervals periods t₀) (toldAt intervals periods filters prefix t₀) i
+      → Turned t l out m k n k′ n′ (keptAt intervals periods t i) (toldAt intervals periods filters prefix t i)
+      → Passed t₀ l out₀ m k′ n′ (keptAt intervals periods t₀) (toldAt intervals periods filters prefix t₀) (i + 1)
   unfolding keptAt toldAt
   passed-turn h p u =
       let f : ℕ → List ℕ = keptAt intervals periods t₀ in
-      let g : ℕ → List ℕ = toldAt intervals periods filter prefix t₀ in
+      let g : ℕ → List ℕ = toldAt intervals periods filters prefix t₀ in
       let z = p .size in
       let r : row pairSize i t ≡ row pairSize i t₀ = row-ahead t₀ (upTo f i) i (omega arith) (p .table) in
       let a : keptAt intervals periods t i ≡ f i = rw r in
-      let b : toldAt intervals periods filter prefix t i ≡ g i = rw r in
+      let b : toldAt intervals periods filters prefix t i ≡ g i = rw r in
       record {
         table = put-then t₀ 0 (upTo f i) (pairSize * k) (f i) (omega arith) (p .table) (rw zero-add z) (rw a at (u .table))
             (sym (upTo-more f i));
@@ -233,23 +235,47 @@ passed-cleared t₀ out₀ f g i {t} {out} {l} {k} h w r p e q =
       wrote-most = w;
     }
 
--- one octet of each of the first n monitor rows, by handle
-unfoldable pub columnOf : List ℕ → ℕ → ℕ → List ℕ
-columnOf s at n = upTo (λ h. getD s (at + monitorSize * h) 0 ∷ []) n
+-- a number for each of the first n handles; one octet of each of the monitor rows
+unfoldable pub columnBy : (ℕ → ℕ) → ℕ → List ℕ
+columnBy f n = upTo (λ h. f h ∷ []) n
 
-pub column-none : (s : List ℕ) (at : ℕ) (r : List ℕ) → take 0 r ≡ columnOf s at 0
-unfolding columnOf upTo
-column-none s at r = refl
+abbrev pub columnOf : List ℕ → ℕ → ℕ → List ℕ
+columnOf s at n = columnBy (λ h. getD s (at + monitorSize * h) 0) n
 
-pub column-turn : (s : List ℕ) (at h : ℕ) (r : List ℕ) → h < length r → take h r ≡ columnOf s at h
-    → take (h + 1) (set r h (getD s (at + monitorSize * h) 0)) ≡ columnOf s at (h + 1)
-unfolding columnOf
-column-turn s at h r b e =
-    rw (upTo-more (λ j. getD s (at + monitorSize * j) 0 ∷ []) h, ← e, add-one h) (take-suc-set r h (getD s (at + monitorSize * h) 0) b)
+pub column-none : (f : ℕ → ℕ) (r : List ℕ) → take 0 r ≡ columnBy f 0
+unfolding columnBy upTo
+column-none f r = refl
 
-pub column-end : (s : List ℕ) (at h : ℕ) (r : List ℕ) → h ≡ mostMonitors → length r ≡ mostMonitors → take h r ≡ columnOf s at h
-    → r ≡ columnOf s at mostMonitors
-column-end s at h r e l q = sym (take-all mostMonitors r (omega arith)) ∙ rw e at q
+pub column-turn : (f : ℕ → ℕ) (h : ℕ) (r : List ℕ) {x : ℕ} → x ≡ f h → h < length r → take h r ≡ columnBy f h
+    → take (h + 1) (set r h x) ≡ columnBy f (h + 1)
+unfolding columnBy
+column-turn f h r i b e = rw (i, upTo-more (λ j. f j ∷ []) h, ← e, add-one h) (take-suc-set r h (f h) b)
+
+pub column-end : (f : ℕ → ℕ) (h : ℕ) (r : List ℕ) → h ≡ mostMonitors → length r ≡ mostMonitors → take h r ≡ columnBy f h
+    → r ≡ columnBy f mostMonitors
+column-end f h r e l q = sym (take-all mostMonitors r (omega arith)) ∙ rw e at q
+
+-- the report filtering of a monitor's row where the filter is on, else 0
+unfoldable pub filterBy : ℕ → ℕ → ℕ → ℕ
+filterBy filter options bits = pick (eqb filter 1) (filteringOf options bits) 0
+
+unfoldable pub filterIn : List ℕ → ℕ → ℕ → ℕ
+filterIn s filter h =
+    filterBy filter (getD s (monitorsAt + monitorSize * h + extraAt) 0) (getD s (monitorsAt + monitorSize * h + (extraAt + 1)) 0)
+
+pub filter-on : (filter options bits : ℕ) {r : ℕ} → filter ≡ 1 → r ≡ filteringOf options bits → r ≡ filterBy filter options bits
+unfolding filterBy
+filter-on filter options bits e q = q ∙ sym (pick-true _ 0 (eq-eqb filter 1 e))
+
+pub filter-off : (filter options bits : ℕ) → (filter ≡ 1 → ⊥) → 0 ≡ filterBy filter options bits
+unfolding filterBy
+filter-off filter options bits n = sym (pick-false (filteringOf options bits) 0 (ne-eqb filter 1 n))
+
+pub filter-made : (s : List ℕ) (filter h : ℕ) {r : ℕ}
+    → r ≡ filterBy filter (getD s (monitorsAt + monitorSize * h + extraAt) 0) (getD s (monitorsAt + monitorSize * h + (extraAt + 1)) 0)
+    → r ≡ filterIn s filter h
+unfolding filterIn
+filter-made s filter h e = e
 
 -- a copy over a whole array
 pub copy-whole : (z xs : List ℕ) {b : Bool} {m : List ℕ} → length xs ≡ length z → b ≡ leb (0 + length xs) (length z)

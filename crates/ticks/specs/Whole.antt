@@ -23,7 +23,7 @@ use Rattle.blocks.specs.Bounds.{Fits}
 use Rattle.blocks.specs.Pairs.{pairPlace, row-table, length-pairPlace}
 use Rattle.ticks.specs.Row.{runIn, periodIn, keptAt, toldAt}
 use Rattle.ticks.specs.Table.{Cleared}
-use Rattle.ticks.specs.Pairs.{intervalOf, samplingOf, place-handle, place-kept, place-told}
+use Rattle.ticks.specs.Pairs.{intervalOf, samplingOf, filterOf, place-handle, place-kept, place-told}
 use Rattle.model.specs.Layout.{mostMonitors, mostPairs, pairSize}
 
 -- a run over indices is a run over elements
@@ -91,11 +91,12 @@ module _ (mons : List (ℕ × Monitor)) (intervals periods : List ℕ)
       )
       (place-kept q g (find mons (q .handle)))
 
-  told-at : (filter : ℕ) (prefix : List ℕ) (j : ℕ) → j < length qs
-      → toldAt intervals periods filter prefix (pairBlock qs) j
+  told-at : (filter : ℕ) (filters prefix : List ℕ) → ((h : ℕ) → h < mostMonitors → getD filters h 0 ≡ filterOf filter (find mons h))
+      → (j : ℕ) → j < length qs
+      → toldAt intervals periods filters prefix (pairBlock qs) j
       ≡ tickOctets filter prefix (find mons (getD qs j none-held .handle)) (getD qs j none-held)
   unfolding toldAt runIn periodIn
-  told-at filter prefix j b =
+  told-at filter filters prefix ef j b =
       let q : Pair = getD qs j none-held in
       let g : Fits q = all-at qs a j none-held b in
       rw (
@@ -105,7 +106,7 @@ module _ (mons : List (ℕ × Monitor)) (intervals periods : List ℕ)
         ep (q .handle)
             (g .handle-most),
       )
-      (place-told q g (find mons (q .handle)) filter prefix)
+      (place-told q g (find mons (q .handle)) filter filters prefix (ef (q .handle) (g .handle-most)))
 
   kept-all : upTo (keptAt intervals periods (pairBlock qs)) (length qs) ≡ flat
       (map pairPlace (moveEach (movePair mons) qs))
@@ -115,11 +116,11 @@ module _ (mons : List (ℕ × Monitor)) (intervals periods : List ℕ)
       ∙ ap (each (λ (q : Pair). flat (map pairPlace (push (movePair mons q) []))))
       (take-all (length qs) qs (omega arith)) ∙ each-flat (movePair mons) qs
 
-  pub told-all : (filter : ℕ) (prefix : List ℕ) → upTo (toldAt intervals periods filter prefix (pairBlock qs))
-      (length qs)
+  pub told-all : (filter : ℕ) (filters prefix : List ℕ) → ((h : ℕ) → h < mostMonitors → getD filters h 0 ≡ filterOf filter (find mons h))
+      → upTo (toldAt intervals periods filters prefix (pairBlock qs)) (length qs)
       ≡ each (λ q. tickOctets filter prefix (find mons (q .handle)) q) qs
-  told-all filter prefix =
-      upTo-each _ (λ q. tickOctets filter prefix (find mons (q .handle)) q) qs none-held (told-at filter prefix)
+  told-all filter filters prefix ef =
+      upTo-each _ (λ q. tickOctets filter prefix (find mons (q .handle)) q) qs none-held (told-at filter filters prefix ef)
       (length qs) (omega arith)
       ∙ ap (each (λ q. tickOctets filter prefix (find mons (q .handle)) q)) (take-all (length qs) qs (omega arith))
 

@@ -1,12 +1,12 @@
 -- Laws of the functions on one row: each ends in what a function owes. Document 01, Watching, by history (Tick).
 -- Assumes nothing.
-use Prim.Native.Nat.{ℕ, _+_, _-_, _≤_, _<_}
+use Prim.Native.Nat.{ℕ, _+_, _-_, _*_, _/_, _%_, _^_, _≤_, _<_}
 use mathlib.Core.Path.{_≡_, refl, sym, ap, _∙_}
 use mathlib.Core.Bool.{Bool, true, false, _&&_, not}
 use mathlib.Core.List.{List, [], _∷_, _++_, append-nil, append-assoc}
 use native.Mathlib.Omega.{arith}
-use lib.Dec.{leb, ltb, eqb}
-use lib.ListN.{length, take, drop, getD, set, replicate, length-append, length-take, length-drop}
+use lib.Dec.{leb, ltb}
+use lib.ListN.{length, take, drop, getD, set, length-append, length-take, length-drop}
 use lib.Seq.{length-take-le}
 use borrow.Rule.Slice.PartMut.{putMid}
 use borrow.Author.Tests.{leb-true, leb-false, le-leb, le-ltb, eq-eqb}
@@ -19,9 +19,10 @@ use Rattle.octets.specs.Numbers.{numberAt, number-of}
 use Rattle.model.specs.Level.{mean}
 use Rattle.events.specs.Octets.{eventOctets, reportOctets, eventFits, reportFits, length-event, length-report}
 use Rattle.ticks.specs.Emptied.{length-emptied}
+use Rattle.model.specs.Monitors.{letsThrough}
 use Rattle.ticks.specs.Row.{emptiedRow, windowedBy, closesAt, goesOn, onward, tickedRow, keptRow, reportRow, saysRow}
 use Rattle.ticks.specs.Row.{toldOn}
-use Rattle.model.specs.Layout.{eventMost, reportMost}
+use Rattle.model.specs.Layout.{eventAt, eventMost, handleAt, reportMost}
 use Rattle.model.specs.Layout.{dataAt, eventAt, lengthAt, mostData, mostPrefix, packetsAt, pairSize, silentAt, sumAt, ticksAt}
 
 -- a put over a put of the same length
@@ -123,18 +124,17 @@ closes-past period ticks h = rw (le-leb period (ticks + 1) (omega arith)) (go (w
 pub stays-over : (silent run : ℕ) → run ≤ silent → false ≡ ltb (silent + 1) run
 stays-over silent run h = sym (le-ltb (silent + 1) run (omega arith))
 
-pub says-open : (on : Bool) (period filter : ℕ) (r : List ℕ) → closesAt period (getD r ticksAt 0) ≡ false
-    → false ≡ saysRow on period filter r
+pub says-open : (on : Bool) (period : ℕ) (filters : List ℕ) (r : List ℕ) → closesAt period (getD r ticksAt 0) ≡ false
+    → false ≡ saysRow on period filters r
 unfolding saysRow
-says-open on period filter r e =
-    sym (and-not-right on _ (and-not-right (eqb filter 1) _ (and-not-left (closesAt period (getD r ticksAt 0)) _ e)))
+says-open on period filters r e =
+    sym (and-not-right on _ (and-not-left (closesAt period (getD r ticksAt 0)) _ e))
 
-pub says-of : (on : Bool) (period filter : ℕ) (r : List ℕ) {p : ℕ} → length r ≡ pairSize
-    → closesAt period (getD r ticksAt 0) ≡ true
-    → p ≡ numberAt 4 r packetsAt → (on && (eqb filter 1 && (leb 1 p && leb (getD r lengthAt 0) mostData)))
-    ≡ saysRow on period filter r
+pub says-of : (on : Bool) (period : ℕ) (filters : List ℕ) (r : List ℕ) {p f : ℕ} {t : Bool} → length r ≡ pairSize
+    → closesAt period (getD r ticksAt 0) ≡ true → p ≡ numberAt 4 r packetsAt → f ≡ getD filters (getD r handleAt 0) 0
+    → t ≡ letsThrough f (getD r eventAt 0) → (on && (leb 1 p && (leb (getD r lengthAt 0) mostData && t))) ≡ saysRow on period filters r
 unfolding saysRow
-says-of on period filter r h e f = rw (e, number-of 4 r 11 f (omega arith))
+says-of on period filters r h e f g i = rw (e, number-of 4 r 11 f (omega arith), i, g)
 
 -- a window that does not close is shorter than its period
 pub open-below : (period ticks : ℕ) → windowedBy period ≡ true → closesAt period ticks ≡ false → ticks + 1 < period
@@ -146,24 +146,24 @@ unfolding windowedBy
 period-below period e = leb-true period 254 (and-right (leb 1 period) (leb period 254) e)
 
 -- what a report's tests say
-pub record Says (on : Bool) (period filter : ℕ) (r : List ℕ) : Type 0 where
+pub record Says (on : Bool) (period : ℕ) (filters : List ℕ) (r : List ℕ) : Type 0 where
   pub goes : on ≡ true
   pub packets : 1 ≤ little 4 r packetsAt
   pub short : getD r lengthAt 0 ≤ mostData
 
-pub says : (on : Bool) (period filter : ℕ) (r : List ℕ) → saysRow on period filter r ≡ true → Says on period filter r
+pub says : (on : Bool) (period : ℕ) (filters : List ℕ) (r : List ℕ) → saysRow on period filters r ≡ true → Says on period filters r
 unfolding saysRow
-says on period filter r e =
-    let a : Bool = eqb filter 1 in
+says on period filters r e =
     let b : Bool = closesAt period (getD r ticksAt 0) in
     let c : Bool = leb 1 (little 4 r packetsAt) in
     let d : Bool = leb (getD r lengthAt 0) mostData in
-    let f = and-right on (a && (b && (c && d))) e in
-    let g = and-right b (c && d) (and-right a (b && (c && d)) f) in
+    let l : Bool = letsThrough (getD filters (getD r handleAt 0) 0) (getD r eventAt 0) in
+    let f = and-right on (b && (c && (d && l))) e in
+    let g = and-right b (c && (d && l)) f in
     record {
-      goes = and-left on (a && (b && (c && d))) e;
-      packets = leb-true 1 (little 4 r packetsAt) (and-left c d g);
-      short = leb-true (getD r lengthAt 0) mostData (and-right c d g);
+      goes = and-left on (b && (c && (d && l))) e;
+      packets = leb-true 1 (little 4 r packetsAt) (and-left c (d && l) g);
+      short = leb-true (getD r lengthAt 0) mostData (and-left d l (and-right c (d && l) g));
     }
 
 -- a report's length
@@ -251,18 +251,18 @@ appended-then out at a b h p q =
     }
 
 -- what a row says is 45 octets at most
-length-says : (on : Bool) (period filter : ℕ) (r : List ℕ) → length r ≡ pairSize
-    → length (when (saysRow on period filter r) (reportRow r)) ≤ reportMost
+length-says : (on : Bool) (period : ℕ) (filters : List ℕ) (r : List ℕ) → length r ≡ pairSize
+    → length (when (saysRow on period filters r) (reportRow r)) ≤ reportMost
 unfolding when
-length-says on period filter r h = go (saysRow on period filter r) refl
+length-says on period filters r h = go (saysRow on period filters r) refl
   where
-    go : (t : Bool) → saysRow on period filter r ≡ t → length (when t (reportRow r)) ≤ reportMost
-    go true e = let n = says on period filter r e .short in omega (arith, length-reportRow r h n)
+    go : (t : Bool) → saysRow on period filters r ≡ t → length (when t (reportRow r)) ≤ reportMost
+    go true e = let n = says on period filters r e .short in omega (arith, length-reportRow r h n)
     go false e = omega arith
 
-pub says-most : (on : Bool) (period filter : ℕ) (r : List ℕ) {out m : List ℕ} {at n : ℕ} → length r ≡ pairSize
-    → Appended out m at n (when (saysRow on period filter r) (reportRow r)) → n ≤ reportMost
-says-most on period filter r h a = rw (a .count) (length-says on period filter r h)
+pub says-most : (on : Bool) (period : ℕ) (filters : List ℕ) (r : List ℕ) {out m : List ℕ} {at n : ℕ} → length r ≡ pairSize
+    → Appended out m at n (when (saysRow on period filters r) (reportRow r)) → n ≤ reportMost
+says-most on period filters r h a = rw (a .count) (length-says on period filters r h)
 
 pub stop-most : (on : Bool) (prefix r : List ℕ) {out m : List ℕ} {at n : ℕ} → length r ≡ pairSize → length prefix ≤ mostPrefix
     → Appended out m at n (when (not on) (eventOctets prefix r 0)) → n ≤ eventMost
@@ -270,19 +270,19 @@ stop-most on prefix r h p a =
     let k : length (eventOctets prefix r 0) ≡ 12 + length prefix = length-event prefix r 0 (omega arith) in
     rw (a .count) (omega (arith, length-when (not on) (eventOctets prefix r 0)))
 
-pub length-told : (on : Bool) (period filter : ℕ) (prefix r : List ℕ) → length r ≡ pairSize → length prefix ≤ mostPrefix
-    → length (toldOn on period filter prefix r) ≤ reportMost
+pub length-told : (on : Bool) (period : ℕ) (filters : List ℕ) (prefix r : List ℕ) → length r ≡ pairSize → length prefix ≤ mostPrefix
+    → length (toldOn on period filters prefix r) ≤ reportMost
 unfolding toldOn saysRow when
-length-told true period filter prefix r h n = simp append-nil (length-says true period filter r h)
-length-told false period filter prefix r h n = omega (arith, length-event prefix r 0 (omega arith))
+length-told true period filters prefix r h n = simp append-nil (length-says true period filters r h)
+length-told false period filters prefix r h n = omega (arith, length-event prefix r 0 (omega arith))
 
 -- room for a stop event behind a report: there is only one of them
-pub stop-room : (on : Bool) (period filter : ℕ) (prefix r : List ℕ) (at j n : ℕ) → length r ≡ pairSize → length prefix ≤ mostPrefix
+pub stop-room : (on : Bool) (period : ℕ) (filters : List ℕ) (prefix r : List ℕ) (at j n : ℕ) → length r ≡ pairSize → length prefix ≤ mostPrefix
     → at + reportMost ≤ n
-    → j ≡ length (when (saysRow on period filter r) (reportRow r))
+    → j ≡ length (when (saysRow on period filters r) (reportRow r))
     → at + j + length (when (not on) (eventOctets prefix r 0)) ≤ n
 unfolding toldOn
-stop-room on period filter prefix r at j n h p b e =
-    let l : length (toldOn on period filter prefix r) ≤ reportMost = length-told on period filter prefix r h p in
-    let a = length-append (when (saysRow on period filter r) (reportRow r)) (when (not on) (eventOctets prefix r 0)) in
+stop-room on period filters prefix r at j n h p b e =
+    let l : length (toldOn on period filters prefix r) ≤ reportMost = length-told on period filters prefix r h p in
+    let a = length-append (when (saysRow on period filters r) (reportRow r)) (when (not on) (eventOctets prefix r 0)) in
     omega arith

@@ -9,7 +9,7 @@ use state::Ticks;
 ghost use Prim.Native.Nat.{_+_, _*_, _≤_, _<_};
 ghost use mathlib.Core.Path.{_≡_};
 ghost use mathlib.Core.Bool.{true, not};
-ghost use lib.ListN.{length, take, getD};
+ghost use lib.ListN.{length, take};
 ghost use lib.Dec.{ltb};
 ghost use Rattle.laws.specs.Put.{put};
 ghost use Rattle.laws.specs.Rows.{row};
@@ -17,7 +17,7 @@ ghost use Rattle.octets.specs.Little.{little};
 ghost use Rattle.model.specs.Frames.{tick as aTick};
 ghost use Rattle.steps.specs.Stepped.{Steps, Within, Taken};
 ghost use Rattle.ticks.specs.Row.{emptiedRow, tickedRow, keptAt, toldAt};
-ghost use Rattle.ticks.specs.Table.{Turned, Passed, Cleared, columnOf};
+ghost use Rattle.ticks.specs.Table.{Turned, Passed, Cleared, columnBy, columnOf, filterBy, filterIn};
 ghost use Rattle.model.specs.Layout.{reportMost};
 ghost use Rattle.sessions.specs.Machine.{answerRoom};
 ghost use Rattle.model.specs.Layout.{blockSize, headSize, monitorSize, mostMonitors, mostPairs, mostPrefix, pairSize, pairsSize, silentAt};
@@ -86,16 +86,6 @@ fn keep_row(t: &mut [u8], to: usize, from: usize, period: u8)
     advance(&mut t[start..end], period);
 }
 
-// The octet at an index, 0 past the end.
-fn octet_at(xs: &[u8], i: usize) -> u8
-    ensures { λ r. ⌜ r ≡ getD (now (xs .entry)) i 0 ⌝ }
-{
-    if i < xs.len() {
-        return xs[i];
-    }
-    0
-}
-
 // How many rows are kept and how many octets are written so far.
 struct Turn {
     kept: usize,
@@ -111,20 +101,20 @@ fn tick_row(
     at: usize,
     intervals: &[u8],
     periods: &[u8],
-    filter: u8,
+    filters: &[u8],
     prefix: &[u8],
 ) -> Turn
     requires { ⌜ (i < mostPairs) × (kept ≤ i) × (length (now t) ≡ pairsSize) × (at + reportMost ≤ length (now out)) × (length (now prefix) ≤ mostPrefix) ⌝ }
-    ensures { λ r. ⌜ Turned (now (t .entry)) (now (t .exit)) (now (out .entry)) (now (out .exit)) kept at (r .kept) (r .wrote) (keptAt (now (intervals .entry)) (now (periods .entry)) (now (t .entry)) i) (toldAt (now (intervals .entry)) (now (periods .entry)) filter (now (prefix .entry)) (now (t .entry)) i) ⌝ }
+    ensures { λ r. ⌜ Turned (now (t .entry)) (now (t .exit)) (now (out .entry)) (now (out .exit)) kept at (r .kept) (r .wrote) (keptAt (now (intervals .entry)) (now (periods .entry)) (now (t .entry)) i) (toldAt (now (intervals .entry)) (now (periods .entry)) (now (filters .entry)) (now (prefix .entry)) (now (t .entry)) i) ⌝ }
 {
     let start = State::PAIR_ROW * i;
     let end = start + State::PAIR_ROW;
     let handle = t[start] as usize;
-    let run = Seconds(octet_at(intervals, handle)).ticks();
-    let period = octet_at(periods, handle);
+    let run = Seconds(tells::octet_at(intervals, handle)).ticks();
+    let period = tells::octet_at(periods, handle);
     let silent = Ticks(octets::get16(t, start + State::SILENT_AT));
     let on = stays(silent, run);
-    let wrote = at + tells::tell(&t[start..end], out, at, on, period, filter, prefix);
+    let wrote = at + tells::tell(&t[start..end], out, at, on, period, filters, prefix);
     if on {
         keep_row(t, kept, i, period);
         let next = kept + 1;
@@ -140,17 +130,17 @@ fn tick_rows(
     out: &mut [u8],
     intervals: &[u8],
     periods: &[u8],
-    filter: u8,
+    filters: &[u8],
     prefix: &[u8],
 ) -> Turn
     requires { ⌜ (n ≤ mostPairs) × (length (now t) ≡ pairsSize) × (answerRoom ≤ length (now out)) × (length (now prefix) ≤ mostPrefix) ⌝ }
-    ensures { λ r. ⌜ (r .kept ≤ n) × (r .wrote ≤ reportMost * n) × Passed (now (t .entry)) (now (t .exit)) (now (out .entry)) (now (out .exit)) (r .kept) (r .wrote) (keptAt (now (intervals .entry)) (now (periods .entry)) (now (t .entry))) (toldAt (now (intervals .entry)) (now (periods .entry)) filter (now (prefix .entry)) (now (t .entry))) n ⌝ }
+    ensures { λ r. ⌜ (r .kept ≤ n) × (r .wrote ≤ reportMost * n) × Passed (now (t .entry)) (now (t .exit)) (now (out .entry)) (now (out .exit)) (r .kept) (r .wrote) (keptAt (now (intervals .entry)) (now (periods .entry)) (now (t .entry))) (toldAt (now (intervals .entry)) (now (periods .entry)) (now (filters .entry)) (now (prefix .entry)) (now (t .entry))) n ⌝ }
 {
     let mut i = 0;
     let mut kept = 0;
     let mut wrote = 0;
     while i < n {
-        let turn = tick_row(t, i, kept, out, wrote, intervals, periods, filter, prefix);
+        let turn = tick_row(t, i, kept, out, wrote, intervals, periods, filters, prefix);
         kept = turn.kept;
         wrote = turn.wrote;
         i += 1;
@@ -165,13 +155,13 @@ fn tick_pairs(
     out: &mut [u8],
     intervals: &[u8],
     periods: &[u8],
-    filter: u8,
+    filters: &[u8],
     prefix: &[u8],
 ) -> Turn
     requires { ⌜ (n ≤ mostPairs) × (length (now t) ≡ pairsSize) × (answerRoom ≤ length (now out)) × (length (now prefix) ≤ mostPrefix) ⌝ }
-    ensures { λ r. ⌜ Cleared (now (t .entry)) (now (t .exit)) (now (out .entry)) (now (out .exit)) (r .kept) (r .wrote) (keptAt (now (intervals .entry)) (now (periods .entry)) (now (t .entry))) (toldAt (now (intervals .entry)) (now (periods .entry)) filter (now (prefix .entry)) (now (t .entry))) n ⌝ }
+    ensures { λ r. ⌜ Cleared (now (t .entry)) (now (t .exit)) (now (out .entry)) (now (out .exit)) (r .kept) (r .wrote) (keptAt (now (intervals .entry)) (now (periods .entry)) (now (t .entry))) (toldAt (now (intervals .entry)) (now (periods .entry)) (now (filters .entry)) (now (prefix .entry)) (now (t .entry))) n ⌝ }
 {
-    let turn = tick_rows(t, n, out, intervals, periods, filter, prefix);
+    let turn = tick_rows(t, n, out, intervals, periods, filters, prefix);
     let kept = turn.kept;
     parts::fill(t, State::PAIR_ROW * kept, State::PAIR_ROW * (n - kept), 0);
     turn
@@ -186,6 +176,35 @@ fn column(s: &[u8], at: usize) -> [u8; State::MONITORS]
     let mut h = 0;
     while h < State::MONITORS {
         r[h] = s[at + State::MONITOR_ROW * h];
+        h += 1;
+    }
+    r
+}
+
+// The report filtering of a monitor by its row's octets, where the filter is on; else 0, which lets nothing through.
+fn filter_at(filter: u8, options: u8, filtering: u8) -> u8
+    ensures { λ r. ⌜ r ≡ filterBy filter options filtering ⌝ }
+{
+    if filter == 1 {
+        return state::filtering_of(options, filtering);
+    }
+    0
+}
+
+// The same of every handle.
+fn filters_of(s: &[u8], filter: u8) -> [u8; State::MONITORS]
+    requires { ⌜ length (now s) ≡ blockSize ⌝ }
+    ensures { λ r. ⌜ r ≡ columnBy (filterIn (now (s .entry)) filter) mostMonitors ⌝ }
+{
+    let mut r = [0u8; State::MONITORS];
+    let mut h = 0;
+    while h < State::MONITORS {
+        let at = State::MONITORS_AT + State::MONITOR_ROW * h;
+        r[h] = filter_at(
+            filter,
+            s[at + State::OPTIONS_AT],
+            s[at + State::FILTERING_AT],
+        );
         h += 1;
     }
     r
@@ -210,7 +229,7 @@ fn tick_in(s: &mut [u8], out: &mut [u8]) -> usize
     let intervals = column(s, State::INTERVALS_AT);
     let periods = column(s, State::PERIODS_AT);
     let n = octets::at_most(s[State::COUNT_AT], State::PAIRS);
-    let filter = head[State::FILTER_AT];
+    let filters = filters_of(s, head[State::FILTER_AT]);
     let end = State::PREFIX_AT + octets::at_most(head[State::PREFIX_LENGTH_AT], State::PREFIX);
     let turn = tick_pairs(
         &mut s[State::PAIRS_AT..State::COUNT_AT],
@@ -218,7 +237,7 @@ fn tick_in(s: &mut [u8], out: &mut [u8]) -> usize
         out,
         &intervals,
         &periods,
-        filter,
+        &filters,
         &head[State::PREFIX_AT..end],
     );
     s[State::COUNT_AT] = turn.kept as u8;
@@ -226,7 +245,7 @@ fn tick_in(s: &mut [u8], out: &mut [u8]) -> usize
     turn.wrote
 }
 
-// Takes one tick: changes the block, writes the answer at the output's start, and answers its length. A block that is not of 4,825
+// Takes one tick: changes the block, writes the answer at the output's start, and answers its length. A block that is not of 5,225
 // octets, an output under 2,880 octets, and a block at the last frame number are left as they are, and the answer is 0. Of a block
 // that is of no sound state the contents, what is written and how much are free; the lengths stay, the answer is at most the
 // output's length, and the octets past it are as they were.

@@ -44,16 +44,28 @@ fn mean_of(sum: u64, packets: u64) -> u8
     (255 - below % 256) as u8
 }
 
-// Whether a pair that stays reports its window. Most ticks close none, so that is asked first.
-fn says(r: &[u8], on: bool, period: u8, filter: u8) -> bool
+// The octet at an index, 0 past the end.
+pub(super) fn octet_at(xs: &[u8], i: usize) -> u8
+    ensures { λ r. ⌜ r ≡ getD (now (xs .entry)) i 0 ⌝ }
+{
+    if i < xs.len() {
+        return xs[i];
+    }
+    0
+}
+
+// Whether a pair that stays reports its window, with the report filtering by handle. Most ticks close none, so that is asked first.
+fn says(r: &[u8], on: bool, period: u8, filters: &[u8]) -> bool
     requires { ⌜ length (now r) ≡ pairSize ⌝ }
-    ensures { λ b. ⌜ b ≡ saysRow on period filter (now (r .entry)) ⌝ }
+    ensures { λ b. ⌜ b ≡ saysRow on period (now (filters .entry)) (now (r .entry)) ⌝ }
 {
     if !closes(period, r[State::TICKS_AT]) {
         return false;
     }
     let packets = octets::get32(r, State::PACKETS_AT);
-    on & ((filter == 1) & ((1 <= packets) & (r[State::LENGTH_AT] <= State::MOST_DATA)))
+    let filter = octet_at(filters, r[0] as usize);
+    let through = state::lets_through(filter, r[State::EVENT_AT]);
+    on & ((1 <= packets) & ((r[State::LENGTH_AT] <= State::MOST_DATA) & through))
 }
 
 // Appends the report of a window.
@@ -75,11 +87,11 @@ fn put_window(r: &[u8], out: &mut [u8], at: usize) -> usize
 }
 
 // Appends the report of a window where there is one.
-fn tell_window(r: &[u8], out: &mut [u8], at: usize, on: bool, period: u8, filter: u8) -> usize
+fn tell_window(r: &[u8], out: &mut [u8], at: usize, on: bool, period: u8, filters: &[u8]) -> usize
     requires { ⌜ (length (now r) ≡ pairSize) × (at + reportMost ≤ length (now out)) ⌝ }
-    ensures { λ n. ⌜ Appended (now (out .entry)) (now (out .exit)) at n (when (saysRow on period filter (now (r .entry))) (reportRow (now (r .entry)))) ⌝ }
+    ensures { λ n. ⌜ Appended (now (out .entry)) (now (out .exit)) at n (when (saysRow on period (now (filters .entry)) (now (r .entry))) (reportRow (now (r .entry)))) ⌝ }
 {
-    if says(r, on, period, filter) {
+    if says(r, on, period, filters) {
         return put_window(r, out, at);
     }
     0
@@ -103,13 +115,13 @@ pub(super) fn tell(
     at: usize,
     on: bool,
     period: u8,
-    filter: u8,
+    filters: &[u8],
     prefix: &[u8],
 ) -> usize
     requires { ⌜ (length (now r) ≡ pairSize) × (length (now prefix) ≤ mostPrefix) × (at + reportMost ≤ length (now out)) ⌝ }
-    ensures { λ n. ⌜ Appended (now (out .entry)) (now (out .exit)) at n (toldOn on period filter (now (prefix .entry)) (now (r .entry))) ⌝ }
+    ensures { λ n. ⌜ Appended (now (out .entry)) (now (out .exit)) at n (toldOn on period (now (filters .entry)) (now (prefix .entry)) (now (r .entry))) ⌝ }
 {
-    let report = tell_window(r, out, at, on, period, filter);
+    let report = tell_window(r, out, at, on, period, filters);
     let stop = tell_stop(r, out, at + report, on, prefix);
     report + stop
 }

@@ -1,5 +1,5 @@
 //! The declarations of `include/bournejade.h`, and a safe function over each. The only unsafe code: a slice is valid for
-//! its length and never null, a block has 4,825 octets, and what is lent mutably overlaps nothing.
+//! its length and never null, a block has 5,225 octets, and what is lent mutably overlaps nothing.
 
 use crate::{Ran, Refused, STATE};
 

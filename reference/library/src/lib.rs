@@ -7,9 +7,9 @@ mod foreign;
 pub mod timing;
 
 /// Octets of a state, and of the outputs that a frame's answer, an image and a line need.
-pub const STATE: usize = 4825;
+pub const STATE: usize = 5225;
 pub const ANSWER: usize = 2880;
-pub const IMAGE: usize = 9898;
+pub const IMAGE: usize = 10698;
 pub const LINE: usize = 527;
 
 /// The number of a refusal.

@@ -130,10 +130,12 @@ impl Generator {
     pub(super) fn valid_monitor(&mut self) -> Vec<u8> {
         let (high, low) = self.thresholds();
         let interval = match self.theme {
+            Theme::Second => self.random.pick(&[1, 2, 3, 3, 60]),
             Theme::LongTicks => self.random.pick(&[1, 2, 3, 30, 60]),
             _ => self.random.pick(&[1, 1, 1, 2, 3, 60]),
         };
         let sampling = match self.theme {
+            Theme::Second => self.random.pick(&[0, 0, 0, 1, 3, 0xFF]),
             Theme::Windows => self.random.pick(&[1, 2, 3, 5, 10, 0xFE]),
             _ => self.random.pick(&[0, 0, 1, 2, 5, 9, 10, 11, 0xFE, 0xFF, 0xFF]),
         };
@@ -145,7 +147,12 @@ impl Generator {
         } else {
             conditions::well_formed(&mut self.random, &self.devices)
         };
-        monitor(high, low, interval, sampling, kind, &condition)
+        let first = monitor(high, low, interval, sampling, kind, &condition);
+        let share = if self.theme == Theme::Second { 90 } else { 30 };
+        match self.random.percent(share) {
+            true => self.as_second(&first),
+            false => first,
+        }
     }
 
     pub(super) fn add(&mut self) {
@@ -165,6 +172,9 @@ impl Generator {
 
     /// A 0x03 command at or past one edge.
     pub(super) fn add_edge(&mut self) {
+        if self.random.percent(40) {
+            return self.second_edge();
+        }
         let (high, low) = self.thresholds();
         let (kind, condition) = conditions::well_formed(&mut self.random, &self.devices);
         let parameters = match self.random.below(24) {
@@ -230,10 +240,10 @@ impl Generator {
             3 => vec![0x00, 0x00],
             4 => self.random.pick(&[&[0x04][..], &[0x04, 0, 0]]).to_vec(),
             5 => self.random.pick(&[&[0x05][..], &[0x05, 1, 0], &[0x05, 0, 0]]).to_vec(),
-            6 => vec![self.random.pick(&[0x01, 0x02, 0x06, 0x0F, 0xFF])],
+            6 => vec![self.random.pick(&[0x01, 0x02, 0x06, 0x0E, 0x10, 0xFF])],
             _ => {
                 let length = self.random.pick(&[1, 2, 254]);
-                let mut octets = vec![self.random.pick(&[0x00, 0x01, 0x04, 0x05, 0x06, 0x0F])];
+                let mut octets = vec![self.random.pick(&[0x00, 0x01, 0x04, 0x05, 0x06, 0x0E])];
                 octets.extend(self.random.octets(length));
                 octets
             }

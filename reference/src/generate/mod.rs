@@ -4,6 +4,7 @@
 pub mod conditions;
 pub mod frames;
 mod lines;
+mod second;
 pub mod states;
 pub mod texts;
 mod watching;
@@ -25,6 +26,7 @@ enum Theme {
     Conditions,
     Limits,
     Full,
+    Second,
     Windows,
     LongTicks,
     Lines,
@@ -69,6 +71,8 @@ pub struct Generator {
     devices: Vec<Device>,
     /// A key and the address that its machine has now.
     private: Option<(Key, Device)>,
+    /// The kind and payload of the last packet, for duplicates.
+    last: Option<(u8, Vec<u8>)>,
     calls: Vec<Call>,
     /// Executed frames, for seen frames and replays.
     executed: Vec<Vec<u8>>,
@@ -78,7 +82,8 @@ pub struct Generator {
 pub fn session(seed: u64, index: u64, most_calls: usize) -> Vec<Call> {
     use Theme::*;
     let mut random = Random::of(seed, index);
-    let theme = random.pick(&[Mixed, Mixed, Commands, Conditions, Limits, Full, Windows, Windows, Lines]);
+    let theme =
+        random.pick(&[Mixed, Mixed, Commands, Conditions, Limits, Full, Second, Windows, Windows, Lines]);
     let least = if theme == Full { most_calls / 2 } else { 0 };
     let calls = random.between(least as i64, most_calls as i64) as usize;
     Generator::begin(random, theme).make(calls, false)
@@ -131,7 +136,8 @@ pub fn script(seed: u64, index: u64) -> Vec<Call> {
     use Theme::*;
     let mut random = Random::of(seed, index);
     let theme = match random.below(100) {
-        0..=19 => Mixed,
+        0..=9 => Mixed,
+        10..=19 => Second,
         20..=29 => Commands,
         30..=44 => Conditions,
         45..=51 => Limits,
@@ -163,6 +169,7 @@ impl Generator {
             follower: Timers::default(),
             state: State::blank(),
             private: None,
+            last: None,
             calls: Vec::new(),
             executed: Vec::new(),
         };
@@ -244,6 +251,7 @@ impl Generator {
             Theme::Conditions => [12, 4, 3, 2, 0, 70, 3, 3, 1, 0, 0, 0, 0, 0, 0, 0, 0, 0, 0, 0, 0, 0],
             Theme::Limits => [4, 2, 3, 4, 0, 30, 20, 10, 2, 0, 0, 0, 1, 1, 0, 0, 1, 0, 0, 0, 0, 0],
             Theme::Full => [1, 0, 1, 2, 0, 40, 30, 4, 2, 0, 0, 0, 1, 0, 0, 0, 3, 0, 0, 0, 2, 0],
+            Theme::Second => [9, 3, 1, 4, 0, 70, 1, 10, 2, 0, 0, 0, 1, 0, 0, 0, 4, 0, 0, 0, 2, 0],
             Theme::Windows => [4, 0, 1, 4, 0, 50, 2, 34, 2, 0, 0, 0, 0, 0, 0, 0, 2, 0, 0, 0, 1, 0],
             Theme::LongTicks => [1, 0, 0, 1, 0, 6, 1, 60, 1, 0, 0, 0, 0, 0, 0, 0, 1, 0, 0, 0, 0, 0],
             Theme::Lines => [6, 2, 1, 3, 2, 12, 1, 8, 6, 20, 24, 6, 10, 8, 8, 6, 1, 0, 0, 0, 2, 2],

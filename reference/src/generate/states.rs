@@ -1,8 +1,9 @@
 //! Random sound states, and states that break one clause of "Sound".
 
-use super::conditions;
+use super::{conditions, second};
 use crate::condition::{form, Form};
 use crate::limits::{Seconds, CONDITION, DATA, MONITORS, PAIRS, PREFIX};
+use crate::options;
 use crate::private::{self, Key};
 use crate::random::Random;
 use crate::state::{Device, Monitor, Pair, State};
@@ -56,18 +57,17 @@ fn monitor(random: &mut Random, handle: u8, known: &[Device]) -> Monitor {
         1..=3 => conditions::flags(),
         _ => conditions::well_formed(random, known),
     };
-    let mut octets = [0; CONDITION];
-    octets[..condition.len()].copy_from_slice(&condition);
-    Monitor {
-        handle,
-        high,
-        low,
-        interval: random.pick(&[1, 1, 2, 3, 59, 60]),
-        sampling: random.pick(&[0, 1, 2, 3, 10, 0xFE, 0xFF]),
-        kind,
-        length: condition.len() as u8,
-        octets,
-    }
+    let interval = random.pick(&[1, 1, 2, 3, 59, 60]);
+    let sampling = random.pick(&[0, 1, 2, 3, 10, 0xFE, 0xFF]);
+    let mut held = Monitor { handle, high, low, interval, sampling, ..Monitor::NONE };
+    let (kind, condition) = match random.percent(40) {
+        true => second::added(random, known, &mut held),
+        false => (kind, condition),
+    };
+    held.kind = kind;
+    held.length = condition.len() as u8;
+    held.octets[..condition.len()].copy_from_slice(&condition);
+    held
 }
 
 fn pair(random: &mut Random, state: &State, known: &[Device]) -> Pair {
@@ -85,6 +85,14 @@ fn pair(random: &mut Random, state: &State, known: &[Device]) -> Pair {
     };
     let limit = Seconds(monitor.interval).ticks().0;
     pair.quiet = random.pick(&[0, limit - 1, limit - 2, limit / 2]);
+    if options::filters_duplicates(&monitor) {
+        pair.event_type = random.pick(&[0, 1, 2, 3, Pair::NO_PACKET, Pair::NO_PACKET]);
+        if pair.event_type != Pair::NO_PACKET {
+            let data = conditions::data(random, state.monitors());
+            pair.n = data.len() as u8;
+            pair.data[..data.len()].copy_from_slice(&data);
+        }
+    }
     let Some(period) = monitor.period() else { return pair };
     pair.window_ticks = random.pick(&[0, period - 1, period / 2]);
     if random.percent(30) {
@@ -160,6 +168,10 @@ pub fn largest(random: &mut Random) -> State {
             kind: 1,
             length: CONDITION as u8,
             octets,
+            options: 0x21,
+            reports: 0x02,
+            peer: Device { kind: 1, address: [handle as u8; 6] },
+            irk: conditions::key(random),
         };
     }
     state.monitor_count = MONITORS as u8;
@@ -182,19 +194,21 @@ pub fn largest(random: &mut Random) -> State {
 }
 
 /// How many ways of breaking a state `broken` knows.
-pub const WAYS: usize = 43;
+pub const WAYS: usize = 51;
 
 /// A sound state with one clause of "Sound" broken in way `way`, if the state has the place for it.
 pub fn broken(random: &mut Random, sound: &State, way: usize) -> Option<State> {
     let mut s = sound.clone();
     let (monitors, pairs) = (s.monitor_count as usize, s.pair_count as usize);
-    if (8..=21).contains(&way) && monitors == 0 || way >= 25 && pairs == 0 {
+    if ((8..=21).contains(&way) || way >= 44) && monitors == 0 || (25..=43).contains(&way) && pairs == 0 {
         return None;
     }
     let m = random.below(monitors.max(1));
     let p = random.below(pairs.max(1));
     let watcher = s.monitor(s.pairs[p].handle).copied().unwrap_or(Monitor::NONE);
     let sampled = watcher.period();
+    let keeps = options::filters_duplicates(&watcher);
+    let second = s.monitors[m].second();
     match way {
         0 => s.opcode = random.pick(&[0xFBFF, 0]),
         1 => s.filter = random.pick(&[2, 255]),
@@ -227,7 +241,7 @@ pub fn broken(random: &mut Random, sound: &State, way: usize) -> Option<State> {
         }
         26 => s.pairs[p].handle = random.pick(&[16, 31, 255]),
         27 => s.pairs[p].device.kind = random.pick(&[2, 255]),
-        28 => s.pairs[p].event_type = random.pick(&[4, 255]),
+        28 => s.pairs[p].event_type = random.pick(if keeps { &[4, 254] } else { &[4, 255] }),
         29 => s.pairs[p].n = random.pick(&[32, 255]),
         30 => s.pairs[p].quiet = Seconds(watcher.interval).ticks().0,
         31 => s.pairs[p].quiet = u16::MAX,
@@ -239,11 +253,23 @@ pub fn broken(random: &mut Random, sound: &State, way: usize) -> Option<State> {
         34 => s.pairs[p].sum = 20 * s.pairs[p].packets as i64 + 1,
         35 => s.pairs[p].sum = -127 * s.pairs[p].packets as i64 - 1,
         36 if sampled.is_none() => s.pairs[p].packets = 1.min(s.position),
-        37 if s.pairs[p].packets == 0 => s.pairs[p].event_type = 1,
-        38 if s.pairs[p].packets == 0 => s.pairs[p].n = 1,
+        37 if s.pairs[p].packets == 0 && !keeps => s.pairs[p].event_type = 1,
+        38 if s.pairs[p].packets == 0 && !keeps => s.pairs[p].n = 1,
         39 if s.pairs[p].n < 31 => s.pairs[p].data[30] = 1,
         40 => s.pairs[p].sum = random.pick(&[i64::MIN, i64::MAX]),
         42 => s.pairs[p].rssi = random.pick(&[21, 127, -128]),
+        43 if keeps => (s.pairs[p].event_type, s.pairs[p].n) = (Pair::NO_PACKET, 1),
+        44 if second => s.monitors[m].options = random.pick(&[0x00, 0x40, 0xC0]),
+        45 if second && s.monitors[m].options & 0x0A != 0 => s.monitors[m].irk = [0; 16],
+        46 if second && s.monitors[m].kind > 2 => {
+            s.monitors[m].options |= random.pick(&[0x01, 0x02, 0x04, 0x08])
+        }
+        47 if second && s.monitors[m].sampling != 0 => s.monitors[m].reports |= 1,
+        48 if second => s.monitors[m].peer.kind = random.pick(&[2, 255]),
+        49 if !second => s.monitors[m].peer.address[random.below(6)] = 1,
+        50 if !second => {
+            (s.monitors[m].reports, s.monitors[m].irk[15]) = random.pick(&[(6, 0), (0, 1), (1, 0)]);
+        }
         41 => {
             let handles: Vec<u8> = s.monitors().iter().map(|m| m.handle).collect();
             s.pairs[p].handle = (0..16).find(|h| !handles.contains(h))?;

@@ -9,8 +9,22 @@ use crate::state::Device;
 impl Generator {
     /// A device: one under watch, one of a condition, a private address of a live monitor's key, or any.
     fn device(&mut self) -> Device {
-        let keys = self.state.monitors().iter().filter(|m| m.kind == 3);
-        let keys: Vec<Key> = keys.filter_map(|m| m.condition().try_into().ok()).collect();
+        let monitors = self.state.monitors();
+        let mut keys: Vec<Key> = Vec::new();
+        for m in monitors {
+            if let (3, Ok(key)) = (m.kind, m.condition().try_into()) {
+                keys.push(key);
+            }
+            if m.options & 0x0A != 0 {
+                keys.push(m.irk);
+            }
+        }
+        let peers: Vec<Device> = monitors.iter().filter(|m| m.options & 0x05 != 0).map(|m| m.peer).collect();
+        if !peers.is_empty() && self.random.percent(25) {
+            let peer = self.random.pick(&peers);
+            let kind = if self.random.percent(15) { 1 - peer.kind.min(1) } else { peer.kind.min(1) };
+            return Device { kind, ..peer };
+        }
         if !keys.is_empty() && self.random.percent(35) {
             let key = self.random.pick(&keys);
             // The machine changes its address now and then.
@@ -58,6 +72,36 @@ impl Generator {
 
     /// A packet, a third of them of kind 04: its kind and payload.
     pub(super) fn packet_payload(&mut self) -> (u8, Vec<u8>) {
+        let share = if self.theme == Theme::Second { 50 } else { 10 };
+        let again = self.last.clone().filter(|_| self.random.percent(share));
+        let made = match again {
+            Some(last) => self.repeated(last),
+            None => self.new_packet(),
+        };
+        self.last = Some(made.clone());
+        made
+    }
+
+    /// The last packet again, at another RSSI, at times of another event type or with other data.
+    fn repeated(&mut self, (mut kind, mut payload): (u8, Vec<u8>)) -> (u8, Vec<u8>) {
+        if self.random.percent(50) {
+            *payload.last_mut().expect("an RSSI") = self.rssi() as u8;
+        }
+        match self.random.below(10) {
+            0..=1 => payload[0] = self.random.pick(if kind == PACKET { &[0, 1, 2, 3] } else { &[0, 2] }),
+            2 if kind == PACKET && payload[0] % 2 == 0 => {
+                // The same advertisement with a scan response.
+                kind = SCANNED;
+                let rssi = payload.pop().expect("an RSSI");
+                payload.extend([2, 1, self.random.octet(), rssi]);
+            }
+            3 if payload[8] > 0 => payload[9] ^= 1,
+            _ => (),
+        }
+        (kind, payload)
+    }
+
+    fn new_packet(&mut self) -> (u8, Vec<u8>) {
         let device = self.device();
         let rssi = self.rssi();
         if self.random.percent(35) {

@@ -4,8 +4,10 @@ use super::facts::filter_after;
 use super::rule::{Past, Window};
 use super::History;
 use crate::event;
+use crate::fault::Fault;
 use crate::frame::{Packet, Payload};
 use crate::limits::DATA;
+use crate::options;
 use crate::state::{Device, Pair, State};
 
 impl History {
@@ -36,15 +38,12 @@ impl History {
             answer.extend(event::device(self.base.prefix(), &start.device, past.monitor(start).handle, true));
         }
         let filter_off = filter_after(&self.base, &self.frames) == 0;
-        let sampled_at_once = self.facts.starts.iter().any(|start| {
-            let monitor = past.monitor(start);
-            let matching = self.facts.matching[now] >> monitor.handle & 1 == 1;
+        let reason = self.facts.starts.iter().any(|start| {
             start.device == packet.device
-                && matching
-                && monitor.sampling == 0
                 && past.watched_since(start, now)
+                && past.reasons(start, now).last() == Some(&now)
         });
-        if filter_off || sampled_at_once || !starts.is_empty() {
+        if filter_off || reason {
             answer.extend(event::report(packet.event_type, &packet.device, &packet.data, packet.rssi));
             // "A second report of event type 4 with the scan response follows" (T-06).
             if let Some(scan) = &packet.scan {
@@ -69,7 +68,8 @@ impl History {
                     false,
                 ));
             } else if let Some(window) = past.closed_window(start, now) {
-                if filter_on && window.count > 0 {
+                let fits = options::reported(past.monitor(start), window.event_type, Fault::None);
+                if filter_on && window.count > 0 && fits {
                     answer.extend(report(&start.device, &window));
                 }
             }
@@ -101,6 +101,13 @@ impl History {
                 pair.event_type = window.event_type;
                 pair.n = window.data.len() as u8;
                 pair.data = std::array::from_fn::<u8, DATA, _>(|i| window.data.get(i).copied().unwrap_or(0));
+            }
+            if options::filters_duplicates(monitor) {
+                let kept = past.kept_packet(start, now);
+                pair.event_type = kept.as_ref().map_or(0xFF, |(event_type, _)| *event_type);
+                let data = kept.map_or(Vec::new(), |(_, data)| data);
+                pair.n = data.len() as u8;
+                pair.data[..data.len()].copy_from_slice(&data);
             }
             state.pairs[place] = pair;
             state.pair_count += 1;

@@ -4,10 +4,10 @@
 
 use super::rule::Past;
 use crate::command::{self, Change, View};
-use crate::condition;
 use crate::fault::Fault;
 use crate::frame::{Packet, Payload};
 use crate::limits::PAIRS;
+use crate::options;
 use crate::state::{Device, Monitor, State};
 
 /// "A monitor is live from the executed command that adds it until the one that cancels it."
@@ -100,7 +100,7 @@ impl Facts {
         let mut mask = 0;
         for life in self.live() {
             let m = &self.lives[life].monitor;
-            if condition::matches(m.kind, m.condition(), packet, Fault::None) {
+            if options::matches(m, packet, Fault::None) {
                 mask |= 1 << m.handle;
             }
         }
@@ -126,9 +126,9 @@ impl Facts {
     }
 
     /// "It is a start if its RSSI is at least high, the pair is not under watch just before, and fewer than 64 pairs
-    /// are; monitors take one packet in handle order, and a start takes its room at once." "When a packet would start a pair
-    /// but 64 are under watch, and its RSSI is above the smallest kept one, that pair (the earliest started if several)
-    /// gets its stop event and the new one starts. Each monitor in handle order does this in turn."
+    /// are; monitors take one packet in handle order, and a start takes its room at once." "When a packet would start
+    /// a pair but 64 are under watch, and its RSSI is above the smallest kept one, that pair (the earliest started if
+    /// several) gets its stop event and the new one starts. Each monitor in handle order does this in turn."
     fn starts_of(&mut self, base: &State, frames: &[Payload], packet: &Packet) {
         let now = frames.len();
         // The starts under watch, the earliest first, and what each keeps after the present packet.

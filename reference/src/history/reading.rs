@@ -15,12 +15,12 @@ pub fn records(text: &[u8]) -> Option<State> {
         let at = |place: usize| octets.get(place).copied().unwrap_or(0);
         match at(0) {
             0xA0 => head(&mut state, at),
-            0xA1 => {
+            record @ (0xA1 | 0xA5) => {
                 let place = state.monitor_count as usize;
                 if place == MONITORS {
                     return None;
                 }
-                state.monitors[place] = monitor(at);
+                state.monitors[place] = monitor(at, record == 0xA5);
                 state.monitor_count += 1;
             }
             0xA3 => {
@@ -55,7 +55,8 @@ fn head(state: &mut State, at: impl Fn(usize) -> u8 + Copy) {
     state.prefix = octets(at, 9, at(8));
 }
 
-fn monitor(at: impl Fn(usize) -> u8 + Copy) -> Monitor {
+fn monitor(at: impl Fn(usize) -> u8 + Copy, second: bool) -> Monitor {
+    let added = |place: usize| if second { at(8 + at(7) as usize + place) } else { 0 };
     Monitor {
         handle: at(1),
         high: at(2) as i8,
@@ -65,6 +66,10 @@ fn monitor(at: impl Fn(usize) -> u8 + Copy) -> Monitor {
         kind: at(6),
         length: at(7),
         octets: octets(at, 8, at(7)),
+        options: added(0),
+        reports: added(1),
+        peer: Device { kind: added(8), address: octets(added, 2, 6) },
+        irk: octets(added, 9, 16),
     }
 }
 

@@ -2,7 +2,9 @@
 //! numbered from 1; `upto` is the last frame looked at.
 
 use super::facts::{Facts, Start};
+use crate::fault::Fault;
 use crate::frame::{Packet, Payload};
+use crate::options;
 use crate::state::{Monitor, State};
 
 /// The past frames, with what they say.
@@ -78,6 +80,54 @@ impl Past<'_> {
             (Some(place), _) => self.base.pairs[place].rssi,
             (None, Some(Payload::Packet(packet))) => packet.rssi,
             _ => unreachable!("a start is a packet"),
+        }
+    }
+
+    /// The frames since a start that are a reason for a report for its pair, filter on or off: the start itself, and
+    /// with sampling 0 every packet that counts, where the monitor asks for reports of such packets (T-13). "A duplicate
+    /// has the event type and advertisement data of the last packet that was a reason for a report for that pair, filter on
+    /// or off, looking no further back than its latest start, and is itself no reason for one; a start packet is never
+    /// a duplicate."
+    pub fn reasons(&self, start: &Start, upto: usize) -> Vec<usize> {
+        let monitor = self.monitor(start);
+        let asked = |packet: &Packet| options::reported(monitor, packet.event_type, Fault::None);
+        let mut reasons = Vec::new();
+        if let (None, Some(packet)) = (start.held, self.packet(start.at)) {
+            reasons.extend(asked(packet).then_some(start.at));
+        }
+        if monitor.sampling != 0 {
+            return reasons;
+        }
+        let filters = options::filters_duplicates(monitor);
+        for (i, packet) in self.counting(start, upto) {
+            let last = reasons.last().and_then(|last| self.packet(*last));
+            let kept =
+                last.map(|last| (last.event_type, last.data.clone())).or_else(|| self.held_packet(start));
+            let duplicate = filters && kept == Some((packet.event_type, packet.data.clone()));
+            if asked(packet) && !duplicate {
+                reasons.push(i);
+            }
+        }
+        reasons
+    }
+
+    /// The packet that a pair keeps for duplicates: its event type and data.
+    pub fn kept_packet(&self, start: &Start, upto: usize) -> Option<(u8, Vec<u8>)> {
+        let last = self.reasons(start, upto).last().and_then(|last| self.packet(*last));
+        last.map(|last| (last.event_type, last.data.clone())).or_else(|| self.held_packet(start))
+    }
+
+    /// What a pair of the base keeps.
+    fn held_packet(&self, start: &Start) -> Option<(u8, Vec<u8>)> {
+        let pair = &self.base.pairs[start.held?];
+        (pair.event_type != 0xFF).then(|| (pair.event_type, pair.latest().to_vec()))
+    }
+
+    /// The packet of a frame.
+    fn packet(&self, frame: usize) -> Option<&Packet> {
+        match self.frames.get(frame.checked_sub(1)?) {
+            Some(Payload::Packet(packet)) => Some(packet),
+            _ => None,
         }
     }
 

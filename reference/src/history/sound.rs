@@ -29,10 +29,17 @@ fn handles_rise(state: &State) -> bool {
     held == rising
 }
 
-/// Would 0x03 accept this monitor, all handles below its own being live?
+/// Would 0x03, or 0x0F, accept this monitor, all handles below its own being live?
 fn accepted(monitor: &Monitor) -> bool {
-    let mut parameters = vec![0x03, monitor.high as u8, monitor.low as u8];
-    parameters.extend([monitor.interval, monitor.sampling, monitor.kind]);
+    let sub = if monitor.options == 0 { 0x03 } else { 0x0F };
+    let mut parameters = vec![sub, monitor.high as u8, monitor.low as u8, monitor.interval, monitor.sampling];
+    if sub == 0x0F {
+        parameters.extend([monitor.options, monitor.reports]);
+        parameters.extend(monitor.peer.address);
+        parameters.push(monitor.peer.kind);
+        parameters.extend(monitor.irk);
+    }
+    parameters.push(monitor.kind);
     parameters.extend(monitor.condition());
     let view = View { filter: 0, live: ((1u32 << monitor.handle) - 1) as u16, prefix: &[] };
     let answer = command::answer(&view, &parameters, Fault::None);
@@ -45,6 +52,15 @@ fn in_ranges(state: &State, pair: &Pair) -> bool {
     let samples = (1..=254).contains(&monitor.sampling);
     let most_window_ticks = if samples { monitor.sampling - 1 } else { 0 };
     let most_packets = if samples { state.position } else { 0 };
+    // "For monitors that filter duplicates the A3 line's last fields keep that packet though packets is 0 (event type
+    // 0xFF, n 0 while there is none)" (T-13). Version 1 filters none.
+    let keeps = monitor.options != 0 && monitor.reports % 2 == 1;
+    let (least_type, most_type, most_n) = match (keeps, pair.event_type) {
+        (true, 0xFF) => (0xFF, 0xFF, 0),
+        (true, _) => (0, 3, 31),
+        _ if packets == 0 => (0, 0, 0),
+        _ => (0, 3, 31),
+    };
     let ranges: [(i128, i128, i128); 9] = [
         (pair.device.kind as i128, 0, 1),
         (pair.quiet as i128, 0, 10 * monitor.interval as i128 - 1),
@@ -52,8 +68,8 @@ fn in_ranges(state: &State, pair: &Pair) -> bool {
         (packets, 0, most_packets as i128),
         (pair.sum as i128, -127 * packets, 20 * packets),
         (pair.rssi as i128, -127, 20),
-        (pair.event_type as i128, 0, if packets == 0 { 0 } else { 3 }),
-        (pair.n as i128, 0, if packets == 0 { 0 } else { 31 }),
+        (pair.event_type as i128, least_type, most_type),
+        (pair.n as i128, 0, most_n),
         (pair.handle as i128, 0, 15),
     ];
     ranges.iter().all(|(value, least, most)| least <= value && value <= most)

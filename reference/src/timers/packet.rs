@@ -1,19 +1,20 @@
 //! Document 01, "Watching, by history", the paragraph "Packet", with stored timers.
 
+use super::report::{keep_packet, Tally};
 use super::tick::window_report;
 use super::Timers;
-use crate::condition;
 use crate::coverage::{hit, Rule};
 use crate::event;
 use crate::fault::Fault;
 use crate::frame::Packet;
 use crate::limits::{Seconds, DATA, PAIRS};
+use crate::options;
 use crate::state::{Device, Monitor, Pair};
 
 impl Timers {
     /// The live monitors whose condition the packet matches, handles ascending.
     fn matching(&self, packet: &Packet) -> Vec<Monitor> {
-        let matches = |m: &&Monitor| condition::matches(m.kind, m.condition(), packet, self.fault);
+        let matches = |m: &&Monitor| options::matches(m, packet, self.fault);
         let mut list: Vec<Monitor> = self.state.monitors().iter().filter(matches).copied().collect();
         if self.fault == Fault::HandlesDescending {
             list.reverse();
@@ -38,14 +39,24 @@ impl Timers {
         let held_before = self.state.pair_count as usize;
         let mut answer = Vec::new();
         let mut tally = Tally { reasons: filter_off as usize, ..Tally::default() };
+        // For a wrong build: what the device's pairs kept before this packet.
+        let kept_before: Vec<(u8, i8)> = match self.fault {
+            Fault::DuplicateByRssi => {
+                let own = self.state.pairs().iter().filter(|p| p.device == packet.device);
+                own.map(|p| (p.handle, p.rssi)).collect()
+            }
+            _ => Vec::new(),
+        };
         if self.fault != Fault::KeptAfterwards {
             matching.iter().for_each(|monitor| self.keep(monitor, packet));
         }
         for monitor in &matching {
             if let Some(place) = self.held(monitor.handle, &packet.device) {
+                let same_rssi = kept_before.contains(&(monitor.handle, packet.rssi));
                 self.keep(monitor, packet);
                 self.take(place, monitor, packet);
-                tally.reasons += self.reported_under_watch(monitor, packet) as usize;
+                tally.reasons +=
+                    self.reported_under_watch(place, monitor, packet, same_rssi, &mut tally) as usize;
             } else if self.strong(monitor, packet) {
                 let mut stop = Vec::new();
                 if !self.has_room(held_before) {
@@ -72,10 +83,15 @@ impl Timers {
                 }
                 tally.starts += 1;
                 tally.quiet_starts += (monitor.sampling == 0xFF) as usize;
-                tally.reasons += !(monitor.sampling == 0xFF && self.fault == Fault::NoStartReport) as usize;
+                tally.reasons += self.reported_at_start(monitor, packet) as usize;
             }
         }
         tally.count(filter_off);
+        match self.fault {
+            Fault::DuplicateForAll if tally.duplicates > 0 => tally.reasons = filter_off as usize,
+            Fault::DuplicateOffHidden if tally.duplicates > 0 => tally.reasons -= filter_off as usize,
+            _ => (),
+        }
         let report = self.reports(packet, tally.reasons > 0);
         match self.fault {
             Fault::ReportPerMonitor => (0..tally.reasons).for_each(|_| answer.extend(&report)),
@@ -84,30 +100,6 @@ impl Timers {
             _ => (),
         }
         answer
-    }
-
-    /// The packet's report; for kind 04 a second one of event type 4 with the scan response follows (T-06).
-    fn reports(&self, packet: &Packet, wanted: bool) -> Vec<u8> {
-        let filter_off = self.state.filter == 0;
-        let mut octets = event::report(packet.event_type, &packet.device, &packet.data, packet.rssi);
-        let Some(scan) = &packet.scan else { return octets };
-        hit(match (wanted, filter_off) {
-            (false, _) => Rule::ScanNoReport,
-            (_, _) if scan.is_empty() => Rule::ScanReportEmpty,
-            (_, true) => Rule::ScanReportOff,
-            _ => Rule::ScanReport,
-        });
-        let missing = match self.fault {
-            Fault::ScanReportMissing => true,
-            Fault::ScanReportWhileOff => filter_off,
-            Fault::EmptyScanNoReport => scan.is_empty(),
-            _ => false,
-        };
-        if !missing {
-            let event_type = if self.fault == Fault::ScanReportType0 { 0 } else { event::SCAN_RESPONSE };
-            octets.extend(event::report(event_type, &packet.device, scan, packet.rssi));
-        }
-        octets
     }
 
     /// Is its RSSI at least high?
@@ -181,17 +173,6 @@ impl Timers {
         stop
     }
 
-    /// A matching monitor with sampling 0 and the pair under watch is a reason for a report.
-    fn reported_under_watch(&self, monitor: &Monitor, packet: &Packet) -> bool {
-        if monitor.sampling != 0 || (self.fault == Fault::LowNotReported && packet.rssi <= monitor.low) {
-            return false;
-        }
-        if self.state.filter == 1 {
-            hit(Rule::ReportSampling0);
-        }
-        true
-    }
-
     /// A matching packet of a pair under watch: a good one begins the run anew; a window takes it.
     fn take(&mut self, place: usize, monitor: &Monitor, packet: &Packet) {
         let fault = self.fault;
@@ -231,6 +212,13 @@ impl Timers {
         hit(Rule::Start);
         let mut pair =
             Pair { handle: monitor.handle, device: packet.device, rssi: packet.rssi, ..Pair::NONE };
+        if options::filters_duplicates(monitor) {
+            pair.event_type = if self.fault == Fault::NoPacketIsEmpty { 0 } else { Pair::NO_PACKET };
+            let off = self.fault == Fault::KeptWhileOn && self.state.filter == 0;
+            if self.reported_at_start(monitor, packet) && self.fault != Fault::StartNotKept && !off {
+                keep_packet(&mut pair, packet);
+            }
+        }
         if at_shared(monitor, packet) {
             hit(Rule::StartShared);
             if self.fault == Fault::SharedStartOneTick {
@@ -273,33 +261,6 @@ impl Timers {
 /// Is the packet at the value of equal thresholds?
 fn at_shared(monitor: &Monitor, packet: &Packet) -> bool {
     monitor.high == monitor.low && packet.rssi == monitor.low
-}
-
-/// What happened at one packet: reasons for a report, starts, and starts that found no room.
-#[derive(Default)]
-struct Tally {
-    reasons: usize,
-    starts: usize,
-    quiet_starts: usize,
-    no_room: usize,
-    displaced: usize,
-}
-
-impl Tally {
-    fn count(&self, filter_off: bool) {
-        let rules = [
-            (self.starts > 1, Rule::StartSeveral),
-            (self.no_room > 0, Rule::StartNoRoom),
-            (self.no_room > 0 && self.starts > 0, Rule::StartSomeRoom),
-            (self.displaced > 1, Rule::DisplacesSeveral),
-            (self.starts > 0 && filter_off, Rule::StartWhileOff),
-            (filter_off, Rule::ReportOff),
-            (self.starts > 0 && !filter_off, Rule::ReportStart),
-            (!filter_off && self.starts > 0 && self.reasons == self.quiet_starts, Rule::ReportStart255),
-            (self.reasons == 0, Rule::ReportNone),
-        ];
-        rules.iter().filter(|(reached, _)| *reached).for_each(|(_, rule)| hit(*rule));
-    }
 }
 
 /// Put a packet into a pair's window: count, sum, and the latest packet. A window holds no more packets than the

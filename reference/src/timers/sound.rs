@@ -6,7 +6,8 @@ use crate::limits::{
     rssi_in_range, Seconds, CONDITION, DATA, INTERVAL_LEAST, INTERVAL_MOST, MONITORS, OPCODE_LEAST, PAIRS,
     PREFIX,
 };
-use crate::state::{Monitor, Pair, State};
+use crate::options;
+use crate::state::{Device, Monitor, Pair, State};
 
 pub fn sound(state: &State, fault: Fault) -> bool {
     settings_in_range(state)
@@ -37,7 +38,13 @@ fn monitors_sound(state: &State, fault: Fault) -> bool {
         && state.monitors[count..].iter().all(|place| *place == Monitor::NONE)
 }
 
-/// Every monitor as 0x03 would accept it.
+/// What version 2 adds: as 0x0F would accept it, or all 0.
+fn options_sound(m: &Monitor, fault: Fault) -> bool {
+    let none = m.reports == 0 && m.peer == Device::default() && m.irk == [0; 16];
+    (m.second() && !options::forbidden(m, fault)) || (!m.second() && none)
+}
+
+/// Every monitor as 0x03 or 0x0F would accept it.
 fn monitor_sound(m: &Monitor, fault: Fault) -> bool {
     let refused = fault == Fault::EqualRefused && m.high == m.low;
     let thresholds = rssi_in_range(m.high) && rssi_in_range(m.low) && m.high >= m.low && !refused;
@@ -50,6 +57,7 @@ fn monitor_sound(m: &Monitor, fault: Fault) -> bool {
         && m.length as usize <= CONDITION
         && form(m.kind, m.condition()) == Form::WellFormed
         && zeros(&m.octets[m.length as usize..])
+        && options_sound(m, fault)
 }
 
 fn pair_sound(state: &State, pair: &Pair, fault: Fault) -> bool {
@@ -70,16 +78,19 @@ fn pair_sound(state: &State, pair: &Pair, fault: Fault) -> bool {
         None if monitor.sampling == 0xFF && fault == Fault::Period255 => true,
         None => pair.window_ticks == 0 && pair.packets == 0,
     };
+    // A monitor that filters duplicates: the pair keeps a packet, or none (T-13).
+    let filters = options::filters_duplicates(monitor);
+    let no_packet = filters && pair.event_type == Pair::NO_PACKET && pair.n == 0;
     let limit = Seconds(monitor.interval).ticks().0;
     pair.device.kind <= 1
         && (rssi_in_range(pair.rssi) || fault == Fault::KeptNotChecked)
-        && pair.event_type <= 3
+        && (pair.event_type <= 3 || no_packet)
         && pair.n as usize <= DATA
         && zeros(&pair.data[pair.n as usize..])
         && (pair.quiet < limit
             || (pair.quiet == limit && matches!(fault, Fault::QuietNotChecked | Fault::EndsLate)))
         && window
-        && (pair.packets > 0 || (pair.sum == 0 && pair.event_type == 0 && pair.n == 0))
+        && (pair.packets > 0 || (pair.sum == 0 && (filters || (pair.event_type == 0 && pair.n == 0))))
 }
 
 fn pairs_distinct(state: &State) -> bool {

@@ -5,6 +5,7 @@ use crate::coverage::{hit, Rule};
 use crate::event;
 use crate::fault::Fault;
 use crate::limits::{Seconds, DATA};
+use crate::options;
 use crate::state::{Monitor, Pair};
 
 impl Timers {
@@ -73,12 +74,16 @@ impl Timers {
         if filter_off && fault == Fault::WindowKeptWhileOff {
             return Vec::new();
         }
+        // Judged by the packet that would be reported (T-13).
+        let fits = options::reported(monitor, pair.event_type, fault);
         hit(match (filter_off, pair.packets) {
             (true, _) => Rule::WindowOff,
             (false, 0) => Rule::WindowEmpty,
-            (false, _) => Rule::WindowReport,
+            (false, _) if fits => Rule::WindowReport,
+            (false, _) => Rule::WindowUnreported,
         });
-        let speaks = !filter_off || fault == Fault::WindowReportsWhileOff;
+        let fits = fits || matches!(fault, Fault::WindowWithoutBit | Fault::ReportedWithoutBit);
+        let speaks = fits && (!filter_off || fault == Fault::WindowReportsWhileOff);
         let report = if speaks && (pair.packets > 0 || fault == Fault::EmptyWindowReported) {
             window_report(pair, fault)
         } else {

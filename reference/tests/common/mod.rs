@@ -1,6 +1,8 @@
 //! A host that gives frames to an engine and numbers them, for tests written by hand.
 #![allow(dead_code)]
 
+pub mod second;
+
 use reference::engine::Engine;
 use reference::generate::frames;
 use reference::history::History;
@@ -30,7 +32,7 @@ pub struct Host {
 }
 
 /// Do the same with both engines, each started with document 01's settings.
-pub fn both(work: impl Fn(&mut Host)) {
+pub fn both(mut work: impl FnMut(&mut Host)) {
     for engine in [Box::new(Timers::default()) as Box<dyn Engine>, Box::new(History::default())] {
         let mut host = Host { engine, next: 1 };
         host.engine.start(OPCODE, &PREFIX).unwrap();

@@ -1,124 +1,44 @@
 use Rattle.commands.specs.Stored.{row-stored}
-use Prim.Native.Nat.{_+_, _*_}
 use native.Mathlib.Omega.{arith}
-use mathlib.Core.Path.{_≡_, _∙_}
-use lib.ListN.{length, length-set}
+use Prim.Native.Nat.{_+_, _*_}
+use Rattle.model.specs.Layout.{monitorSize, monitorsAt}
 use borrow.Author.Needs.{needs}
 use Rattle.commands.proofs.put_monitor.Statement.{statement}
 use Rattle.commands.proofs.put_monitor.Tie as tie
-use Rattle.model.specs.Layout.{monitorSize, monitorsAt}
 
-mul-at : tie.Need-mul-at
-mul-at c = search needs
+mul-row : tie.Need-mul-row
+mul-row c = search needs
 
-add-at : tie.Need-add-at
-add-at c = search needs
+add-row : tie.Need-add-row
+add-row c = search needs
 
-cast-s : tie.Need-cast-s
-cast-s c = search needs
+cast-put-fields : tie.Need-cast-put-fields
+cast-put-fields c = search needs
 
-slice-write-s : tie.Need-slice-write-s
-slice-write-s c = search needs
+put-fields-requires : tie.Need-put-fields-requires
+put-fields-requires c κs = search needs
 
-add-copy : tie.Need-add-copy
-add-copy c = search needs
+add-put-added : tie.Need-add-put-added
+add-put-added c = search needs
 
-sub-copy : tie.Need-sub-copy
-sub-copy c = search needs
-
-part-copy-start : tie.Need-part-copy-start
-part-copy-start c = search needs
-
-part-copy-end : tie.Need-part-copy-end
-part-copy-end c = search needs
-
-copy-requires : tie.Need-copy-requires
-copy-requires c κs = search needs
-
-sub-s : tie.Need-sub-s
-sub-s c = search needs
-
-cast-s-2 : tie.Need-cast-s-2
-cast-s-2 c = search needs
-
-add-s : tie.Need-add-s
-add-s c = search needs
-
-slice-write-s-2 : tie.Need-slice-write-s-2
-slice-write-s-2 c = let e : length (c .before .before .copy .last .0) ≡ length
-    (c .before .before .before .before .before .before .before .args .s .now) = simp length-set at
-    (c .before .s .given) in
-    omega arith
-
-add-copy-2 : tie.Need-add-copy-2
-add-copy-2 c = search needs
-
-sub-copy-2 : tie.Need-sub-copy-2
-sub-copy-2 c = search needs
-
-part-copy-start-2 : tie.Need-part-copy-start-2
-part-copy-start-2 c = search needs
-
-part-copy-end-2 : tie.Need-part-copy-end-2
-part-copy-end-2 c = search needs
-
-copy-requires-2 : tie.Need-copy-requires-2
-copy-requires-2 c κs = search needs
-
-add-fill : tie.Need-add-fill
-add-fill c = search needs
-
-add-fill-2 : tie.Need-add-fill-2
-add-fill-2 c = search needs
-
-sub-fill : tie.Need-sub-fill
-sub-fill c = search needs
-
-fill-requires : tie.Need-fill-requires
-fill-requires c κs = search needs
+put-added-requires : tie.Need-put-added-requires
+put-added-requires c κs = search needs
 
 same-length : tie.Need-same-length
-same-length c = let e1 : length (c .before .before .before .before .before .before .before .before .before .before
-    .before .copy .last .0) ≡ length (c .before .before .before .before .before .before .before .before .before
-    .before .before .before .before .before .before .before .args .s .now) = simp length-set at
-    (c .before .before .before .before .before .before .before .before .before .before .s .given) in
-    let e2 : length (c .before .before .before .before .before .before .copy2 .last .0) ≡ length
-    (c .before .before .before .before .before .before .before .before .before .before .before .copy .last .0) = simp
-    length-set at (c .before .before .before .before .before .s2 .given) in
-    c .before .s3 .given ∙ e2 ∙ e1
+same-length c = search needs
 
 returns : tie.Need-returns
-returns c = let a = c .before .before .before .before .before .before .before .before .before .before .before .before
-    .before .before .before .before .args in
-    row-stored (a .s .now) (a .h) (monitorsAt + monitorSize * a .h) (a .params .now) (omega arith) (omega arith) (omega arith)
-    (c .before .before .before .before .before .before .before .before .before .before .before .copy .ensures)
-    (c .before .before .before .before .before .before .copy2 .ensures) (c .before .before .fill .ensures)
+returns c = let a = c .before .before .before .before .before .before .before .before .before .before .args in row-stored (a .s .now) (monitorsAt + monitorSize * a .h) (a .h) (a .at) (a .params .now) (c .before .before .before .before .before .before .before .before .before .before .pre .2) (omega (arith, c .before .before .before .before .before .before .before .before .before .before .pre .0, c .before .before .before .before .before .before .before .before .before .before .pre .1)) (c .before .before .before .before .before .before .put-fields .ensures) (c .before .before .put-added .ensures)
 
 pub put-monitor-spec : {M : Type 1} → statement M
 put-monitor-spec =
     tie.close
     (tie.spec
-    mul-at
-    add-at
-    cast-s
-    slice-write-s
-    add-copy
-    sub-copy
-    part-copy-start
-    part-copy-end
-    copy-requires
-    sub-s
-    cast-s-2
-    add-s
-    slice-write-s-2
-    add-copy-2
-    sub-copy-2
-    part-copy-start-2
-    part-copy-end-2
-    copy-requires-2
-    add-fill
-    add-fill-2
-    sub-fill
-    fill-requires
+    mul-row
+    add-row
+    cast-put-fields
+    put-fields-requires
+    add-put-added
+    put-added-requires
     same-length
     returns)

@@ -6,7 +6,7 @@ use Rattle.state.proofs.put_blank.Tie as tie
 use Rattle.state.proofs.put_blank.Reads as reads
 use Rattle.state.proofs.put_blank.Lts as lts
 use Rattle.parts.proofs.fill.Reads as fill-reads
-use Rattle.state.proofs.set_settings.Reads as set-settings-reads
+use Rattle.state.proofs.settings.set_settings.Reads as set-settings-reads
 
 -- src/lib.rt:86:9
 returns : tie.Need-returns

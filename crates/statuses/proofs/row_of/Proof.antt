@@ -6,10 +6,10 @@ use Rattle.statuses.proofs.row_of.Statement.{statement}
 use Rattle.statuses.proofs.row_of.Tie as tie
 
 abbrev Inv-loop : tie.InvT-loop
-Inv-loop sub t i₀ i = (i ≤ 4) × Left i sub
+Inv-loop sub t i₀ i = (i ≤ 5) × Left i sub
 
 abbrev μ-loop : tie.MeasureT-loop
-μ-loop sub t i₀ i = 4 - i
+μ-loop sub t i₀ i = 5 - i
 
 loop-holds : tie.Need-loop-holds Inv-loop μ-loop
 loop-holds c = (omega arith, (refl, refl))

@@ -1,14 +1,14 @@
 use mathlib.Core.List.{[]}
 use Rattle.ticks.specs.Table.{columnOf, column-none, column-turn, column-end}
-use lib.ListN.{length, take, length-set}
-use Prim.Native.Nat.{_≤_, _-_}
+use lib.ListN.{length, take, getD, length-set}
+use Prim.Native.Nat.{_+_, _*_, _≤_, _-_}
 use mathlib.Core.Path.{_≡_, refl}
 use native.Mathlib.Omega.{arith}
 use Rattle.ticks.proofs.column.Statement.{statement}
 use Rattle.ticks.proofs.column.Tie as tie
 use Rattle.ticks.proofs.column.Reads as reads
 use Rattle.ticks.proofs.column.Lts as lts
-use Rattle.model.specs.Layout.{mostMonitors}
+use Rattle.model.specs.Layout.{monitorSize, mostMonitors}
 
 abbrev Inv-loop : tie.InvT-loop
 Inv-loop s at r₀ h₀ r h = (h ≤ mostMonitors) × (length r ≡ mostMonitors) × (take h r ≡ columnOf s at h)
@@ -18,7 +18,7 @@ abbrev μ-loop : tie.MeasureT-loop
 
 -- src/lib.rt:242:5
 loop-holds : tie.Need-loop-holds Inv-loop μ-loop
-loop-holds c = (omega arith, refl, column-none _ _ [])
+loop-holds c = (omega arith, refl, column-none _ [])
 
 -- src/lib.rt:243:23
 mul-r : tie.Need-mul-r Inv-loop μ-loop
@@ -47,11 +47,11 @@ loop-less c = omega arith
 -- src/lib.rt:242:5
 loop-again : tie.Need-loop-again Inv-loop μ-loop
 loop-again c = let a = c .before .before .before .args in let l = c .before .before .loop in
-    (omega arith, simp length-set (l .inv .1), column-turn (a .s .now) (a .at) (l .h) (l .r) (omega arith) (l .inv .2))
+    (omega arith, simp length-set (l .inv .1), column-turn (λ h. getD (a .s .now) (a .at + monitorSize * h) 0) (l .h) (l .r) refl (omega arith) (l .inv .2))
 
 -- src/lib.rt:236:1
 returns : tie.Need-returns Inv-loop μ-loop
-returns c = let a = c .before .before .args in let l = c .before .loop in column-end (a .s .now) (a .at) (l .h) (l .r) (omega arith) (l .inv .1) (l .inv .2)
+returns c = let a = c .before .before .args in let l = c .before .loop in column-end (λ h. getD (a .s .now) (a .at + monitorSize * h) 0) (l .h) (l .r) (omega arith) (l .inv .1) (l .inv .2)
 
 pub column-spec : {M : Type 1} → statement M
 column-spec =

@@ -40,7 +40,7 @@ same-length-2 c = search needs
 
 -- src/lib.rt:225:1
 returns : tie.Need-returns
-returns c = let a = c .before .before .before .before .before .before .before .before .before .before .before .before .before .before .before .before .args in let e = c .before .before .before .before .before .before .before .before .tick-rows .ensures in
+returns c = let a = c .before .before .before .before .before .before .before .before .before .before .before .before .before .before .before .before .before .args in let e = c .before .before .before .before .before .before .before .before .tick-rows .ensures in
     let k : length (c .before .before .before .before .before .before .before .before .tick-rows .last .0) ≡ length (a .t .now) = c .before .before .before .before .before .before .before .before .tick-rows .kept .0 in
     passed-cleared (a .t .now) (a .out .now) _ _ (a .n) (e .0) (e .1) (omega arith) (e .2) (c .before .before .fill .ensures .0) (c .before .before .fill .ensures .1)
 

@@ -8,7 +8,7 @@ use Rattle.ticks.proofs.tick_row.Reads as reads
 use Rattle.ticks.proofs.tick_row.Lts as lts
 use Rattle.octets.proofs.get16.Reads as get16-reads
 use Rattle.ticks.proofs.keep_row.Reads as keep-row-reads
-use Rattle.ticks.proofs.octet_at.Reads as octet-at-reads
+use Rattle.ticks.proofs.tells.octet_at.Reads as octet-at-reads
 use Rattle.ticks.proofs.stays.Reads as stays-reads
 use Rattle.ticks.proofs.tells.tell.Reads as tell-reads
 use Rattle.state.proofs.Seconds.ticks.Reads as ticks-reads
@@ -28,7 +28,7 @@ slice-read-handle c = search needs
 
 -- src/lib.rt:173:18
 cast-handle : tie.Need-cast-handle
-cast-handle c = omega (arith, c .slice-known3 .given (pairSize * c .before .before .before .before .before .before .args .i))
+cast-handle c = omega (arith, c .slice-known3 .given (pairSize * c .before .before .before .before .before .before .before .args .i))
 
 -- src/lib.rt:174:46
 octet-at-requires : tie.Need-octet-at-requires
@@ -72,15 +72,15 @@ tell-requires c κs = search needs
 
 -- src/lib.rt:178:17
 add-wrote : tie.Need-add-wrote
-add-wrote c = let a = c .before .before .before .before .before .before .before .before .before .before .before .before .before .before .before .before .before .before .args in
-    let n = turn-room (a .intervals .now) (a .periods .now) (a .filter) (a .prefix .now) (a .t .now) (a .out .now) (a .i) (a .kept) (a .at) (omega arith) (omega arith) (omega arith)
+add-wrote c = let a = c .before .before .before .before .before .before .before .before .before .before .before .before .before .before .before .before .before .before .before .args in
+    let n = turn-room (a .intervals .now) (a .periods .now) (a .filters .now) (a .prefix .now) (a .t .now) (a .out .now) (a .i) (a .kept) (a .at) (omega arith) (omega arith) (omega arith)
     (c .before .before .before .before .before .before .before .before .before .before .before .octet-at .ensures) (c .before .before .before .before .before .before .before .before .before .before .ticks .ensures) (c .before .before .before .before .before .before .before .before .before .octet-at2 .ensures) (c .before .before .before .before .before .before .before .get16 .ensures) (c .before .before .before .before .before .before .stays .ensures) (c .before .before .tell .ensures) in
-    omega (arith, n)
+    omega (arith, n, c .before .before .before .before .before .before .before .before .before .before .before .before .before .before .before .before .before .before .before .good .1 .1 .1 .0 .0)
 
 -- src/lib.rt:180:9
 keep-row-requires : tie.Need-keep-row-requires
-keep-row-requires c κs = let a = c .before .before .before .before .before .before .before .before .before .before .before .before .before .before .before .before .before .before .before .before .args in
-    let n = silent-most (a .intervals .now) (a .periods .now) (a .filter) (a .prefix .now) (a .t .now) (a .out .now) (a .i) (a .kept) (a .at) (omega arith) (omega arith) (omega arith)
+keep-row-requires c κs = let a = c .before .before .before .before .before .before .before .before .before .before .before .before .before .before .before .before .before .before .before .before .before .args in
+    let n = silent-most (a .intervals .now) (a .periods .now) (a .filters .now) (a .prefix .now) (a .t .now) (a .out .now) (a .i) (a .kept) (a .at) (omega arith) (omega arith) (omega arith)
     (c .before .before .before .before .before .before .before .before .before .before .before .before .before .octet-at .ensures) (c .before .before .before .before .before .before .before .before .before .before .before .before .ticks .ensures) (c .before .before .before .before .before .before .before .before .before .before .before .octet-at2 .ensures) (c .before .before .before .before .before .before .before .before .before .get16 .ensures) (c .before .before .before .before .before .before .before .before .stays .ensures) (c .before .before .before .before .tell .ensures) (c .before .if1 .taken) (search needs) in
     (omega arith, omega arith, omega arith, n)
 
@@ -98,8 +98,8 @@ same-length-2 c = search needs
 
 -- src/lib.rt:181:9
 returns : tie.Need-returns
-returns c = let a = c .before .before .before .before .before .before .before .before .before .before .before .before .before .before .before .before .before .before .before .before .before .before .before .args in
-    turn-stays (a .intervals .now) (a .periods .now) (a .filter) (a .prefix .now) (a .t .now) (a .out .now) (a .i) (a .kept) (a .at) (omega arith) (omega arith) (omega arith)
+returns c = let a = c .before .before .before .before .before .before .before .before .before .before .before .before .before .before .before .before .before .before .before .before .before .before .before .before .args in
+    turn-stays (a .intervals .now) (a .periods .now) (a .filters .now) (a .prefix .now) (a .t .now) (a .out .now) (a .i) (a .kept) (a .at) (omega arith) (omega arith) (omega arith)
     (c .before .before .before .before .before .before .before .before .before .before .before .before .before .before .before .before .octet-at .ensures) (c .before .before .before .before .before .before .before .before .before .before .before .before .before .before .before .ticks .ensures) (c .before .before .before .before .before .before .before .before .before .before .before .before .before .before .octet-at2 .ensures) (c .before .before .before .before .before .before .before .before .before .before .before .before .get16 .ensures) (c .before .before .before .before .before .before .before .before .before .before .before .stays .ensures) (c .before .before .before .before .before .before .before .tell .ensures) (c .before .before .before .before .if1 .taken) (c .before .before .keep-row .ensures)
 
 -- src/lib.rt:167:1
@@ -112,8 +112,8 @@ same-length-4 c = search needs
 
 -- src/lib.rt:167:1
 returns-2 : tie.Need-returns-2
-returns-2 c = let a = c .before .before .before .before .before .before .before .before .before .before .before .before .before .before .before .before .before .before .before .args in
-    turn-ends (a .intervals .now) (a .periods .now) (a .filter) (a .prefix .now) (a .t .now) (a .out .now) (a .i) (a .kept) (a .at) (omega arith) (omega arith) (omega arith)
+returns-2 c = let a = c .before .before .before .before .before .before .before .before .before .before .before .before .before .before .before .before .before .before .before .before .args in
+    turn-ends (a .intervals .now) (a .periods .now) (a .filters .now) (a .prefix .now) (a .t .now) (a .out .now) (a .i) (a .kept) (a .at) (omega arith) (omega arith) (omega arith)
     (c .before .before .before .before .before .before .before .before .before .before .before .before .octet-at .ensures) (c .before .before .before .before .before .before .before .before .before .before .before .ticks .ensures) (c .before .before .before .before .before .before .before .before .before .before .octet-at2 .ensures) (c .before .before .before .before .before .before .before .before .get16 .ensures) (c .before .before .before .before .before .before .before .stays .ensures) (c .before .before .before .tell .ensures) (c .if1 .left)
 
 pub tick-row-spec : {M : Type 1} → statement M

@@ -12,11 +12,11 @@ use Rattle.ticks.proofs.tick_row.Reads as tick-row-reads
 use Rattle.model.specs.Layout.{reportMost}
 
 abbrev Inv-loop : tie.InvT-loop
-Inv-loop t₀ n out₀ intervals periods filter prefix i₀ kept₀ wrote₀ t out i kept wrote = (i ≤ n) × (kept ≤ i) × (wrote ≤ reportMost * i) × (length t ≡ length t₀) × (length out ≡ length out₀)
-    × Passed t₀ t out₀ out kept wrote (keptAt intervals periods t₀) (toldAt intervals periods filter prefix t₀) i
+Inv-loop t₀ n out₀ intervals periods filters prefix i₀ kept₀ wrote₀ t out i kept wrote = (i ≤ n) × (kept ≤ i) × (wrote ≤ reportMost * i) × (length t ≡ length t₀) × (length out ≡ length out₀)
+    × Passed t₀ t out₀ out kept wrote (keptAt intervals periods t₀) (toldAt intervals periods filters prefix t₀) i
 
 abbrev μ-loop : tie.MeasureT-loop
-μ-loop t₀ n out₀ intervals periods filter prefix i₀ kept₀ wrote₀ t out i kept wrote = n - i
+μ-loop t₀ n out₀ intervals periods filters prefix i₀ kept₀ wrote₀ t out i kept wrote = n - i
 
 -- src/lib.rt:215:5
 loop-holds : tie.Need-loop-holds Inv-loop μ-loop
@@ -36,13 +36,13 @@ loop-less c = omega arith
 
 -- src/lib.rt:215:5
 loop-again : tie.Need-loop-again Inv-loop μ-loop
-loop-again c = let a = c .before .before .before .before .before .before .before .before .before .before .before .before .before .before .args in let l = c .before .before .before .before .before .before .before .before .loop in let e = c .before .before .before .before .tick-row .ensures in (
+loop-again c = let a = c .before .before .before .before .before .before .before .before .before .before .before .before .before .before .before .args in let l = c .before .before .before .before .before .before .before .before .loop in let e = c .before .before .before .before .tick-row .ensures in (
   omega arith,
   omega (arith, e .kept-most, l .inv .1),
   omega (arith, e .wrote-most, l .inv .2),
   c .before .before .before .before .tick-row .kept .0 ∙ l .inv .3,
   c .before .before .before .before .tick-row .kept .1 .1 .1 .0 ∙ l .inv .4,
-  passed-turn (a .intervals .now) (a .periods .now) (a .filter) (a .prefix .now) (a .t .now) (a .out .now) (l .i) (l .inv .1) (l .inv .5) e,
+  passed-turn (a .intervals .now) (a .periods .now) (a .filters .now) (a .prefix .now) (a .t .now) (a .out .now) (l .i) (l .inv .1) (l .inv .5) e,
 )
 
 -- src/lib.rt:208:1
@@ -55,7 +55,7 @@ same-length-2 c = c .before .loop .inv .4
 
 -- src/lib.rt:208:1
 returns : tie.Need-returns Inv-loop μ-loop
-returns c = let a = c .before .before .before .before .before .before .before .args in let l = c .before .loop in
+returns c = let a = c .before .before .before .before .before .before .before .before .args in let l = c .before .loop in
     let e : l .i ≡ a .n = omega arith in
     (omega (arith, l .inv .1), omega (arith, l .inv .2), rw e at (l .inv .5))
 

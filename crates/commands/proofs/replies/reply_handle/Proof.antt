@@ -1,8 +1,8 @@
-use Rattle.commands.specs.Replies.{headOf, answer-handle, reply-three}
+use Rattle.commands.specs.Replies.{headOf, reply-three}
 use Rattle.laws.specs.Put.{put}
 use native.Mathlib.Omega.{arith}
 use Prim.Native.Nat.{ℕ}
-use mathlib.Core.Path.{_≡_, _∙_, ap}
+use mathlib.Core.Path.{_≡_, refl, sym, ap, _∙_}
 use lib.ListN.{length, length-set}
 use borrow.Author.Needs.{needs}
 use Rattle.commands.proofs.replies.reply_handle.Statement.{statement}
@@ -12,29 +12,22 @@ answer-of-requires : tie.Need-answer-of-requires
 answer-of-requires c κs = search needs
 
 put-head-requires : tie.Need-put-head-requires
-put-head-requires c κs = (omega arith, omega (arith, answer-handle (c .answer-of .ensures)))
+put-head-requires c κs = search needs
 
 slice-write-out : tie.Need-slice-write-out
 slice-write-out c = search needs
 
 slice-write-out-2 : tie.Need-slice-write-out-2
-slice-write-out-2 c = let e : length (c .before .before .put-head .last .0) ≡ length
-    (c .before .before .before .before .before .before .args .out .now) = c .before .out .given in
-    simp length-set (omega arith)
+slice-write-out-2 c = let e : length (c .before .before .put-head .last .0) ≡ length (c .before .before .before .before .before .before .args .out .now) = c .before .out .given in simp length-set (omega arith)
 
 slice-write-out-3 : tie.Need-slice-write-out-3
-slice-write-out-3 c = let e : length (c .before .before .put-head .last .0) ≡ length
-    (c .before .before .before .before .before .before .args .out .now) = c .before .out .given in
-    simp length-set (omega arith)
+slice-write-out-3 c = let e : length (c .before .before .put-head .last .0) ≡ length (c .before .before .before .before .before .before .args .out .now) = c .before .out .given in simp length-set (omega arith)
 
 same-length : tie.Need-same-length
 same-length c = search needs
 
 returns : tie.Need-returns
-returns c = let a = c .before .before .before .before .before .before .args in
-    reply-three (a .out .now) (a .opcode) (omega arith) (a .status) 3 (a .handle)
-    (c .before .before .put-head .ensures ∙ ap (λ (n : ℕ). put (a .out .now) 0 (headOf (a .opcode) n))
-    (answer-handle (c .before .before .before .answer-of .ensures)))
+returns c = let a = c .before .before .before .before .before .before .args in reply-three (a .out .now) (a .opcode) (omega arith) (a .status) (a .sub) (a .handle) (c .before .before .put-head .ensures ∙ ap (λ (n : ℕ). put (a .out .now) 0 (headOf (a .opcode) n)) (c .before .before .before .answer-of .ensures ∙ c .before .before .before .before .before .before .pre .1))
 
 pub reply-handle-spec : {M : Type 1} → statement M
 reply-handle-spec =

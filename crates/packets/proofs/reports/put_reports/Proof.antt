@@ -1,5 +1,4 @@
 use Rattle.packets.specs.Answers.{reports-wrote}
-use native.Mathlib.Omega.{arith}
 use borrow.Author.Needs.{needs}
 use Rattle.packets.proofs.reports.put_reports.Statement.{statement}
 use Rattle.packets.proofs.reports.put_reports.Tie as tie

@@ -4,7 +4,8 @@ use lib.ListN.{length, drop}
 use Prim.Native.Nat.{_+_, _-_, _*_, _≤_}
 use mathlib.Core.Path.{_≡_, refl, _∙_}
 use Rattle.model.specs.Layout.{mostMonitors, mostPairs, turnMost}
-use Rattle.model.specs.Types.{Model, Packet}
+use Rattle.model.specs.Types.{Model}
+use Rattle.model.specs.Frames.{packetOf}
 use Rattle.steps.specs.Stepped.{rest-further}
 use Rattle.packets.specs.Held.{Given}
 use Rattle.packets.specs.Starts.{Holding}
@@ -16,70 +17,70 @@ use Rattle.packets.proofs.starts.start_all.Lts as lts
 use Rattle.packets.proofs.starts.start_at.Reads as start-at-reads
 
 abbrev Inv-loop : tie.InvT-loop
-Inv-loop s₀ n acts dev rssi out₀ held₀ wrote₀ h₀ s out held wrote h = (h ≤ mostMonitors) × (held ≤ mostPairs) × (wrote ≤ turnMost * h) × (length s ≡ length s₀) × (length out ≡ length out₀) × (drop wrote out ≡ drop wrote out₀) × ((m : Model) (p : Packet) → Holding m s₀ n → Given (m .mons) p acts dev → rssi ≡ p .rssi → Turns m p h s held out₀ out wrote)
+Inv-loop s₀ n acts dev payload out₀ held₀ wrote₀ told₀ h₀ s out held wrote told h = (h ≤ mostMonitors) × (held ≤ mostPairs) × (wrote ≤ turnMost * h) × (length s ≡ length s₀) × (length out ≡ length out₀) × (drop wrote out ≡ drop wrote out₀) × ((m : Model) → Holding m s₀ n → Given (m .mons) (packetOf payload) acts dev → Turns m (packetOf payload) h s held out₀ out wrote told)
 
 abbrev μ-loop : tie.MeasureT-loop
-μ-loop s₀ n acts dev rssi out₀ held₀ wrote₀ h₀ s out held wrote h = mostMonitors - h
+μ-loop s₀ n acts dev payload out₀ held₀ wrote₀ told₀ h₀ s out held wrote told h = mostMonitors - h
 
--- src/starts.rt:181:5
+-- src/starts.rt:221:5
 loop-holds : tie.Need-loop-holds Inv-loop μ-loop
-loop-holds c = let a = c .before .before .before .args in (
+loop-holds c = let a = c .before .before .before .before .args in (
   omega arith,
   omega arith,
   omega arith,
   refl,
   refl,
   refl,
-  λ m p w g k. turns-none m p (w .measured) (g .sent) (a .s .now) (a .out .now) (a .n) (w .block) (w .count),
+  λ m w g. turns-none m (packetOf (a .payload .now)) (w .measured) (g .sent) (a .s .now) (a .out .now) (a .n) (w .block) (w .count),
 )
 
--- src/starts.rt:182:41
+-- src/starts.rt:222:41
 shared-slice-read-start-at : tie.Need-shared-slice-read-start-at Inv-loop μ-loop
 shared-slice-read-start-at c = omega arith
 
--- src/starts.rt:182:13
+-- src/starts.rt:222:13
 start-at-requires : tie.Need-start-at-requires Inv-loop μ-loop
 start-at-requires c κs = search needs
 
--- src/starts.rt:184:9
+-- src/starts.rt:224:9
 add-wrote : tie.Need-add-wrote Inv-loop μ-loop
 add-wrote c = omega (arith, c .before .before .before .before .before .start-at .ensures .1)
 
--- src/starts.rt:185:9
+-- src/starts.rt:226:9
 add-h : tie.Need-add-h Inv-loop μ-loop
 add-h c = omega arith
 
--- src/starts.rt:181:5
+-- src/starts.rt:221:5
 loop-less : tie.Need-loop-less Inv-loop μ-loop
 loop-less c = omega arith
 
--- src/starts.rt:181:5
+-- src/starts.rt:221:5
 loop-again : tie.Need-loop-again Inv-loop μ-loop
-loop-again c = let a = c .before .before .before .before .before .before .before .before .before .before .before .before .before .before .args in let l = c .before .before .before .before .before .before .before .before .before .before .loop in let t = c .before .before .before .before .before .start-at in (
+loop-again c = let a = c .before .before .before .before .before .before .before .before .before .before .before .before .before .before .before .before .args in let l = c .before .before .before .before .before .before .before .before .before .before .before .loop in let t = c .before .before .before .before .before .before .start-at in (
   omega arith,
   t .ensures .0,
   omega (arith, t .ensures .1),
   t .kept .0 ∙ l .inv .3,
   t .kept .1 .1 .1 .1 .1 .1 .0 ∙ l .inv .4,
   t .ensures .2 ∙ rest-further (l .out) (a .out .now) (l .wrote) (l .wrote + t .result .wrote) (omega arith) (l .inv .5),
-  λ m p w g k.
-      turns-turn m p (w .measured) (g .sent) (a .acts .now) (l .h) _ (omega arith) (g .octets) refl (l .inv .6 m p w g k)
-      (λ x y. t .ensures .3 x p y (g .sent) (g .number) k),
+  λ m w g.
+      turns-turn m (packetOf (a .payload .now)) (w .measured) (g .sent) (a .acts .now) (l .h) _ (omega arith) (g .octets) refl (l .inv .6 m w g)
+      (λ x y. t .ensures .3 x y (g .sent) (g .number)),
 )
 
--- src/starts.rt:174:1
+-- src/starts.rt:206:1
 same-length : tie.Need-same-length Inv-loop μ-loop
 same-length c = c .before .loop .inv .3
 
--- src/starts.rt:174:1
+-- src/starts.rt:206:1
 same-length-2 : tie.Need-same-length-2 Inv-loop μ-loop
 same-length-2 c = c .before .loop .inv .4
 
--- src/starts.rt:174:1
+-- src/starts.rt:206:1
 returns : tie.Need-returns Inv-loop μ-loop
 returns c = let l = c .before .loop in
     let e : l .h ≡ mostMonitors = omega arith in
-    (l .inv .1, omega arith, l .inv .5, λ m p w g k. rw e at (l .inv .6 m p w g k))
+    (l .inv .1, omega arith, l .inv .5, λ m w g. rw e at (l .inv .6 m w g))
 
 pub start-all-spec : {M : Type 1} → statement M
 start-all-spec =

@@ -34,6 +34,7 @@ returns c = (
   omega arith,
   c .before .before .before .before .start-free .ensures .0,
   c .before .before .before .before .start-free .ensures .1 (omega arith),
+  omega arith,
   λ m p x h w q. c .before .before .before .before .start-free .ensures .2 m p x h w q (omega arith),
 )
 
@@ -59,6 +60,7 @@ returns-2 c = let a = c .before .before .before .before .before .before .before 
   omega arith,
   omega arith,
   refl,
+  omega arith,
   λ m p x h w q.
       start-low m (a .s .now) (a .n) p x h w (a .out .now) (a .at) (c .before .before .before .before .before .before .if1 .left) (c .before .before .before .before .weakest .result) (c .before .before .before .before .weakest .ensures .1)
       (rw (← q .rssi, ← c .before .level-of .ensures, ← c .before .before .kept-at .ensures) (c .if2 .taken)),
@@ -82,6 +84,7 @@ returns-3 c = let a = c .before .before .before .before .before .before .before 
   omega arith,
   c .before .before .before .before .start-full .ensures .0,
   c .before .before .before .before .start-full .ensures .1,
+  omega arith,
   λ m p x h w q.
       c .before .before .before .before .start-full .ensures .2 m p (a .n) x h w q (c .before .before .before .before .before .before .before .before .before .before .before .before .before .if1 .left) (c .before .before .before .before .before .before .before .before .before .before .before .weakest .ensures .1)
       (rw (← c .before .before .before .before .before .before .before .before .before .kept-at .ensures, ← c .before .before .before .before .before .before .before .before .level-of .ensures) (c .before .before .before .before .before .before .before .if2 .left)),

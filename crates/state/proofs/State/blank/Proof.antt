@@ -4,7 +4,7 @@ use Rattle.state.proofs.State.blank.Statement.{statement}
 use Rattle.state.proofs.State.blank.Tie as tie
 use Rattle.state.proofs.State.blank.Reads as reads
 use Rattle.state.proofs.State.blank.Lts as lts
-use Rattle.state.proofs.set_settings.Reads as set-settings-reads
+use Rattle.state.proofs.settings.set_settings.Reads as set-settings-reads
 
 -- src/lib.rt:107:22
 slice-aggregate-set-settings : tie.Need-slice-aggregate-set-settings

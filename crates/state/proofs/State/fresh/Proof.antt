@@ -6,7 +6,7 @@ use Rattle.state.proofs.State.fresh.Tie as tie
 use Rattle.state.proofs.State.fresh.Reads as reads
 use Rattle.state.proofs.State.fresh.Lts as lts
 use Rattle.state.proofs.State.blank.Reads as blank-reads
-use Rattle.state.proofs.set_settings.Reads as set-settings-reads
+use Rattle.state.proofs.settings.set_settings.Reads as set-settings-reads
 
 -- src/lib.rt:83:24
 blank-requires : tie.Need-blank-requires

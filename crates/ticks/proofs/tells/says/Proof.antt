@@ -8,34 +8,56 @@ use Rattle.ticks.proofs.tells.says.Tie as tie
 use Rattle.ticks.proofs.tells.says.Reads as reads
 use Rattle.ticks.proofs.tells.says.Lts as lts
 use Rattle.octets.proofs.get32.Reads as get32-reads
+use Rattle.state.proofs.lets_through.Reads as lets-through-reads
 use Rattle.ticks.proofs.tells.closes.Reads as closes-reads
+use Rattle.ticks.proofs.tells.octet_at.Reads as octet-at-reads
 
--- src/lib.rt:70:24
+-- src/lib.rt:80:24
 shared-slice-read-closes : tie.Need-shared-slice-read-closes
 shared-slice-read-closes c = search needs
 
--- src/lib.rt:70:9
+-- src/lib.rt:80:9
 closes-requires : tie.Need-closes-requires
 closes-requires c κs = search needs
 
--- src/lib.rt:71:9
+-- src/lib.rt:81:9
 returns : tie.Need-returns
-returns c = let a = c .before .before .before .before .args in
-    says-open (a .on) (a .period) (a .filter) (a .r .now) (sym (c .before .closes .ensures) ∙ not-true _ (c .if1 .taken))
+returns c = let a = c .before .before .before .before .before .args in
+    says-open (a .on) (a .period) (a .filters .now) (a .r .now) (sym (c .before .closes .ensures) ∙ not-true _ (c .if1 .taken))
 
--- src/lib.rt:73:9
+-- src/lib.rt:83:9
 get32-requires : tie.Need-get32-requires
 get32-requires c κs = search needs
 
--- src/lib.rt:74:46
+-- src/lib.rt:84:36
+shared-slice-read-octet-at : tie.Need-shared-slice-read-octet-at
+shared-slice-read-octet-at c = search needs
+
+-- src/lib.rt:84:36
+cast-octet-at : tie.Need-cast-octet-at
+cast-octet-at c = omega (arith, c .shared-slice-known4 .given 0)
+
+-- src/lib.rt:84:9
+octet-at-requires : tie.Need-octet-at-requires
+octet-at-requires c κs = search needs
+
+-- src/lib.rt:85:47
+shared-slice-read-lets-through : tie.Need-shared-slice-read-lets-through
+shared-slice-read-lets-through c = search needs
+
+-- src/lib.rt:85:9
+lets-through-requires : tie.Need-lets-through-requires
+lets-through-requires c κs = search needs
+
+-- src/lib.rt:86:30
 shared-slice-read-result : tie.Need-shared-slice-read-result
 shared-slice-read-result c = search needs
 
--- src/lib.rt:66:1
+-- src/lib.rt:76:1
 returns-2 : tie.Need-returns-2
-returns-2 c = let a = c .before .before .before .before .before .before .args in
-    says-of (a .on) (a .period) (a .filter) (a .r .now) (omega arith)
-    (sym (c .before .before .before .closes .ensures) ∙ not-false _ (c .before .before .if1 .left)) (c .before .get32 .ensures)
+returns-2 c = let a = c .before .before .before .before .before .before .before .before .before .before .before .args in
+    says-of (a .on) (a .period) (a .filters .now) (a .r .now) (omega arith)
+    (sym (c .before .before .before .before .before .before .before .closes .ensures) ∙ not-false _ (c .before .before .before .before .before .before .if1 .left)) (c .before .before .before .before .before .get32 .ensures) (c .before .before .before .octet-at .ensures) (c .before .lets-through .ensures)
 
 pub says-spec : {M : Type 1} → statement M
 says-spec =
@@ -45,5 +67,10 @@ says-spec =
     closes-requires
     returns
     get32-requires
+    shared-slice-read-octet-at
+    cast-octet-at
+    octet-at-requires
+    shared-slice-read-lets-through
+    lets-through-requires
     shared-slice-read-result
     returns-2)

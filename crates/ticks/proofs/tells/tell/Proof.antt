@@ -22,20 +22,20 @@ tell-window-requires c κs = search needs
 
 -- src/lib.rt:124:34
 add-tell-stop : tie.Need-add-tell-stop
-add-tell-stop c = let a = c .before .before .before .before .before .before .before .before .args in
-    let n = says-most (a .on) (a .period) (a .filter) (a .r .now) (omega arith) (c .before .before .before .tell-window .ensures) in
+add-tell-stop c = let a = c .before .before .before .before .before .before .before .before .before .args in
+    let n = says-most (a .on) (a .period) (a .filters .now) (a .r .now) (omega arith) (c .before .before .before .tell-window .ensures) in
     omega (arith, n)
 
 -- src/lib.rt:124:9
 tell-stop-requires : tie.Need-tell-stop-requires
-tell-stop-requires c κs = let a = c .before .before .before .before .before .before .before .before .args in
+tell-stop-requires c κs = let a = c .before .before .before .before .before .before .before .before .before .args in
     let k : length (c .before .before .before .tell-window .last .1 .0) ≡ length (a .out .now) = c .before .before .before .tell-window .kept .1 .0 in
-    (omega arith, omega arith, stop-room (a .on) (a .period) (a .filter) (a .prefix .now) (a .r .now) (a .at) _ _ (omega arith) (omega arith) (omega arith) (c .before .before .before .tell-window .ensures .count))
+    (omega arith, omega arith, stop-room (a .on) (a .period) (a .filters .now) (a .prefix .now) (a .r .now) (a .at) _ _ (omega arith) (omega arith) (omega arith) (c .before .before .before .tell-window .ensures .count))
 
 -- src/lib.rt:125:5
 add-result : tie.Need-add-result
-add-result c = let a = c .before .before .before .before .before .before .before .before .before .before .before .args in
-    let n = says-most (a .on) (a .period) (a .filter) (a .r .now) (omega arith) (c .before .before .before .before .before .before .tell-window .ensures) in
+add-result c = let a = c .before .before .before .before .before .before .before .before .before .before .before .before .args in
+    let n = says-most (a .on) (a .period) (a .filters .now) (a .r .now) (omega arith) (c .before .before .before .before .before .before .tell-window .ensures) in
     let k = stop-most (a .on) (a .prefix .now) (a .r .now) (omega arith) (omega arith) (c .before .before .tell-stop .ensures) in
     omega (arith, n, k)
 
@@ -46,8 +46,8 @@ same-length c = search needs
 -- src/lib.rt:119:1
 returns : tie.Need-returns
 unfolding toldOn
-returns c = let a = c .before .before .before .before .before .before .before .before .before .before .before .args in
-    appended-then (a .out .now) (a .at) (when (saysRow (a .on) (a .period) (a .filter) (a .r .now)) (reportRow (a .r .now)))
+returns c = let a = c .before .before .before .before .before .before .before .before .before .before .before .before .args in
+    appended-then (a .out .now) (a .at) (when (saysRow (a .on) (a .period) (a .filters .now) (a .r .now)) (reportRow (a .r .now)))
     (when (not (a .on)) (eventOctets (a .prefix .now) (a .r .now) 0)) (omega arith) (c .before .before .before .before .before .before .tell-window .ensures) (c .before .before .tell-stop .ensures)
 
 pub tell-spec : {M : Type 1} → statement M

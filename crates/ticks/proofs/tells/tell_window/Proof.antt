@@ -15,8 +15,8 @@ says-requires c κs = search needs
 
 -- src/lib.rt:83:9
 put-window-requires : tie.Need-put-window-requires
-put-window-requires c κs = let a = c .before .before .before .before .before .args in
-    let f = says (a .on) (a .period) (a .filter) (a .r .now) (sym (c .before .before .says .ensures) ∙ c .before .if1 .taken) in
+put-window-requires c κs = let a = c .before .before .before .before .before .before .args in
+    let f = says (a .on) (a .period) (a .filters .now) (a .r .now) (sym (c .before .before .says .ensures) ∙ c .before .if1 .taken) in
     (omega arith, f .packets, f .short, omega arith)
 
 -- src/lib.rt:83:9
