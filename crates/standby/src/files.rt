@@ -11,7 +11,7 @@ pub struct Got {
 }
 
 // Writes to standard output, or says on standard error why it cannot.
-pub fn put(text: &[u8]) -> bool {
+pub(super) fn put(text: &[u8]) -> bool {
     let done = io::write_all(STDOUT_FILENO, text);
     if !done {
         os::fail(b"standard output");
@@ -20,7 +20,7 @@ pub fn put(text: &[u8]) -> bool {
 }
 
 // Writes the first n octets of a text.
-pub fn put_first(text: &[u8], n: usize) -> bool {
+pub(super) fn put_first(text: &[u8], n: usize) -> bool {
     if text.len() < n {
         return false;
     }
@@ -28,7 +28,7 @@ pub fn put_first(text: &[u8], n: usize) -> bool {
 }
 
 // One read behind the octets that are held.
-pub fn read_some(fd: i32, name: &[u8], text: &mut [u8], held: usize) -> Got
+pub(super) fn read_some(fd: i32, name: &[u8], text: &mut [u8], held: usize) -> Got
     requires { ⌜ held ≤ length (now text) ⌝ }
     ensures { λ r. ⌜ held + r .count ≤ length (now (text .entry)) ⌝ }
 {
@@ -48,7 +48,7 @@ pub fn read_some(fd: i32, name: &[u8], text: &mut [u8], held: usize) -> Got
 }
 
 // Reads until the input ends or the text is full.
-pub fn read_all(fd: i32, name: &[u8], text: &mut [u8]) -> Got
+pub(super) fn read_all(fd: i32, name: &[u8], text: &mut [u8]) -> Got
     ensures { λ r. ⌜ r .count ≤ length (now (text .entry)) ⌝ }
 {
     let most = text.len();
@@ -76,7 +76,7 @@ pub fn read_all(fd: i32, name: &[u8], text: &mut [u8]) -> Got
 }
 
 // Opens a file for reading only, standard input for `-`; below 0 where it cannot, and the reason is on standard error.
-pub fn open(name: &[u8]) -> i32 {
+pub(super) fn open(name: &[u8]) -> i32 {
     if reports::is_dash(name) {
         return STDIN_FILENO;
     }

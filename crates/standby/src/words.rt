@@ -2,12 +2,12 @@
 use libc::STDERR_FILENO;
 use reports::Text;
 
-pub fn say(text: &[u8]) {
+pub(super) fn say(text: &[u8]) {
     io::write_all(STDERR_FILENO, text);
 }
 
 // Says a text.
-pub fn say_text(text: Text) {
+pub(super) fn say_text(text: Text) {
     let octets = text.octets;
     let n = text.count;
     if n <= reports::ROOM {
@@ -16,7 +16,7 @@ pub fn say_text(text: Text) {
 }
 
 // Says a text behind a file's name, where there is one.
-pub fn say_of(name: &[u8], text: Text) {
+pub(super) fn say_of(name: &[u8], text: Text) {
     if text.count == 0 {
         return;
     }
@@ -24,7 +24,7 @@ pub fn say_of(name: &[u8], text: Text) {
     say_text(text);
 }
 
-pub fn usage() {
+pub(super) fn usage() {
     say(
         b"usage: standby [--after N] [--numbered] [--progress] IMAGE JOURNAL (one of them may be -)\n",
     );
