@@ -12,7 +12,7 @@
  *  - a buffer that a call may write overlaps no other buffer of that call;
  *  - a state is used by one call at a time. Different states may be used by different threads at once.
  *
- * A state is a block of 5,225 octets of the caller's, lent to each call and changed in place. It has no pointers and no
+ * A state is a block of 5,802 octets of the caller's, lent to each call and changed in place. It has no pointers and no
  * padding: it may be copied by memcpy and compared by memcmp, and two states are equal exactly when all their octets
  * are. Any octets in it are met: a block that is not a sound state is refused by 7.
  *
@@ -24,7 +24,7 @@
  *
  * What a call needs. Octets of stack, measured over journals (reference/stack): write_line none, save 209, submit
  * 872, submit_line 1,416, replay and replay_to 1,528, begin 5,272, restore 16,321. No memory beside that and the
- * caller's buffers: a state of 5,225 octets, outputs of 2,880, 10,698 and 527. The code is 33 KB and reentrant. By the
+ * caller's buffers: a state of 5,802 octets, outputs of 2,880, 10,698 and 527. The code is 33 KB and reentrant. By the
  * System V calling convention it uses the general registers and those of SSE2 (xmm0 to xmm15), no x87, MMX or AVX: a
  * kernel or an interrupt handler saves these first. Every call's work is bounded, that of the replays by the length
  * of the journal. Its time may depend on all that it is given: where a monitor's condition is a key (type 3), tables
@@ -51,7 +51,7 @@ extern "C" {
 
 /* Octets of a state, and the octets that an output must have, whatever is written: of a frame's answer, of an image,
  * of a line. An output that is shorter is refused by 3. */
-#define BOURNEJADE_STATE_SIZE 5225
+#define BOURNEJADE_STATE_SIZE 5802
 #define BOURNEJADE_ANSWER_SIZE 2880
 #define BOURNEJADE_IMAGE_SIZE 10698
 #define BOURNEJADE_LINE_SIZE 527
@@ -145,6 +145,13 @@ uint8_t bournejade_replay(bournejade_state *state, const uint8_t *journal, size_
  *  - 3 and any other: as above. 7 only where the position that stands in the block is below last. */
 uint8_t bournejade_replay_to(bournejade_state *state, uint32_t last, const uint8_t *journal, size_t journal_size,
                              uint8_t *out, size_t out_size, size_t *taken, size_t *wrote);
+
+/* Which monitors watch a device, for a service desk: address_type 0 public or 1 random, and the address as in a packet,
+ * least significant octet first. Returns how many monitors have it under watch, 0 for none; *lowest is the lowest of their
+ * handles, 0 where there is none. It reads the index in the state alone, and is never refused: of a state that is not
+ * sound the first of at most 64 entries for that device answers. */
+uint32_t bournejade_watchers(const bournejade_state *state, uint8_t address_type, const uint8_t (*address)[6],
+                             uint32_t *lowest);
 
 /* What a match costs, for a budget of work per packet: matches a pattern condition, as command 03 gives it (a count, then
  * patterns), against an advertisement and a scan response (size 0 where there is none). Returns 1 if it matches and 0

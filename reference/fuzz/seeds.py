@@ -135,7 +135,7 @@ def singles():
     for text in (line, line.lower(), line[:-1], line[:-1] + b"\r\n", line[1:], b"\n"):
         yield call(SUBMIT_LINE, 31, ANSWER, counted(text)) + call(SUBMIT_LINE, 0, ANSWER, counted(text))
     monitor = bytes([0, 0xC4, 0xB0, 3, 0, 4, 7])
-    blocks = (0, b"\xff\xff\xff\xfe"), (4, b"\2"), (40, monitor), (5224, b"\1"), (5224, b"A")
+    blocks = (0, b"\xff\xff\xff\xfe"), (4, b"\2"), (40, monitor), (5224, b"\1"), (5224, b"A"), (5225, b"\1"), (5801, b"\1")
     for at, put in blocks:
         damaged = call(OVERWRITE, 0, 0, number(at) + counted(put, 1))
         yield (call(KEEP, 0, 0) + damaged + call(SUBMIT, 31, ANSWER, b"\1" + counted(tick)) + call(SAVE, 0, IMAGE) +

@@ -1,15 +1,19 @@
-//! The state as the block of 5,225 octets that the proved calls are given (docs/DESIGN.md, "The block"): the
-//! fields of A0, a row for each handle, the pairs' rows in start order, their number; the rows hold the fields of A5
+//! The state as the block of 5,802 octets that the proved calls are given (docs/DESIGN.md, "The block"): the
+//! fields of A0, a row for each handle, the pairs' rows in start order, their number, the
+//! index' rows (address type, address, mask), their number; the monitors' and pairs' rows hold the fields of A5
 //! (condition in 64 octets; the added ones 0 for an A1) and of A3, whatever is not in use is 0.
 //!
 //! `of` and `state` undo each other: `of(&state(&b))` is `Some(b)` for any octets, and where `of(&s)` is
 //! `Some(b)`, `state(&b)` is `s`. So a block is sound exactly where its record is.
 
+use crate::index::Entry;
 use crate::limits::{MONITORS, PAIRS};
 use crate::state::{Device, Monitor, Pair, State};
 
 /// Octets of the block.
-pub const SIZE: usize = COUNT_AT + 1;
+pub const SIZE: usize = INDEX_COUNT_AT + 1;
+/// Octets of it before the index: what the crates that know no index are given.
+pub const CORE: usize = INDEX_AT;
 
 const PREFIX_AT: usize = 8;
 const MONITORS_AT: usize = 40;
@@ -17,6 +21,9 @@ const MONITOR_ROW: usize = 96;
 const PAIRS_AT: usize = MONITORS_AT + MONITOR_ROW * MONITORS;
 const PAIR_ROW: usize = 57;
 const COUNT_AT: usize = PAIRS_AT + PAIR_ROW * PAIRS;
+const INDEX_AT: usize = COUNT_AT + 1;
+const INDEX_ROW: usize = 9;
+const INDEX_COUNT_AT: usize = INDEX_AT + INDEX_ROW * PAIRS;
 
 /// The number of monitors in the record of a block that has a row at another place than its handle's. No
 /// sound state has so many; the rows are then held as they stand in the block, one place each.
@@ -44,6 +51,13 @@ pub fn of(state: &State) -> Option<[u8; SIZE]> {
         block[row..row + PAIR_ROW].copy_from_slice(&pair_row(pair));
     }
     block[COUNT_AT] = state.pair_count;
+    for (place, entry) in state.index.iter().enumerate() {
+        let row = INDEX_AT + INDEX_ROW * place;
+        block[row] = entry.device.kind;
+        block[row + 1..row + 7].copy_from_slice(&entry.device.address);
+        block[row + 7..row + 9].copy_from_slice(&entry.mask.to_le_bytes());
+    }
+    block[INDEX_COUNT_AT] = state.index_count;
     (self::state(&block) == *state).then_some(block)
 }
 
@@ -70,6 +84,12 @@ pub fn state(block: &[u8; SIZE]) -> State {
     }
     state.pairs = std::array::from_fn::<_, PAIRS, _>(|i| pair(&part(block, PAIRS_AT + PAIR_ROW * i)));
     state.pair_count = block[COUNT_AT];
+    state.index = std::array::from_fn::<_, PAIRS, _>(|i| {
+        let row = INDEX_AT + INDEX_ROW * i;
+        let device = Device { kind: block[row], address: part(block, row + 1) };
+        Entry { device, mask: u16::from_le_bytes(part(block, row + 7)) }
+    });
+    state.index_count = block[INDEX_COUNT_AT];
     state
 }
 

@@ -17,7 +17,6 @@ use crate::lines;
 use crate::random::Random;
 use crate::script::{self, Call, Outcome};
 use crate::timers::{self, Timers};
-use std::collections::BTreeSet;
 
 /// A script, and for each of its replays how the text is shown and the output is lent.
 pub struct Stored {
@@ -184,7 +183,7 @@ pub fn input(stored: &Stored) -> Vec<u8> {
             Call::Octets { lent, .. } | Call::Line { lent, .. } => (*lent, 0),
             Call::Save { lent } | Call::WriteLine { lent, .. } => (*lent, 0),
             Call::Failover => (IMAGE, 0),
-            Call::Restore { .. } | Call::Adopt(_) => (0, 0),
+            Call::Restore { .. } | Call::Adopt(_) | Call::Ask(_) => (0, 0),
             Call::Replay { .. } | Call::ReplayTo { .. } => {
                 let showing = showings.next().expect("a showing for each replay");
                 (showing.lent, showing.piece)
@@ -202,10 +201,21 @@ pub fn input(stored: &Stored) -> Vec<u8> {
 }
 
 /// The names of the calls, in the order of their tags from 1.
-pub const NAMES: [&str; 10] =
-    ["start", "octets", "line", "save", "write a line", "restore", "failover", "replay", "adopt", "replay to"];
+pub const NAMES: [&str; 11] = [
+    "start",
+    "octets",
+    "line",
+    "save",
+    "write a line",
+    "restore",
+    "failover",
+    "replay",
+    "adopt",
+    "replay to",
+    "ask",
+];
 
-fn tag(call: &Call) -> u8 {
+pub(crate) fn tag(call: &Call) -> u8 {
     match call {
         Call::Start { .. } => 1,
         Call::Octets { .. } => 2,
@@ -217,54 +227,7 @@ fn tag(call: &Call) -> u8 {
         Call::Replay { .. } => 8,
         Call::Adopt(_) => 9,
         Call::ReplayTo { .. } => 10,
-    }
-}
-
-/// What occurs in some scripts.
-#[derive(Clone, PartialEq, Eq, Debug, Default)]
-pub struct Census {
-    /// Calls of each kind, in the order of `NAMES`; the save at each script's end is not counted.
-    pub calls: [usize; 10],
-    /// Calls with refusal n, at place n; the number 8 is not used.
-    pub refusals: [usize; 11],
-    /// Sizes of pieces that are smaller than their text.
-    pub sizes: BTreeSet<usize>,
-    /// Journals shown whole.
-    pub whole: usize,
-}
-
-pub fn census(scripts: &[Stored]) -> Census {
-    let mut census = Census::default();
-    for stored in scripts {
-        let mut showings = stored.showings.iter();
-        for call in &stored.calls {
-            census.calls[tag(call) as usize - 1] += 1;
-            if let Call::Replay { text } | Call::ReplayTo { text, .. } = call {
-                match showings.next() {
-                    Some(showing) if showing.piece < text.len() => drop(census.sizes.insert(showing.piece)),
-                    _ => census.whole += 1,
-                }
-            }
-        }
-        let outcomes = script::run(&mut Timers::default(), &stored.calls);
-        outcomes.iter().for_each(|outcome| census.refusals[outcome.refusal as usize] += 1);
-    }
-    census
-}
-
-impl Census {
-    /// A line for each count.
-    pub fn text(&self) -> String {
-        let mut text = String::new();
-        for (name, count) in NAMES.iter().zip(self.calls) {
-            text += &format!("{count:>8} {name}\n");
-        }
-        // The number 8 is not used (T-11).
-        for (number, count) in self.refusals.iter().enumerate().filter(|(number, _)| *number != 8) {
-            text += &format!("{count:>8} calls with refusal {number}\n");
-        }
-        text += &format!("{:>8} sizes of pieces below their text's length\n", self.sizes.len());
-        text + &format!("{:>8} journals shown whole\n", self.whole)
+        Call::Ask(_) => 11,
     }
 }
 
@@ -276,6 +239,7 @@ fn octets(call: &Call) -> Vec<u8> {
         Call::Line { text, .. } | Call::Restore { text } | Call::Replay { text } => text.clone(),
         Call::ReplayTo { last, text } => [&last.to_le_bytes()[..], text].concat(),
         Call::Save { .. } | Call::Failover => Vec::new(),
+        Call::Ask(device) => [&[device.kind], &device.address[..]].concat(),
         Call::Adopt(state) => packed(&block::of(state).expect("states without a block were left out")),
     }
 }

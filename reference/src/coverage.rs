@@ -131,6 +131,11 @@ rules! {
     ReplayStopped: "replay: stopped",
     ReplayThrough: "replay: ran through",
     ReplayPiece: "replay: a final piece without LF",
+    AskNone: "ask: none",
+    AskOne: "ask: one monitor",
+    AskSeveral: "ask: several monitors",
+    AskAll: "ask: sixteen monitors",
+    AskUnsound: "ask: in a state that is not sound",
     WriteLineDone: "write a line: done",
     LastPosition: "a frame with number 4,294,967,295",
 }

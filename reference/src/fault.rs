@@ -196,6 +196,16 @@ faults! {
     DuplicateByScan: "a packet with a scan response is no duplicate",
     PacketNotInImage: "the packet kept for duplicates is not in the image",
     NoPacketIsEmpty: "a pair without a packet for duplicates has event type 0",
+    // T-02.
+    IndexByLatest: "the index has the devices in the order of their latest start",
+    IndexKeepsStopped: "the index keeps a stopped pair",
+    IndexKeepsDisplaced: "the index keeps a displaced pair",
+    IndexKeepsCancelled: "the index keeps a cancelled monitor",
+    IndexNotRestored: "the index is not worked out at restore",
+    IndexNotChecked: "a state with another index is taken",
+    AskHighest: "asking gives the highest handle",
+    AskWithoutType: "asking does not look at the address type",
+    AskLast: "the last of several entries for a device answers",
     ;
     // T-06: a condition matches if either text does, whichever is looked at first.
     ScanFirst: "the scan response is looked at first",

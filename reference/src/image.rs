@@ -1,6 +1,7 @@
 //! Document 01, "The image": the text of a state, and reading records from a text line by line.
 
 use crate::fault::Fault;
+use crate::index;
 use crate::limits::{CONDITION, DATA, MONITORS, PAIRS, PREFIX};
 use crate::lines;
 use crate::state::{Device, Monitor, Pair, State};
@@ -115,6 +116,9 @@ pub fn read(text: &[u8], fault: Fault) -> Option<State> {
     state.monitors[..monitors.len()].copy_from_slice(&monitors);
     state.pair_count = pairs.len() as u8;
     state.pairs[..pairs.len()].copy_from_slice(&pairs);
+    if fault != Fault::IndexNotRestored {
+        state.hold_index(&index::of(&pairs, fault));
+    }
     if counts != [state.monitor_count, state.pair_count] && fault != Fault::CountsNotRead {
         return None;
     }

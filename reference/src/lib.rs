@@ -1,11 +1,12 @@
 //! Document 01 implemented a second time, by other means than proof: two engines, a generator of
 //! sessions, and what is compared with what. All expected answers of the project's tests come from here.
 
-mod aimed;
 pub mod aes;
+mod aimed;
 pub mod block;
 pub mod calls;
 pub mod cases;
+pub mod census;
 pub mod command;
 pub mod compare;
 pub mod condition;
@@ -18,6 +19,7 @@ pub mod frame;
 pub mod generate;
 pub mod history;
 pub mod image;
+pub mod index;
 pub mod limits;
 pub mod lines;
 pub mod options;

@@ -1,7 +1,9 @@
 //! The command line of the reference.
 
+use reference::engine::Engine;
 use reference::fault::{Fault, VECTOR_FAULTS};
-use reference::{calls, cases, compare, cost, history::History, program, timers::Timers};
+use reference::state::Device;
+use reference::{calls, cases, census, compare, cost, history::History, program, timers::Timers};
 use std::io::{self, Write};
 use std::path::Path;
 use std::process::ExitCode;
@@ -14,6 +16,7 @@ reference history IMAGE JOURNAL     the same by the history rule
 reference calls DIR SEED COUNT      writes DIR/stdin and DIR/stdout: COUNT scripts for crates/calls_run
 reference calls DIR SEED COUNT N    the same scripts, and what wrong build N gives
 reference cases DIR SEED COUNT      writes COUNT cases: DIR/N.image, N.journal, N.expected
+reference watchers IMAGE TYPE ADDRESS   how many monitors watch a device, and the lowest handle
 reference vectors KIND SEED COUNT   COUNT vectors, KIND: lines frames conditions sections blocks commands
                                     images means
 reference costs SEED COUNT          COUNT vectors of the cost of a match
@@ -58,6 +61,7 @@ fn run(arguments: &[&str]) -> Result<Vec<u8>, (u8, String)> {
             write_calls(Path::new(folder), number(seed)?, number(count)?, fault)
         }
         ["cases", folder, seed, count] => write_cases(Path::new(folder), number(seed)?, number(count)?),
+        ["watchers", image, kind, address] => watchers(&read(image)?, kind, address),
         ["vectors", kind, seed, count] => {
             let rows = cases::vectors(kind, number(seed)?, number(count)? as usize).ok_or_else(usage)?;
             Ok((rows.join("\n") + "\n").into_bytes())
@@ -103,6 +107,21 @@ fn run(arguments: &[&str]) -> Result<Vec<u8>, (u8, String)> {
     }
 }
 
+/// `COUNT HANDLE`, or `none`, or `10` for a text that is not an image. The address is as people write it.
+fn watchers(image: &[u8], kind: &str, address: &str) -> Result<Vec<u8>, (u8, String)> {
+    let kind = ["public", "random"].iter().position(|word| *word == kind).ok_or_else(usage)? as u8;
+    let octets: Option<Vec<u8>> = address.split(':').map(|two| u8::from_str_radix(two, 16).ok()).collect();
+    let mut address: [u8; 6] = octets.and_then(|octets| octets.try_into().ok()).ok_or_else(usage)?;
+    address.reverse();
+    let mut engine = Timers::default();
+    let text = match (engine.restore(image), engine.ask(&Device { kind, address })) {
+        (Err(refusal), _) => refusal.number().to_string(),
+        (_, Some((count, lowest))) => format!("{count} {lowest}"),
+        _ => "none".to_string(),
+    };
+    Ok((text + "\n").into_bytes())
+}
+
 fn usage() -> (u8, String) {
     (2, USAGE.to_string())
 }
@@ -143,5 +162,5 @@ fn write_calls(folder: &Path, seed: u64, count: u64, fault: Fault) -> Result<Vec
     fs::create_dir_all(folder).map_err(failed)?;
     fs::write(folder.join("stdin"), input).map_err(failed)?;
     fs::write(folder.join("stdout"), lines).map_err(failed)?;
-    Ok(calls::census(&scripts).text().into_bytes())
+    Ok(census::census(&scripts).text().into_bytes())
 }

@@ -3,7 +3,7 @@
 
 use crate::engine::{write_line, Engine};
 use crate::limits::IMAGE;
-use crate::state::State;
+use crate::state::{Device, State};
 
 #[derive(Clone, PartialEq, Eq, Debug)]
 pub enum Call {
@@ -41,6 +41,8 @@ pub enum Call {
     },
     /// The next call is given this state, sound or not.
     Adopt(Box<State>),
+    /// Which monitors watch this device?
+    Ask(Device),
 }
 
 /// What can be seen of a call.
@@ -88,6 +90,10 @@ pub fn call(engine: &mut dyn Engine, call: &Call) -> Outcome {
             let mut written = replayed.answers;
             written.push((taken as u32).to_le_bytes().to_vec());
             Outcome { refusal: replayed.refusal.map_or(0, |r| r.number()), written, rest_kept: true }
+        }
+        Call::Ask(device) => {
+            let written = engine.ask(device).map_or(Vec::new(), |(count, lowest)| vec![count, lowest]);
+            Outcome { refusal: 0, written: vec![written], rest_kept: true }
         }
         Call::Adopt(state) => {
             engine.adopt(state);

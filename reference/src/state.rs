@@ -1,6 +1,7 @@
 //! The state as document 01's records: what the lines A0, A1, A3 and A5 hold ("The image"), in places of
 //! fixed size, so that every unused octet and place can be asked to be 0 ("Sound").
 
+use crate::index::Entry;
 use crate::limits::{CONDITION, DATA, MONITORS, PAIRS, PREFIX};
 use crate::private::Key;
 
@@ -57,6 +58,9 @@ pub struct State {
     pub monitors: [Monitor; MONITORS],
     pub pair_count: u8,
     pub pairs: [Pair; PAIRS],
+    /// Worked out from the pairs; not in the image (document 02, T-02).
+    pub index: [Entry; PAIRS],
+    pub index_count: u8,
 }
 
 impl Monitor {
@@ -131,6 +135,8 @@ impl State {
             monitors: [Monitor::NONE; MONITORS],
             pair_count: 0,
             pairs: [Pair::NONE; PAIRS],
+            index: [Entry::default(); PAIRS],
+            index_count: 0,
         }
     }
 

@@ -45,6 +45,8 @@ fn the_block_of_the_session_in_full() {
     expected[1576..1584].copy_from_slice(&[0, 0, 6, 5, 4, 3, 2, 1]);
     expected[1576 + 23] = 0xC4;
     expected[5224] = 1;
+    expected[5225..5234].copy_from_slice(&[0, 6, 5, 4, 3, 2, 1, 1, 0]);
+    expected[5801] = 1;
     assert_eq!(block::of(&engine.state()), Some(expected));
     assert_eq!(block::state(&expected), engine.state());
 }
@@ -133,6 +135,7 @@ fn unused(state: &State) -> Vec<usize> {
         let used = state.pairs().get(place).map_or(0, |p| 26 + p.n as usize);
         places.extend(row + used..row + 57);
     }
+    places.extend(5225 + 9 * state.index_count as usize..5801);
     places
 }
 
@@ -181,5 +184,5 @@ fn any_octets_are_some_state() {
         octets = random.octets(SIZE).try_into().unwrap();
         assert!(!sound_block(&octets));
     }
-    assert!(sounds.iter().all(|n| *n > 100), "{sounds:?}");
+    assert!(sounds.iter().all(|n| *n > 50), "{sounds:?}");
 }

@@ -2,10 +2,12 @@
 
 use reference::block::SIZE;
 use reference::calls::{self, PIECES};
+use reference::census;
 use reference::engine::Engine;
 use reference::fault::{Fault, FAULTS};
 use reference::history::History;
 use reference::script::{self, Call};
+use reference::state::Device;
 use reference::timers::Timers;
 
 /// The seed and the number of those stored in crates/calls_run (reference/stored).
@@ -15,7 +17,7 @@ const COUNT: usize = 2000;
 /// Every kind of call, every refusal (8 is not used), every size of a piece, texts shown whole.
 #[test]
 fn what_occurs() {
-    let census = calls::census(&calls::scripts(SEED, COUNT));
+    let census = census::census(&calls::scripts(SEED, COUNT));
     assert!(census.calls.iter().all(|n| *n >= 100), "{census:?}");
     for (number, count) in census.refusals.iter().enumerate() {
         assert_eq!(*count >= 20, number != 8, "refusal {number}: {count}");
@@ -67,6 +69,7 @@ fn input_read_back() {
                     let (last, text) = octets.split_first_chunk().unwrap();
                     Call::ReplayTo { last: u32::from_le_bytes(*last), text: text.to_vec() }
                 }
+                11 => Call::Ask(Device { kind: octets[0], address: octets[1..].try_into().unwrap() }),
                 _ => Call::Adopt(Box::new(reference::block::state(&unpacked(&octets)))),
             };
             assert_eq!(read, *call);

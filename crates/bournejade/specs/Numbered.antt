@@ -16,7 +16,7 @@ use Rattle.sessions.specs.Saved.{cut}
 use Rattle.model.specs.Types.{Model}
 use Rattle.model.specs.Frames.{Body, Typed, command, packet, tick, bad, typed, read}
 use Rattle.model.specs.Step.{act, actTyped, refusalTyped, stepTyped, answerTyped}
-use Rattle.model.specs.Engine.{engine, actBlock, onBlocks}
+use Rattle.wholes.specs.Engine.{engine, actWhole, onWholes}
 use Rattle.model.specs.Block.{held}
 use Rattle.replays.specs.Into.{Reached, begun, reach, lineFrom, linesWhile, replayWhile}
 use Rattle.engine.specs.Calls.{caseOf, caseFrom, cases}
@@ -51,13 +51,13 @@ known-typed m (packet p) = refl
 known-typed m tick = refl
 known-typed m bad = refl
 
-known-blocks : (o : Outcome Model) → known (onBlocks o) ≡ known o
-unfolding known onBlocks
+known-blocks : (o : Outcome Model) → known (onWholes o) ≡ known o
+unfolding known onWholes
 known-blocks (refused n) = refl
 known-blocks (done m l) = refl
 
-known-act : (s : List ℕ) (b : Body) → known (actBlock s b) ≡ true
-unfolding actBlock act
+known-act : (s : List ℕ) (b : Body) → known (actWhole s b) ≡ true
+unfolding actWhole act
 known-act s b = known-blocks (actTyped (held s) (typed b)) ∙ known-typed (held s) (typed b)
 
 known-judge : (s : List ℕ) (x : Option (Line Body)) → known (judge engine s x) ≡ true

@@ -1,6 +1,8 @@
 // The library for firmware in C: the calls of document 01 on numbers and octets, for `rt staticlib bournejade`. The header
-// is include/bournejade.h. The state is the caller's block of 5,225 octets, lent to each call and changed in place; any octets in it are
+// is include/bournejade.h. The state is the caller's block of 5,802 octets, lent to each call and changed in place; any octets in it are
 // met. Each call returns 0 or the refusal's number, and gives the counts of octets through the last parameters.
+mod numbers;
+
 ghost use mathlib.Core.Path.{_≡_};
 ghost use lib.ListN.{length};
 ghost use Rattle.laws.specs.Tests.{pick};
@@ -14,75 +16,19 @@ ghost use Rattle.sessions.specs.Session.{answer, image};
 ghost use Rattle.model.specs.Sound.{soundSettings};
 ghost use Rattle.model.specs.Image.{isImage};
 ghost use Rattle.model.specs.Block.{held};
-ghost use Rattle.model.specs.Engine.{engine, begin};
+ghost use Rattle.model.specs.Types.{device};
+ghost use Rattle.wholes.specs.Engine.{engine, begin};
+ghost use Rattle.wholes.specs.Index.{maskFor, handlesOf};
+ghost use Rattle.wholes.specs.Layout.{wholeSize};
+ghost use Rattle.index.specs.Asked.{watchOf, countIn as watchCount, lowestIn};
 ghost use Rattle.replays.specs.Into.{replayInto, replayTo};
-ghost use Rattle.model.specs.Engine.{blockIn};
-ghost use Rattle.bournejade.specs.Gives.{numberIn, countIn, stopNumber, startNumber, loadNumber, Gave, Replayed};
-use engine::Loaded;
-use engine::Ran;
-use engine::Stop;
-use refusals::Wrote;
-use state::Start;
+ghost use Rattle.wholes.specs.Engine.{blockIn};
+ghost use Rattle.bournejade.specs.Gives.{numberIn, countIn, Gave, Replayed};
+use index::Whole;
 use state::State;
-ghost use Rattle.model.specs.Layout.{blockSize};
 
 // 1.0.0: major, minor and patch in an octet each.
 const VERSION: u32 = 0x010000;
-
-// What a call answered: the number that is returned, and the octets written.
-fn told(r: Wrote, wrote: &mut usize) -> u8
-    ensures { λ n. ⌜ (n ≡ numberIn r) × (now (wrote .exit) ≡ countIn r) ⌝ }
-{
-    match r {
-        Wrote::Done(k) => {
-            *wrote = k;
-            0
-        }
-        Wrote::Refused(x) => {
-            *wrote = 0;
-            refusals::number_of(x)
-        }
-    }
-}
-
-// Why a replay ended, as a number.
-fn stopped(s: Stop) -> u8
-    ensures { λ n. ⌜ n ≡ stopNumber s ⌝ }
-{
-    match s {
-        Stop::End => 0,
-        Stop::Refused(x) => refusals::number_of(x),
-    }
-}
-
-// What a replay did: the number that is returned, how far it read, how much it wrote.
-fn read_told(ran: Ran, taken: &mut usize, wrote: &mut usize) -> u8
-    ensures { λ n. ⌜ (n ≡ stopNumber (ran .stop)) × (now (taken .exit) ≡ ran .taken) × (now (wrote .exit) ≡ ran .wrote) ⌝ }
-{
-    *taken = ran.taken;
-    *wrote = ran.wrote;
-    let stop = ran.stop;
-    stopped(stop)
-}
-
-// What settings and an image's text were answered, as a number.
-fn start_number(a: Start) -> u8
-    ensures { λ n. ⌜ n ≡ startNumber a ⌝ }
-{
-    match a {
-        Start::Fresh => 0,
-        Start::Refused(x) => refusals::number_of(x),
-    }
-}
-
-fn load_number(a: Loaded) -> u8
-    ensures { λ n. ⌜ n ≡ loadNumber a ⌝ }
-{
-    match a {
-        Loaded::Accepted => 0,
-        Loaded::Rejected(x) => refusals::number_of(x),
-    }
-}
 
 // The library's version.
 #[no_mangle]
@@ -95,9 +41,9 @@ pub extern "C" fn bournejade_version() -> u32
 // Octets of a state.
 #[no_mangle]
 pub extern "C" fn bournejade_state_size() -> usize
-    ensures { λ r. ⌜ r ≡ blockSize ⌝ }
+    ensures { λ r. ⌜ r ≡ wholeSize ⌝ }
 {
-    State::SIZE
+    Whole::SIZE
 }
 
 // Octets that the output of a frame must have.
@@ -126,21 +72,21 @@ pub extern "C" fn bournejade_line_size() -> usize
 
 // Begins with settings: 0 and the fresh state, or 9 and the blank one.
 #[no_mangle]
-pub extern "C" fn bournejade_begin(state: &mut [u8; State::SIZE], opcode: u16, prefix: &[u8]) -> u8
+pub extern "C" fn bournejade_begin(state: &mut [u8; Whole::SIZE], opcode: u16, prefix: &[u8]) -> u8
     ensures { λ r. ⌜ r ≡ pick (soundSettings opcode (now (prefix .entry))) 0 9 ⌝ }
     ensures { λ _. ⌜ now (state .exit) ≡ begin opcode (now (prefix .entry)) ⌝ }
 {
-    let begun = State::fresh(opcode, prefix);
+    let begun = Whole::fresh(opcode, prefix);
     let answer = begun.answer;
     let fresh = begun.state;
     let block = fresh.block;
     *state = block;
-    start_number(answer)
+    numbers::start_number(answer)
 }
 
 // The number of the last executed frame, as the block has it.
 #[no_mangle]
-pub extern "C" fn bournejade_position(state: &[u8; State::SIZE]) -> u32
+pub extern "C" fn bournejade_position(state: &[u8; Whole::SIZE]) -> u32
     ensures { λ r. ⌜ r ≡ held (now (state .entry)) .position ⌝ }
 {
     octets::get32(state, 0)
@@ -149,7 +95,7 @@ pub extern "C" fn bournejade_position(state: &[u8; State::SIZE]) -> u32
 // Gives a frame as octets: 0, or 7, 3, 4, 1, 2, 5, 6.
 #[no_mangle]
 pub extern "C" fn bournejade_submit(
-    state: &mut [u8; State::SIZE],
+    state: &mut [u8; Whole::SIZE],
     frame: &[u8],
     out: &mut [u8],
     wrote: &mut usize,
@@ -157,13 +103,13 @@ pub extern "C" fn bournejade_submit(
     ensures { λ r. ⌜ Gave (answer engine (length (now (out .entry))) (now (state .entry)) asOctets (now (frame .entry))) (now (state .entry)) (now (out .entry)) (now (state .exit)) (now (out .exit)) (now (wrote .exit)) r ⌝ }
 {
     let r = engine::submit(state, frame, out);
-    told(r, wrote)
+    numbers::told(r, wrote)
 }
 
 // Gives a frame as its line, with the same result.
 #[no_mangle]
 pub extern "C" fn bournejade_submit_line(
-    state: &mut [u8; State::SIZE],
+    state: &mut [u8; Whole::SIZE],
     line: &[u8],
     out: &mut [u8],
     wrote: &mut usize,
@@ -171,7 +117,7 @@ pub extern "C" fn bournejade_submit_line(
     ensures { λ r. ⌜ Gave (answer engine (length (now (out .entry))) (now (state .entry)) asText (now (line .entry))) (now (state .entry)) (now (out .entry)) (now (state .exit)) (now (out .exit)) (now (wrote .exit)) r ⌝ }
 {
     let r = engine::submit_line(state, line, out);
-    told(r, wrote)
+    numbers::told(r, wrote)
 }
 
 // Writes the line of a frame, for the journal: 0, or 3, 4.
@@ -182,25 +128,25 @@ pub extern "C" fn bournejade_write_line(frame: &[u8], out: &mut [u8], wrote: &mu
     ensures { λ _. ⌜ now (out .exit) ≡ afterWrite (writeLine (now (frame .entry)) (length (now (out .entry)))) (now (out .entry)) (textOf (now (frame .entry))) ⌝ }
 {
     let r = lines::write_line(frame, out);
-    told(r, wrote)
+    numbers::told(r, wrote)
 }
 
 // Saves the image's text: 0, or 7, 3.
 #[no_mangle]
 pub extern "C" fn bournejade_save(
-    state: &[u8; State::SIZE],
+    state: &[u8; Whole::SIZE],
     out: &mut [u8],
     wrote: &mut usize,
 ) -> u8
     ensures { λ r. ⌜ Gave (image engine (length (now (out .entry))) (now (state .entry))) (now (state .entry)) (now (out .entry)) (now (state .entry)) (now (out .exit)) (now (wrote .exit)) r ⌝ }
 {
     let r = engine::save(state, out);
-    told(r, wrote)
+    numbers::told(r, wrote)
 }
 
 // Restores the state of an image's text: 0, or 10 and the blank state.
 #[no_mangle]
-pub extern "C" fn bournejade_restore(state: &mut [u8; State::SIZE], image: &[u8]) -> u8
+pub extern "C" fn bournejade_restore(state: &mut [u8; Whole::SIZE], image: &[u8]) -> u8
     ensures { λ r. ⌜ r ≡ pick (isImage (now (image .entry))) 0 10 ⌝ }
     ensures { λ _. ⌜ now (state .exit) ≡ blockIn (isImage (now (image .entry))) (now (image .entry)) ⌝ }
 {
@@ -209,14 +155,14 @@ pub extern "C" fn bournejade_restore(state: &mut [u8; State::SIZE], image: &[u8]
     let held = restored.state;
     let block = held.block;
     *state = block;
-    load_number(answer)
+    numbers::load_number(answer)
 }
 
 // Replays the whole lines of a piece of journal into one output: 0 at the end of the last one, or the refusal that stopped it, how far
 // it read, how much it wrote.
 #[no_mangle]
 pub extern "C" fn bournejade_replay(
-    state: &mut [u8; State::SIZE],
+    state: &mut [u8; Whole::SIZE],
     journal: &[u8],
     out: &mut [u8],
     taken: &mut usize,
@@ -225,13 +171,13 @@ pub extern "C" fn bournejade_replay(
     ensures { λ r. ⌜ Replayed (replayInto engine (length (now (out .entry))) (now (state .entry)) (now (journal .entry))) (now (out .entry)) (now (state .exit)) (now (out .exit)) (now (taken .exit)) (now (wrote .exit)) r ⌝ }
 {
     let ran = engine::replay(state, journal, out);
-    read_told(ran, taken, wrote)
+    numbers::read_told(ran, taken, wrote)
 }
 
 // Replays up to the frame `last`: the same, but a further line is taken only while the position is below `last`.
 #[no_mangle]
 pub extern "C" fn bournejade_replay_to(
-    state: &mut [u8; State::SIZE],
+    state: &mut [u8; Whole::SIZE],
     last: u32,
     journal: &[u8],
     out: &mut [u8],
@@ -241,7 +187,7 @@ pub extern "C" fn bournejade_replay_to(
     ensures { λ r. ⌜ Replayed (replayTo engine last (length (now (out .entry))) (now (state .entry)) (now (journal .entry))) (now (out .entry)) (now (state .exit)) (now (out .exit)) (now (taken .exit)) (now (wrote .exit)) r ⌝ }
 {
     let ran = engine::replay_to(state, last, journal, out);
-    read_told(ran, taken, wrote)
+    numbers::read_told(ran, taken, wrote)
 }
 
 // Matches a pattern condition, as command 03 gives it, against an advertisement and a scan response, empty where there is none: 1 or 0,
@@ -262,4 +208,20 @@ pub extern "C" fn bournejade_match<'a, 'b, 'c>(
         return 1;
     }
     0
+}
+
+// Which monitors watch a device, by its address type and address? Answers how many, and the lowest handle; 0 and 0 where there is none. It
+// reads the state's index alone and refuses nothing: of any octets the first of at most 64 entries for that device answers.
+#[no_mangle]
+pub extern "C" fn bournejade_watchers(
+    state: &[u8; Whole::SIZE],
+    kind: u8,
+    address: &[u8; 6],
+    lowest: &mut u32,
+) -> u32
+    ensures { λ r. ⌜ r ≡ watchCount (watchOf (handlesOf (maskFor (device kind (now (address .entry))) (now (state .entry))))) ⌝ }
+    ensures { λ _. ⌜ now (lowest .exit) ≡ lowestIn (watchOf (handlesOf (maskFor (device kind (now (address .entry))) (now (state .entry))))) ⌝ }
+{
+    let w = index::ask(state, kind, address);
+    numbers::watch_told(w, lowest)
 }

@@ -8,6 +8,7 @@ mod journal;
 mod make;
 mod seen;
 
+use index::Whole;
 use libc::STDIN_FILENO;
 use libc::STDOUT_FILENO;
 use seen::Tally;
@@ -35,6 +36,8 @@ const REPLAY: u8 = 8;
 const ADOPT: u8 = 9;
 
 const REPLAY_TO: u8 = 10;
+
+const ASK: u8 = 11;
 
 // Octets of an image at most, and of the longest output that is lent.
 const IMAGE: usize = State::IMAGE;
@@ -64,7 +67,7 @@ fn show(t: Tally) {
 
 // A call that is lent this output.
 fn lending(
-    block: &mut [u8; State::SIZE],
+    block: &mut [u8; Whole::SIZE],
     head: Head,
     octets: &[u8],
     out: &mut [u8],
@@ -96,7 +99,7 @@ fn lending(
 
 // A call that is lent the first n octets of an output.
 fn lend(
-    block: &mut [u8; State::SIZE],
+    block: &mut [u8; Whole::SIZE],
     head: Head,
     octets: &[u8],
     out: &mut [u8],
@@ -111,7 +114,7 @@ fn lend(
 
 // The call of a head and its octets.
 fn call(
-    block: &mut [u8; State::SIZE],
+    block: &mut [u8; Whole::SIZE],
     head: Head,
     octets: &[u8],
     out: &mut [u8],
@@ -126,12 +129,15 @@ fn call(
     if head.tag == ADOPT {
         return make::adopt(block, octets, t);
     }
+    if head.tag == ASK {
+        return make::ask(block, octets, t);
+    }
     lend(block, head, octets, out, head.first as usize, t)
 }
 
 // The call of a head whose octets stand at a text's start.
 fn call_of(
-    block: &mut [u8; State::SIZE],
+    block: &mut [u8; Whole::SIZE],
     head: Head,
     text: &[u8],
     n: usize,
@@ -145,12 +151,12 @@ fn call_of(
 }
 
 // The end of a script: its image is saved and its line written, and the next begins with the blank state.
-fn finish(block: &mut [u8; State::SIZE], out: &mut [u8], t: Tally) -> Tally {
+fn finish(block: &mut [u8; Whole::SIZE], out: &mut [u8], t: Tally) -> Tally {
     if out.len() < IMAGE {
         return seen::end();
     }
     show(make::save(block, &mut out[..IMAGE], t));
-    let state = State::blank();
+    let state = Whole::blank();
     let blank = state.block;
     parts::copy(block, 0, &blank);
     seen::begin()
@@ -184,7 +190,7 @@ fn read_head(head: &[u8]) -> Head {
 }
 
 // Reads and makes one call, where there is one.
-fn next(block: &mut [u8; State::SIZE], text: &mut [u8], out: &mut [u8], t: Tally) -> Tally {
+fn next(block: &mut [u8; Whole::SIZE], text: &mut [u8], out: &mut [u8], t: Tally) -> Tally {
     let mut octets = [0u8; HEAD];
     if !fill(&mut octets) {
         return seen::end();
@@ -201,7 +207,7 @@ fn next(block: &mut [u8; State::SIZE], text: &mut [u8], out: &mut [u8], t: Tally
 }
 
 // Calls until the input ends. A proved loop has to end: it counts its turns down, from a number that no run uses up.
-fn run(block: &mut [u8; State::SIZE], text: &mut [u8], out: &mut [u8]) {
+fn run(block: &mut [u8; Whole::SIZE], text: &mut [u8], out: &mut [u8]) {
     let mut t = seen::begin();
     let mut turns = u64::MAX;
     while turns > 0 && t.goes {
@@ -212,7 +218,7 @@ fn run(block: &mut [u8; State::SIZE], text: &mut [u8], out: &mut [u8]) {
 
 // Begins with the blank state, and lends the buffers.
 fn main() {
-    let state = State::blank();
+    let state = Whole::blank();
     let mut block = state.block;
     let mut text = io::large_buffer();
     let mut out = [0u8; ROOM];

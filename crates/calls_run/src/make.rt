@@ -3,22 +3,23 @@
 use super::seen;
 use super::seen::Tally;
 use engine::Loaded;
+use index::Watch;
+use index::Whole;
 use refusals::Wrote;
 use state::Start;
-use state::State;
 
 // Octets of a block.
-const SIZE: usize = State::SIZE;
+const SIZE: usize = Whole::SIZE;
 
 // The block of a state that a call returned is the next call's.
-fn hold(block: &mut [u8; State::SIZE], state: State) {
+fn hold(block: &mut [u8; Whole::SIZE], state: Whole) {
     let held = state.block;
     parts::copy(block, 0, &held);
 }
 
 // Starts with settings.
-pub(super) fn start(block: &mut [u8; State::SIZE], opcode: u16, prefix: &[u8], t: Tally) -> Tally {
-    let begun = State::fresh(opcode, prefix);
+pub(super) fn start(block: &mut [u8; Whole::SIZE], opcode: u16, prefix: &[u8], t: Tally) -> Tally {
+    let begun = Whole::fresh(opcode, prefix);
     let answer = begun.answer;
     let state = begun.state;
     hold(block, state);
@@ -30,7 +31,7 @@ pub(super) fn start(block: &mut [u8; State::SIZE], opcode: u16, prefix: &[u8], t
 
 // Gives a frame as octets.
 pub(super) fn submit(
-    block: &mut [u8; State::SIZE],
+    block: &mut [u8; Whole::SIZE],
     frame: &[u8],
     out: &mut [u8],
     t: Tally,
@@ -42,7 +43,7 @@ pub(super) fn submit(
 
 // Gives a frame as its line.
 pub(super) fn submit_line(
-    block: &mut [u8; State::SIZE],
+    block: &mut [u8; Whole::SIZE],
     text: &[u8],
     out: &mut [u8],
     t: Tally,
@@ -53,7 +54,7 @@ pub(super) fn submit_line(
 }
 
 // Saves an image.
-pub(super) fn save(block: &[u8; State::SIZE], out: &mut [u8], t: Tally) -> Tally {
+pub(super) fn save(block: &[u8; Whole::SIZE], out: &mut [u8], t: Tally) -> Tally {
     seen::mark(out);
     let r = engine::save(block, out);
     seen::answered(t, out, r)
@@ -67,7 +68,7 @@ pub(super) fn write_line(frame: &[u8], out: &mut [u8], t: Tally) -> Tally {
 }
 
 // Restores an image: the number of the refusal, 0 for none.
-fn load(block: &mut [u8; State::SIZE], text: &[u8]) -> u8 {
+fn load(block: &mut [u8; Whole::SIZE], text: &[u8]) -> u8 {
     let restored = engine::load(text);
     let answer = restored.answer;
     let state = restored.state;
@@ -79,12 +80,12 @@ fn load(block: &mut [u8; State::SIZE], text: &[u8]) -> u8 {
 }
 
 // Restores an image.
-pub(super) fn restore(block: &mut [u8; State::SIZE], text: &[u8], t: Tally) -> Tally {
+pub(super) fn restore(block: &mut [u8; Whole::SIZE], text: &[u8], t: Tally) -> Tally {
     seen::bare(t, load(block, text))
 }
 
 // Restores the image that was saved at an output's start. What is seen of it is the refusal alone.
-fn restore_saved(block: &mut [u8; State::SIZE], out: &[u8], n: usize, t: Tally) -> Tally {
+fn restore_saved(block: &mut [u8; Whole::SIZE], out: &[u8], n: usize, t: Tally) -> Tally {
     if out.len() < n {
         return seen::closed(t, seen::took(seen::opened(t), out, n), 0);
     }
@@ -92,12 +93,32 @@ fn restore_saved(block: &mut [u8; State::SIZE], out: &[u8], n: usize, t: Tally) 
 }
 
 // Saves an image and restores it.
-pub(super) fn fail_over(block: &mut [u8; State::SIZE], out: &mut [u8], t: Tally) -> Tally {
+pub(super) fn fail_over(block: &mut [u8; Whole::SIZE], out: &mut [u8], t: Tally) -> Tally {
     seen::mark(out);
     let r = engine::save(block, out);
     match r {
         Wrote::Done(n) => restore_saved(block, out, n, t),
         Wrote::Refused(_) => seen::answered(t, out, r),
+    }
+}
+
+// Asks which monitors watch a device: two octets, how many and the lowest handle, or none.
+pub(super) fn ask(block: &[u8; Whole::SIZE], device: &[u8], t: Tally) -> Tally {
+    if device.len() != Whole::DEVICE {
+        return seen::end();
+    }
+    let mut address = [0u8; 6];
+    parts::copy(&mut address, 0, &device[1..]);
+    let w = index::ask(block, device[0], &address);
+    match w {
+        Watch::By {
+            count: n,
+            lowest: h,
+        } => {
+            let said = [(n % 256) as u8, (h % 256) as u8];
+            seen::closed(t, seen::took(seen::opened(t), &said, 2), 0)
+        }
+        Watch::Nobody => seen::bare(t, 0),
     }
 }
 
@@ -113,7 +134,7 @@ fn after(at: usize, n: u8) -> usize {
 }
 
 // Lays one octet of a packed block: a 0 and a number stand for so many zeros, any other octet for itself.
-fn lay(block: &mut [u8; State::SIZE], x: u8, p: Place) -> Place {
+fn lay(block: &mut [u8; Whole::SIZE], x: u8, p: Place) -> Place {
     let at = p.at;
     if p.zeros {
         return Place {
@@ -135,7 +156,7 @@ fn lay(block: &mut [u8; State::SIZE], x: u8, p: Place) -> Place {
 }
 
 // Lays a packed block over zeros.
-fn unpack(block: &mut [u8; State::SIZE], packed: &[u8]) {
+fn unpack(block: &mut [u8; Whole::SIZE], packed: &[u8]) {
     let mut p = Place {
         at: 0,
         zeros: false,
@@ -148,7 +169,7 @@ fn unpack(block: &mut [u8; State::SIZE], packed: &[u8]) {
 }
 
 // Takes up a block, whatever its octets.
-pub(super) fn adopt(block: &mut [u8; State::SIZE], packed: &[u8], t: Tally) -> Tally {
+pub(super) fn adopt(block: &mut [u8; Whole::SIZE], packed: &[u8], t: Tally) -> Tally {
     parts::fill(block, 0, SIZE, 0);
     unpack(block, packed);
     seen::bare(t, 0)

@@ -11,7 +11,7 @@ use Rattle.laws.specs.Tests.{pick}
 use Rattle.sessions.specs.Machine.{octets, text}
 use Rattle.model.specs.Sound.{soundSettings}
 use Rattle.model.specs.Image.{isImage}
-use Rattle.model.specs.Engine.{engine, begin, blockIn}
+use Rattle.wholes.specs.Engine.{engine, begin, blockIn}
 use Rattle.replays.specs.Into.{replayInto, replayTo}
 use Rattle.bournejade.specs.Gives.{Replayed}
 use Rattle.bournejade.proofs.bournejade_begin.Reads as begin-reads

@@ -26,8 +26,10 @@ use Rattle.model.specs.Types.{Model, fresh}
 use Rattle.model.specs.Frames.{Body, write}
 use Rattle.model.specs.Image.{imageText, isImage, heldIn}
 use Rattle.model.specs.Sound.{soundModel, soundSettings}
-use Rattle.model.specs.Block.{padded}
-use Rattle.model.specs.Engine.{engine, models, begin, onBlocks}
+use Rattle.wholes.specs.Whole.{whole}
+use Rattle.model.specs.Engine.{models}
+use Rattle.wholes.specs.Engine.{engine, begin}
+use Rattle.failover.specs.Laid.{onto, onReached}
 use Rattle.model.specs.Radio.{radio}
 use Rattle.images.specs.Restores.{held-image, image-is}
 use Rattle.steps.specs.Keeps.{fresh-sound}
@@ -35,11 +37,11 @@ use Rattle.replays.specs.Into.{Reached, replayInto}
 use Rattle.replays.specs.Ahead.{Ahead, saidBy}
 use Rattle.replays.specs.Turned.{session-ahead, session-gap}
 use Rattle.replays.specs.Whole.{Same, replay-whole}
-use Rattle.model.specs.Engine.{blockIn}
+use Rattle.wholes.specs.Engine.{blockIn}
 use Rattle.failover.specs.Demand3.{Demand3, pastFrames, pairsIn}
 use Rattle.failover.specs.Proof.{laws, demand3}
 use Rattle.failover.specs.Blocks.{image-blocks, walk-blocks, trace-blocks, begin-blocks, encode-blocks}
-use Rattle.delivery.specs.Blocks.{onReached, replay-blocks}
+use Rattle.failover.specs.Blocks.{replays-blocks}
 use Rattle.delivery.specs.Shown.{runs-through}
 
 -- What replay into an output of `room` octets reached: a state, octets, and why it ended.
@@ -73,11 +75,11 @@ enough : Enough (λ i. answerRoom)
 enough i = omega arith
 
 -- an image saved of a block is saved of the record that it holds
-saved-record : (lent : ℕ) (m : Model) (img : List ℕ) → onBlocks (image models lent m) ≡ done (padded m) img → (image models lent m ≡ done m img) × (img ≡ imageText m)
-unfolding image refuseIf onBlocks
+saved-record : (lent : ℕ) (m : Model) (img : List ℕ) → onto whole (image models lent m) ≡ done (whole m) img → (image models lent m ≡ done m img) × (img ≡ imageText m)
+unfolding image refuseIf onto
 saved-record lent m img e = go (not (soundModel m)) (ltb lent saveRoom) e
   where
-    go : (a b : Bool) → onBlocks (refuseIf a 7 (refuseIf b 3 (done m (imageText m)))) ≡ done (padded m) img
+    go : (a b : Bool) → onto whole (refuseIf a 7 (refuseIf b 3 (done m (imageText m)))) ≡ done (whole m) img
         → (refuseIf a 7 (refuseIf b 3 (done m (imageText m))) ≡ done m img) × (img ≡ imageText m)
     go true b q = let z : _≡_ {A = ℕ} 0 1 = cc in absurd (omega arith)
     go false true q = let z : _≡_ {A = ℕ} 0 1 = cc in absurd (omega arith)
@@ -94,7 +96,7 @@ module _ (opcode : ℕ) (prefix : List ℕ) (ok : soundSettings opcode prefix �
   trace-is : (cs : List Call) → trace engine block cs ≡ trace models start cs
   trace-is cs = ap (λ (s : List ℕ). trace engine s cs) (begin-blocks opcode prefix ok) ∙ trace-blocks start (fresh-sound opcode prefix ok) cs
 
-  walk-is : (cs : List Call) → walk engine block cs ≡ padded (walk models start cs)
+  walk-is : (cs : List Call) → walk engine block cs ≡ whole (walk models start cs)
   walk-is cs = ap (λ (s : List ℕ). walk engine s cs) (begin-blocks opcode prefix ok) ∙ walk-blocks start (fresh-sound opcode prefix ok) cs
 
   walk-good : (cs : List Call) → soundModel (walk models start cs) ≡ true
@@ -126,7 +128,7 @@ module _ (opcode : ℕ) (prefix : List ℕ) (ok : soundSettings opcode prefix �
     abbrev fs : List (Entry Body)
     fs = trace models middle rest
 
-    at-is : at ≡ padded middle
+    at-is : at ≡ whole middle
     at-is = sv .state ∙ walk-is (sv .before)
 
     saved-is : (image models (sv .lent) middle ≡ done middle img) × (img ≡ imageText middle)
@@ -165,11 +167,11 @@ module _ (opcode : ℕ) (prefix : List ℕ) (ok : soundSettings opcode prefix �
     unfolding fresh
     origin = refl
 
-    replay-is : (room j : ℕ) → replayInto engine room at (journal engine block calls j) ≡ onReached (replayInto models room middle (journal models start calls j))
+    replay-is : (room j : ℕ) → replayInto engine room at (journal engine block calls j) ≡ onReached whole (replayInto models room middle (journal models start calls j))
     replay-is room j =
         ap (λ (s : List ℕ). replayInto engine room s (journal engine block calls j)) at-is
-        ∙ ap (replayInto engine room (padded middle)) (journal-is j)
-        ∙ replay-blocks room (λ p. true) middle (walk-good (sv .before)) (journal models start calls j)
+        ∙ ap (replayInto engine room (whole middle)) (journal-is j)
+        ∙ replays-blocks room (λ p. true) middle (walk-good (sv .before)) (journal models start calls j)
 
     through : (j : ℕ) → 1 ≤ j → j ≤ k + 1 → (room : ℕ) → length (flat (drop k (answers engine block calls))) + answerRoom ≤ room
         → replayInto models room middle (journal models start calls j) .stop ≡ none
@@ -191,7 +193,7 @@ module _ (opcode : ℕ) (prefix : List ℕ) (ok : soundSettings opcode prefix �
         replay-whole models room middle t (λ n. answerRoom) (λ z. none≢some (sym (through j h i room big) ∙ z)) enough in
         let y = replay-is room j in
         record {
-          state-is = ap (λ (x : Reached (List ℕ)). x .state) y ∙ ap padded (w .state ∙ ap (λ (v : Replayed Model). v .state) r) ∙ sym (walk-is calls);
+          state-is = ap (λ (x : Reached (List ℕ)). x .state) y ∙ ap whole (w .state ∙ ap (λ (v : Replayed Model). v .state) r) ∙ sym (walk-is calls);
           wrote-is = ap (λ (x : Reached (List ℕ)). x .wrote) y ∙ w .wrote ∙ ap (λ (v : Replayed Model). flat (v .answers)) r
               ∙ ap (λ (a : List (List ℕ)). flat (drop k a)) (sym answers-are);
           stop-is = ap (λ (x : Reached (List ℕ)). x .stop) y ∙ w .stop ∙ ap (λ (v : Replayed Model). v .stop) r;
@@ -205,7 +207,7 @@ module _ (opcode : ℕ) (prefix : List ℕ) (ok : soundSettings opcode prefix �
         let n : length (map (λ (e : Entry Body). e .line) (trace engine block calls)) ≡ length es + length fs =
         frames-are calls ∙ length-map (trace models start calls) (λ e. e .line) ∙ ap length split ∙ length-append es fs in
         replay-is room (suc i)
-        ∙ ap onReached (session-gap models laws start middle (walk models middle rest) calls es fs split (runs models laws start (sv .before))
+        ∙ ap (onReached whole) (session-gap models laws start middle (walk models middle rest) calls es fs split (runs models laws start (sv .before))
         (runs models laws middle rest) origin (walk-good (sv .before)) i (omega (arith, counted)) (omega (arith, counted, n)) room big)
         ∙ ap (λ (s : List ℕ). record { state = s; wrote = []; taken = 0; stop = some 2 }) (sym at-is)
 
@@ -215,8 +217,8 @@ module _ (opcode : ℕ) (prefix : List ℕ) (ok : soundSettings opcode prefix �
         let i : isImage img ≡ true = ap isImage (saved-is .1) ∙ image-is middle (walk-good (sv .before)) in
         record {
           accepted = i;
-          loaded = ap (λ (b : Bool). blockIn b img) i ∙ ap (λ (t : List ℕ). padded (heldIn t)) (saved-is .1)
-              ∙ ap padded (held-image middle (walk-good (sv .before))) ∙ sym at-is;
+          loaded = ap (λ (b : Bool). blockIn b img) i ∙ ap (λ (t : List ℕ). whole (heldIn t)) (saved-is .1)
+              ∙ ap whole (held-image middle (walk-good (sv .before))) ∙ sym at-is;
           goes-on = goes-there;
           gapped = gap-there;
           watched = subst (λ (t : List ℕ). ByHistory radio (pastFrames opcode prefix calls) (pairsIn t))

@@ -20,10 +20,10 @@ use Rattle.sessions.specs.Saved.{cut}
 use Rattle.model.specs.Frames.{Body, read}
 use Rattle.model.specs.Image.{isImage}
 use Rattle.model.specs.Block.{held}
-use Rattle.model.specs.Engine.{engine}
+use Rattle.wholes.specs.Engine.{engine}
 use Rattle.model.specs.Radio.{radio, core}
 use Rattle.replays.specs.Into.{replayWhile, replayInto}
-use Rattle.model.specs.Engine.{blockIn}
+use Rattle.wholes.specs.Engine.{blockIn}
 use Rattle.bournejade.specs.Gives.{Gave, Replayed}
 use Rattle.failover.specs.Demand3.{pairsIn}
 use Rattle.delivery.specs.Given.{lineGiven}

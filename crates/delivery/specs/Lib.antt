@@ -1,5 +1,4 @@
 -- Demand 3 over the contracts of the calls, and as firmware sees it.
-pub mod Blocks
 pub mod Given
 pub mod Firmware
 pub mod Shown

@@ -26,21 +26,24 @@ use Rattle.model.specs.Types.{Model, fresh}
 use Rattle.model.specs.Frames.{Body}
 use Rattle.model.specs.Image.{imageText, isImage, heldIn}
 use Rattle.model.specs.Sound.{soundModel, soundSettings}
-use Rattle.model.specs.Block.{held, padded}
-use Rattle.model.specs.Engine.{engine, models, begin}
+use Rattle.model.specs.Block.{held}
+use Rattle.wholes.specs.Whole.{whole}
+use Rattle.model.specs.Engine.{models}
+use Rattle.wholes.specs.Engine.{engine, begin}
 use Rattle.model.specs.Radio.{radio}
-use Rattle.blocks.specs.Block.{held-padded}
+use Rattle.wholes.specs.Laid.{held-whole}
 use Rattle.images.specs.Restores.{held-image, image-is}
 use Rattle.steps.specs.Keeps.{fresh-sound}
 use Rattle.replays.specs.Into.{Reached, replayInto}
 use Rattle.replays.specs.Ahead.{Ahead, saidBy}
 use Rattle.replays.specs.Turned.{session-ahead, session-gap}
-use Rattle.model.specs.Engine.{blockIn}
+use Rattle.wholes.specs.Engine.{blockIn}
 use Rattle.bournejade.specs.Gives.{stopIn, Gave, Replayed}
 use Rattle.failover.specs.Demand3.{Demand3, pastFrames, pairsIn}
 use Rattle.failover.specs.Proof.{laws, demand3}
 use Rattle.failover.specs.Blocks.{walk-blocks, trace-blocks, begin-blocks}
-use Rattle.delivery.specs.Blocks.{onReached, replay-blocks}
+use Rattle.failover.specs.Laid.{onReached}
+use Rattle.failover.specs.Blocks.{replays-blocks}
 use Rattle.delivery.specs.Firmware.{Step, callOf, Seen, Heard, heardIn, keptFrom, answersOf, framesKept, Turn, TurnsTo, Turns, Go, writtenIn, TakenOver}
 use Rattle.delivery.specs.Shown.{Done, turns-done, turns-few, nothing-ahead, runs-through}
 use Rattle.delivery.specs.Seen.{heardOf, map-join, seen-walk, seen-heard, kept-journal, kept-answers, kept-past, image-told}
@@ -91,12 +94,12 @@ module _ (opcode : ℕ) (prefix : List ℕ) (ok : soundSettings opcode prefix �
   good : soundModel middle ≡ true
   good = walk-sound models laws start (fresh-sound opcode prefix ok) (map callOf before)
 
-  at-is : at ≡ padded middle
+  at-is : at ≡ whole middle
   at-is =
       seen-walk (begin opcode prefix) at before b ∙ ap (λ (s : List ℕ). walk engine s (map callOf before)) (begin-blocks opcode prefix ok)
       ∙ walk-blocks start (fresh-sound opcode prefix ok) (map callOf before)
 
-  end-is : end ≡ padded final
+  end-is : end ≡ whole final
   end-is = seen-walk at end later l ∙ ap (λ (s : List ℕ). walk engine s (map callOf later)) at-is ∙ walk-blocks middle good (map callOf later)
 
   before-is : heardIn before ≡ map heardOf es
@@ -148,31 +151,31 @@ module _ (opcode : ℕ) (prefix : List ℕ) (ok : soundSettings opcode prefix �
       (session-ahead models laws start middle final calls es fs split first second origin good i (omega (arith, count-before)))
 
   saved-is : take n left ≡ imageText middle
-  saved-is = image-told at out left n g ∙ ap (λ (s : List ℕ). imageText (held s)) at-is ∙ ap imageText (held-padded middle good)
+  saved-is = image-told at out left n g ∙ ap (λ (s : List ℕ). imageText (held s)) at-is ∙ ap imageText (held-whole middle good)
 
   restores : (isImage (take n left) ≡ true) × (blockIn (isImage (take n left)) (take n left) ≡ at)
   unfolding blockIn
   restores =
       let i : isImage (take n left) ≡ true = ap isImage saved-is ∙ image-is middle good in
-      (i, ap (λ (t : Bool). blockIn t (take n left)) i ∙ ap (λ (t : List ℕ). padded (heldIn t)) saved-is ∙ ap padded (held-image middle good) ∙ sym at-is)
+      (i, ap (λ (t : Bool). blockIn t (take n left)) i ∙ ap (λ (t : List ℕ). whole (heldIn t)) saved-is ∙ ap whole (held-image middle good) ∙ sym at-is)
 
   -- a call of replay on the block that was saved
-  replay-is : (room : ℕ) (t : List ℕ) → replayInto engine room at t ≡ onReached (replayInto models room middle t)
-  replay-is room t = ap (λ (s : List ℕ). replayInto engine room s t) at-is ∙ replay-blocks room (λ p. true) middle good t
+  replay-is : (room : ℕ) (t : List ℕ) → replayInto engine room at t ≡ onReached whole (replayInto models room middle t)
+  replay-is room t = ap (λ (s : List ℕ). replayInto engine room s t) at-is ∙ replays-blocks room (λ p. true) middle good t
 
-  whole : (o c r : List ℕ) (i m k : ℕ) (j : ℕ) → 1 ≤ j → j ≤ length (heardIn before) + 1
+  in-one : (o c r : List ℕ) (i m k : ℕ) (j : ℕ) → 1 ≤ j → j ≤ length (heardIn before) + 1
       → Replayed (replayInto engine (length o) at (keptFrom j (heardIn before ++ heardIn later))) o c r i m k
       → length (answersOf (heardIn later)) + answerRoom ≤ length o
       → (k ≡ 0) × (c ≡ end) × (r ≡ put o 0 (answersOf (heardIn later))) × (m ≡ length (answersOf (heardIn later)))
   unfolding onReached stopIn
-  whole o c r i m k j h q p big =
+  in-one o c r i m k j h q p big =
       let t : List ℕ = keptFrom j (heardIn before ++ heardIn later) in
       let z = runs-through (length o) middle final t fs (ahead j h q) (subst (λ (x : List ℕ). length x + answerRoom ≤ length o) later-said big) in
       let y = replay-is (length o) t in
       let w : replayInto engine (length o) at t .wrote ≡ answersOf (heardIn later) =
       ap (λ (x : Reached (List ℕ)). x .wrote) y ∙ z .2 ∙ sym later-said in (
         p .number ∙ ap (λ (x : Reached (List ℕ)). stopIn (x .stop)) y ∙ ap stopIn (z .0),
-        p .state ∙ ap (λ (x : Reached (List ℕ)). x .state) y ∙ ap padded (z .1) ∙ sym end-is,
+        p .state ∙ ap (λ (x : Reached (List ℕ)). x .state) y ∙ ap whole (z .1) ∙ sym end-is,
         p .output ∙ ap (put o 0) w,
         p .count ∙ ap length w,
       )
@@ -184,9 +187,9 @@ module _ (opcode : ℕ) (prefix : List ℕ) (ok : soundSettings opcode prefix �
   gap o c r i m k zero h q p big = absurd (not-suc-le-zero h)
   gap o c r i m k (suc j) h q p big =
       let x : Reached Model = record { state = middle; wrote = []; taken = 0; stop = some 2 } in
-      let y : replayInto engine (length o) at (keptFrom (suc j) (heardIn before ++ heardIn later)) ≡ onReached x =
-      replay-is (length o) _ ∙ ap (λ (t : List ℕ). onReached (replayInto models (length o) middle t)) (journal-is (suc j))
-      ∙ ap onReached (session-gap models laws start middle final calls es fs split first second origin good j
+      let y : replayInto engine (length o) at (keptFrom (suc j) (heardIn before ++ heardIn later)) ≡ onReached whole x =
+      replay-is (length o) _ ∙ ap (λ (t : List ℕ). onReached whole (replayInto models (length o) middle t)) (journal-is (suc j))
+      ∙ ap (onReached whole) (session-gap models laws start middle final calls es fs split first second origin good j
       (omega (arith, count-before)) (omega (arith, count-before, count-later)) (length o) big) in (
         p .number ∙ ap (λ (v : Reached (List ℕ)). stopIn (v .stop)) y,
         p .state ∙ ap (λ (v : Reached (List ℕ)). v .state) y ∙ sym at-is,
@@ -200,7 +203,7 @@ module _ (opcode : ℕ) (prefix : List ℕ) (ok : soundSettings opcode prefix �
       → (u ≡ end) × (writtenIn xs ≡ saidBy hs)
   turned-all m hs xs u v d e =
       let z = nothing-ahead (d .state) final (cut v) (d .hs) e (d .ahead) in (
-        d .block ∙ ap padded (z .1) ∙ sym end-is,
+        d .block ∙ ap whole (z .1) ∙ sym end-is,
         d .said ∙ ap saidBy (sym (append-nil (d .gs)) ∙ ap (λ (k : List (Entry Body)). d .gs ++ k) (sym (z .0)) ∙ sym (d .frames)),
       )
 
@@ -224,7 +227,7 @@ module _ (opcode : ℕ) (prefix : List ℕ) (ok : soundSettings opcode prefix �
           ∙ ap answersOf (drop-map heardOf (d - length (heardIn before)) fs) ∙ kept-answers (drop (d - length (heardIn before)) fs)
 
       ended : (x : Done (λ p. ltb p d) middle fs final xs c more) → (d ≤ held c .position) ⊎ (cut more ≡ []) → (d ≤ x .state .position) ⊎ (x .hs ≡ [])
-      ended x (inl i) = inl (subst (λ (m : Model). d ≤ m .position) (ap held (x .block) ∙ held-padded (x .state) (x .ahead .good)) i)
+      ended x (inl i) = inl (subst (λ (m : Model). d ≤ m .position) (ap held (x .block) ∙ held-whole (x .state) (x .ahead .good)) i)
       ended x (inr i) = inr (nothing-ahead (x .state) final (cut more) (x .hs) i (x .ahead) .0)
 
   watched-there : (o r : List ℕ) (m : ℕ) → Gave (image engine (length o) end) end o end r m 0
@@ -232,7 +235,7 @@ module _ (opcode : ℕ) (prefix : List ℕ) (ok : soundSettings opcode prefix �
   watched-there o r m k =
       let sound-end : soundModel final ≡ true = walk-sound models laws middle good (map callOf later) in
       let i : take m r ≡ imageText (walk models start calls) =
-      image-told end o r m k ∙ ap (λ (s : List ℕ). imageText (held s)) end-is ∙ ap imageText (held-padded final sound-end)
+      image-told end o r m k ∙ ap (λ (s : List ℕ). imageText (held s)) end-is ∙ ap imageText (held-whole final sound-end)
       ∙ ap imageText (sym (walk-append models start (map callOf before) (map callOf later))) in
       subst (λ (t : List ℕ). ByHistory radio (framesKept (heardIn before ++ heardIn later)) (pairsIn t)) (sym i)
       (subst (λ (p : List (Frame radio)). ByHistory radio p (pairsIn (imageText (walk models start calls)))) (sym (ap framesKept all ∙ kept-past opcode prefix calls))
@@ -243,7 +246,7 @@ module _ (opcode : ℕ) (prefix : List ℕ) (ok : soundSettings opcode prefix �
   from-fresh =
       record {
         restored = λ c r e q. (e ∙ ap (λ (t : Bool). pick t 0 10) (restores .0), q ∙ restores .1);
-        goes-on = λ j h i o c r m k w p big. whole o c r m k w j h i p big;
+        goes-on = λ j h i o c r m k w p big. in-one o c r m k w j h i p big;
         in-turns = λ j h i xs c rest k.
             let d = turns-done (λ p. true) at (keptFrom j (heardIn before ++ heardIn later)) xs c rest middle final fs at-is (ahead j h i) k in
             (d .go, λ e. let z = turned-all middle fs xs c rest d e in (z .0, z .1 ∙ sym later-said));

@@ -19,8 +19,10 @@ use Rattle.sessions.specs.Runs.{Run, runs}
 use Rattle.model.specs.Types.{Model, fresh}
 use Rattle.model.specs.Frames.{Body, read, write}
 use Rattle.model.specs.Image.{imageText}
-use Rattle.model.specs.Block.{held, sound}
-use Rattle.model.specs.Engine.{engine, models}
+use Rattle.model.specs.Block.{held}
+use Rattle.wholes.specs.Whole.{soundWhole}
+use Rattle.model.specs.Engine.{models}
+use Rattle.wholes.specs.Engine.{engine}
 use Rattle.model.specs.Radio.{radio, core}
 use Rattle.engine.specs.Calls.{caseOf, caseFrom, cases}
 use Rattle.bournejade.specs.Numbered.{isNumber, known, known-answer}
@@ -77,11 +79,11 @@ module _ (s : List ℕ) (w : Form) (raw out t left : List ℕ) (n r : ℕ) where
   step-gave g = go (read w raw) refl (known-answer (length out) s w raw) g
     where
       go : (f : Option (Line Body)) → read w raw ≡ f
-          → known (refuseIf (not (sound s)) 7 (refuseIf (ltb (length out) answerRoom) 3 (judge engine s f))) ≡ true
-          → Gave (refuseIf (not (sound s)) 7 (refuseIf (ltb (length out) answerRoom) 3 (judge engine s f))) s out t left n r
+          → known (refuseIf (not (soundWhole s)) 7 (refuseIf (ltb (length out) answerRoom) 3 (judge engine s f))) ≡ true
+          → Gave (refuseIf (not (soundWhole s)) 7 (refuseIf (ltb (length out) answerRoom) 3 (judge engine s f))) s out t left n r
           → heard (gave w raw out t left n r)
-          ≡ map heardOf (entries f (refuseIf (not (sound s)) 7 (refuseIf (ltb (length out) answerRoom) 3 (judge engine s f))))
-      go none i e h = unread (not (sound s)) (ltb (length out) answerRoom) h
+          ≡ map heardOf (entries f (refuseIf (not (soundWhole s)) 7 (refuseIf (ltb (length out) answerRoom) 3 (judge engine s f))))
+      go none i e h = unread (not (soundWhole s)) (ltb (length out) answerRoom) h
       go (some x) i e h = spoken x i _ e h
 
 step-heard : (s : List ℕ) (x : Step) → Kept s x → heard x ≡ map heardOf (ran engine s (callOf x))
@@ -169,7 +171,7 @@ kept-past opcode prefix cs =
 -- a save that returned 0: the octets told are the image
 pub image-told : (s out left : List ℕ) (n : ℕ) → Gave (image engine (length out) s) s out s left n 0 → take n left ≡ imageText (held s)
 unfolding image refuseIf numberOf written
-image-told s out left n g = go (not (sound s)) (ltb (length out) saveRoom) g
+image-told s out left n g = go (not (soundWhole s)) (ltb (length out) saveRoom) g
   where
     go : (a b : Bool) → Gave (refuseIf a 7 (refuseIf b 3 (done s (imageText (held s))))) s out s left n 0 → take n left ≡ imageText (held s)
     go true b h = absurd (let z : _≡_ {A = ℕ} 0 7 = h .number in omega arith)

@@ -16,15 +16,18 @@ use Rattle.sessions.specs.Saved.{cut}
 use Rattle.sessions.specs.Runs.{Run, lineOf, run-append}
 use Rattle.model.specs.Types.{Model}
 use Rattle.model.specs.Frames.{Body}
-use Rattle.model.specs.Block.{held as heldIn, padded}
-use Rattle.blocks.specs.Block.{held-padded}
-use Rattle.model.specs.Engine.{engine, models}
+use Rattle.model.specs.Block.{held as heldIn}
+use Rattle.wholes.specs.Whole.{whole}
+use Rattle.wholes.specs.Laid.{held-whole}
+use Rattle.model.specs.Engine.{models}
+use Rattle.wholes.specs.Engine.{engine}
 use Rattle.replays.specs.Into.{Reached, replayWhile, replayInto}
 use Rattle.replays.specs.Ahead.{Ahead, saidBy}
 use Rattle.replays.specs.Turned.{Turned, turned}
 use Rattle.bournejade.specs.Gives.{stopIn, Replayed}
 use Rattle.failover.specs.Proof.{laws}
-use Rattle.delivery.specs.Blocks.{onReached, replay-blocks}
+use Rattle.failover.specs.Laid.{onReached}
+use Rattle.failover.specs.Blocks.{replays-blocks}
 use Rattle.delivery.specs.Firmware.{Turn, TurnsWhile, Go, Busy, writtenIn}
 
 -- octets written at an output's front and read back
@@ -51,14 +54,14 @@ pub record Done (goes : ℕ → Bool) (m : Model) (es : List (Entry Body)) (end 
   pub state : Model
   pub frames : es ≡ gs ++ hs
   pub ran : Run models m gs state
-  pub block : u ≡ padded state
+  pub block : u ≡ whole state
   pub ahead : Ahead models state (cut v) hs end
   pub said : writtenIn xs ≡ saidBy gs
   pub held : (gs ≡ []) ⊎ ((p : ℕ) × (suc p ≡ state .position) × (goes p ≡ true))
   pub go : Go xs
 
 -- one call in what firmware sees, on the block of a state that has frames ahead
-module _ (goes : ℕ → Bool) (s t hidden : List ℕ) (x : Turn) (m end : Model) (es : List (Entry Body)) (b : s ≡ padded m) (e : t ≡ x .shown ++ hidden)
+module _ (goes : ℕ → Bool) (s t hidden : List ℕ) (x : Turn) (m end : Model) (es : List (Entry Body)) (b : s ≡ whole m) (e : t ≡ x .shown ++ hidden)
     (p : Replayed (replayWhile engine goes (length (x .out)) s (x .shown)) (x .out) (x .block) (x .left) (x .taken) (x .count) (x .number))
     (a : Ahead models m (cut t) es end) where
   abbrev reached : Reached Model
@@ -67,10 +70,10 @@ module _ (goes : ℕ → Bool) (s t hidden : List ℕ) (x : Turn) (m end : Model
   one : Turned models goes (length (x .out)) m (x .shown) hidden es end reached
   one = turned models laws goes (length (x .out)) m end (x .shown) hidden es (subst (λ (l : List ℕ). Ahead models m (cut l) es end) e a)
 
-  is : replayWhile engine goes (length (x .out)) s (x .shown) ≡ onReached reached
-  is = ap (λ (c : List ℕ). replayWhile engine goes (length (x .out)) c (x .shown)) b ∙ replay-blocks (length (x .out)) goes m (a .good) (x .shown)
+  is : replayWhile engine goes (length (x .out)) s (x .shown) ≡ onReached whole reached
+  is = ap (λ (c : List ℕ). replayWhile engine goes (length (x .out)) c (x .shown)) b ∙ replays-blocks (length (x .out)) goes m (a .good) (x .shown)
 
-  block-is : x .block ≡ padded (reached .state)
+  block-is : x .block ≡ whole (reached .state)
   unfolding onReached
   block-is = p .state ∙ ap (λ (r : Reached (List ℕ)). r .state) is
 
@@ -119,7 +122,7 @@ module _ (goes : ℕ → Bool) (s t hidden : List ℕ) (x : Turn) (m end : Model
           inr (w .0, w .1 ∙ ap (λ (n : Model). n .position) i, w .2)
 
 -- calls one after another
-pub turns-done : (goes : ℕ → Bool) (s t : List ℕ) (xs : List Turn) (u v : List ℕ) (m end : Model) (es : List (Entry Body)) → s ≡ padded m
+pub turns-done : (goes : ℕ → Bool) (s t : List ℕ) (xs : List Turn) (u v : List ℕ) (m end : Model) (es : List (Entry Body)) → s ≡ whole m
     → Ahead models m (cut t) es end → TurnsWhile goes s t xs u v → Done goes m es end xs u v
 unfolding writtenIn flat
 turns-done goes s t [] u v m end es b a k =
@@ -142,7 +145,7 @@ turns-done goes s t (x ∷ xs) u v m end es b a k =
     (then goes s t (k .0 .0) x m end es b (k .0 .1) (k .1) a) (k .2))
 
 -- calls that were lent 2,880 octets and shown a whole line: each reads one at least
-pub turns-few : (goes : ℕ → Bool) (s t : List ℕ) (xs : List Turn) (u v : List ℕ) (m end : Model) (es : List (Entry Body)) → s ≡ padded m
+pub turns-few : (goes : ℕ → Bool) (s t : List ℕ) (xs : List Turn) (u v : List ℕ) (m end : Model) (es : List (Entry Body)) → s ≡ whole m
     → Ahead models m (cut t) es end → TurnsWhile goes s t xs u v → Busy goes s xs → length xs ≤ length (cut t)
 turns-few goes s t [] u v m end es b a k y = omega arith
 turns-few goes s t (x ∷ xs) u v m end es b a k y =
@@ -150,7 +153,7 @@ turns-few goes s t (x ∷ xs) u v m end es b a k y =
     let r : Reached Model = reached goes s t hidden x m end es b (k .0 .1) (k .1) a in
     let w = one goes s t hidden x m end es b (k .0 .1) (k .1) a in
     let p : goes (m .position) ≡ true =
-    subst (λ (n : Model). goes (n .position) ≡ true) (ap heldIn b ∙ held-padded m (a .good)) (y .2) in
+    subst (λ (n : Model). goes (n .position) ≡ true) (ap heldIn b ∙ held-whole m (a .good)) (y .2) in
     let f : length (cut (drop (r .taken) (x .shown ++ hidden))) < length (cut (x .shown ++ hidden)) = w .fewer (y .1) p (y .0) in
     let c : length (cut (drop (x .taken) t)) ≡ length (cut (drop (r .taken) (x .shown ++ hidden))) =
     ap (λ (l : List ℕ). length (cut l)) (left-is goes s t hidden x m end es b (k .0 .1) (k .1) a) in

@@ -19,7 +19,7 @@ use Rattle.model.specs.Engine.{engine, models, actBlock, onBlocks}
 use Rattle.blocks.specs.Block.{sound-held, padded-held, sound-padded}
 use Rattle.steps.specs.Answers.{answer-fits}
 use Rattle.failover.specs.Read.{body-octets}
-use Rattle.failover.specs.Blocks.{call-blocks, call-sound}
+use Rattle.engine.specs.Cores.{call-cores, call-sound}
 
 -- a call leaves a sound block sound
 pub sound-after : (lent : ℕ) (s : List ℕ) (w : Form) (r : List ℕ) → sound s ≡ true → sound (stateAfter s (answer engine lent s w r)) ≡ true
@@ -29,7 +29,7 @@ sound-after lent s w r e =
     let ok : soundModel m ≡ true = sound-held s e in
     let c : Call = give lent w r in
     subst (λ (u : List ℕ). sound (stateAfter u (answer engine lent u w r)) ≡ true) (padded-held s e)
-    (ap sound (call-blocks m ok c) ∙ sound-padded (after models m c) (call-sound m ok c))
+    (ap sound (call-cores m ok c) ∙ sound-padded (after models m c) (call-sound m ok c))
 
 -- what a frame writes fits an output of 2,880 octets
 pub judge-fits : (s : List ℕ) (w : Form) (r : List ℕ) → sound s ≡ true → length (written (judge engine s (read w r))) ≤ answerRoom

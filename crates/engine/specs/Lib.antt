@@ -1,10 +1,12 @@
 -- What the calls answer and leave, and the laws of their branches.
+pub mod Cores
 pub mod Calls
 pub mod Acts
 pub mod Ends
 pub mod Turns
 pub mod Texts
 pub mod Replays
+pub mod Wholes
 pub mod Takes
 pub mod Keeps
 pub mod Loop

@@ -1,4 +1,4 @@
--- Document 01, Both sides of each edge: P1 to P10 hold of the engine over blocks, which the calls' contracts cite. The rows stand in the crate
+-- Document 01, Both sides of each edge: P1 to P10 hold of the engine over whole blocks, which the calls' contracts cite. The rows stand in the crate
 -- model (InFull, Edges); here they are carried over from the engine over records. Assumes nothing.
 use Prim.Native.Nat.{ℕ, suc}
 use Prim.Native.String.{String}
@@ -14,9 +14,10 @@ use Rattle.sessions.specs.Session.{answer, stateAfter}
 use Rattle.sessions.specs.Saved.{Replayed, replay}
 use Rattle.model.specs.Types.{Model, fresh}
 use Rattle.model.specs.Sound.{soundModel, soundSettings, octetsUpTo}
-use Rattle.model.specs.Block.{padded}
 use Rattle.model.specs.Image.{imageText, heldIn, isImage, readImage}
-use Rattle.model.specs.Engine.{engine, models, begin, onBlocks, blockOf, decode}
+use Rattle.model.specs.Engine.{models}
+use Rattle.wholes.specs.Whole.{whole}
+use Rattle.wholes.specs.Engine.{engine, begin, wholeOf, decode}
 use Rattle.model.specs.Quoted.{codes}
 use Rattle.model.specs.InFull.{Told, opcodeInFull, prefixInFull, ticksText, answerLines, ranThrough, saves, pictured, replayed, toldRight, inFull}
 use Rattle.model.specs.Rows.{Row, Reply, replyOf, same, imaged, answered, reached, right, allRight, session}
@@ -24,32 +25,33 @@ use Rattle.model.specs.Requests.{equalAdded, equalStart, equalLow, equalGood, t
 use Rattle.model.specs.Second.{t13options, t13keys, t13types, t13sampling, t13order, t13peer, t13others, t13unheard, t13directed, t13window, t13twice, t13off, t13none, t13kept, seconds}
 use Rattle.model.specs.Edges.{p2good, p2low, p3, p4sixty, p4image, p4minus, p4plus, p5, p6, p7, p8, readPrefix, forms, p9, p10, edges, edges-hold}
 use Rattle.steps.specs.Keeps.{fresh-sound}
-use Rattle.failover.specs.Blocks.{answer-blocks, given-blocks, given-sound, onReplayed, replay-blocks, replay-sound, encode-blocks, begin-blocks}
+use Rattle.failover.specs.Laid.{onto, onReplayed, replay-sound}
+use Rattle.failover.specs.Blocks.{answer-blocks, given-blocks, given-sound, replay-blocks, encode-blocks, begin-blocks}
 use Rattle.model.specs.Layout.{mostPrefix}
 
-reply-blocks : (o : Outcome Model) → replyOf (onBlocks o) ≡ replyOf o
-unfolding replyOf onBlocks
+reply-blocks : (o : Outcome Model) → replyOf (onto whole o) ≡ replyOf o
+unfolding replyOf onto
 reply-blocks (refused n) = refl
 reply-blocks (done m l) = refl
 
 answered-blocks : (m : Model) → soundModel m ≡ true → (fs : List (List ℕ)) (rs : List Reply)
-    → answered engine begin (padded m) fs rs ≡ answered models fresh m fs rs
+    → answered engine begin (whole m) fs rs ≡ answered models fresh m fs rs
 unfolding answered
 answered-blocks m ok [] [] = refl
 answered-blocks m ok [] (r ∷ rs) = refl
 answered-blocks m ok (f ∷ fs) [] = refl
 answered-blocks m ok (f ∷ fs) (r ∷ rs) =
     let n : Model = stateAfter m (answer models answerRoom m octets f) in
-    ap (λ (o : Outcome (List ℕ)). same (replyOf o) r && answered engine begin (stateAfter (padded m) (answer engine answerRoom (padded m) octets f)) fs rs)
+    ap (λ (o : Outcome (List ℕ)). same (replyOf o) r && answered engine begin (stateAfter (whole m) (answer engine answerRoom (whole m) octets f)) fs rs)
     (answer-blocks m ok answerRoom octets f)
-    ∙ ap (λ (x : Reply). same x r && answered engine begin (stateAfter (padded m) (answer engine answerRoom (padded m) octets f)) fs rs)
+    ∙ ap (λ (x : Reply). same x r && answered engine begin (stateAfter (whole m) (answer engine answerRoom (whole m) octets f)) fs rs)
     (reply-blocks (answer models answerRoom m octets f))
     ∙ ap (λ (s : List ℕ). same (replyOf (answer models answerRoom m octets f)) r && answered engine begin s fs rs) (given-blocks m ok answerRoom octets f)
     ∙ ap (λ (b : Bool). same (replyOf (answer models answerRoom m octets f)) r && b) (answered-blocks n (given-sound m ok answerRoom octets f) fs rs)
 
 -- the image at the end of a row
 reached-blocks : (m : Model) → soundModel m ≡ true → (fs : List (List ℕ))
-    → engine .encode (reached engine begin (padded m) fs) ≡ models .encode (reached models fresh m fs)
+    → engine .encode (reached engine begin (whole m) fs) ≡ models .encode (reached models fresh m fs)
 unfolding reached
 reached-blocks m ok [] = encode-blocks m ok
 reached-blocks m ok (f ∷ fs) =
@@ -67,7 +69,7 @@ right-blocks r e =
     let ok : soundModel m ≡ true = fresh-sound (r .opcode) (r .prefix) e in
     ap (λ (s : List ℕ). answered engine begin s (r .frames) (r .replies) && imaged (r .image) (engine .encode (reached engine begin s (r .frames))))
     (begin-blocks (r .opcode) (r .prefix) e)
-    ∙ ap (λ (b : Bool). b && imaged (r .image) (engine .encode (reached engine begin (padded m) (r .frames)))) (answered-blocks m ok (r .frames) (r .replies))
+    ∙ ap (λ (b : Bool). b && imaged (r .image) (engine .encode (reached engine begin (whole m) (r .frames)))) (answered-blocks m ok (r .frames) (r .replies))
     ∙ ap (λ (t : List ℕ). answered models fresh m (r .frames) (r .replies) && imaged (r .image) t) (reached-blocks m ok (r .frames))
 
 pub rows-blocks : (rs : List Row) → every inRange rs ≡ true → every (right engine begin) rs ≡ every (right models fresh) rs
@@ -84,15 +86,15 @@ in-full = refl
 
 -- the image of a row, and what its text is restored to
 restored-blocks : (t : List ℕ) → saves engine begin (decode t) t ≡ saves models fresh (readImage t) t
-unfolding saves decode readImage isImage blockOf pick
+unfolding saves decode readImage isImage wholeOf pick
 restored-blocks t = go (isImage t) refl
   where
     go : (b : Bool) → isImage t ≡ b
-        → saves engine begin (blockOf (pick b (some (heldIn t)) none)) t ≡ saves models fresh (pick b (some (heldIn t)) none) t
+        → saves engine begin (wholeOf (pick b (some (heldIn t)) none)) t ≡ saves models fresh (pick b (some (heldIn t)) none) t
     go true e = ap (λ (i : List ℕ). sames i t) (encode-blocks (heldIn t) (and-left (soundModel (heldIn t)) _ e))
     go false e = refl
 
-pictured-blocks : (ls : List String) (m : Model) → soundModel m ≡ true → pictured engine begin ls (padded m) ≡ pictured models fresh ls m
+pictured-blocks : (ls : List String) (m : Model) → soundModel m ≡ true → pictured engine begin ls (whole m) ≡ pictured models fresh ls m
 unfolding pictured
 pictured-blocks [] m ok = refl
 pictured-blocks (l ∷ ls) m ok =
@@ -107,7 +109,7 @@ told-blocks r =
     let ok : soundModel m ≡ true = fresh-sound opcodeInFull prefixInFull in-full in
     let t : List ℕ = each codes (r .journal) ++ ticksText (r .ticks) (suc (length (r .journal))) in
     let x : Replayed Model = replay models (λ i. answerRoom) m t in
-    let z : replay engine (λ i. answerRoom) (begin opcodeInFull prefixInFull) t ≡ onReplayed x =
+    let z : replay engine (λ i. answerRoom) (begin opcodeInFull prefixInFull) t ≡ onReplayed whole x =
     ap (λ (s : List ℕ). replay engine (λ i. answerRoom) s t) (begin-blocks opcodeInFull prefixInFull in-full)
     ∙ replay-blocks (λ i. answerRoom) m ok t in
     ap (λ (v : Replayed (List ℕ)). ranThrough (v .stop) && sames (each answerLines (v .answers)) (each codes (r .says)) && pictured engine begin (r .image) (v .state)) z

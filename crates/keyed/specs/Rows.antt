@@ -13,7 +13,8 @@ use Rattle.resolve.specs.Examples.{key, address, addressLater, addressOff, top0
 use Rattle.sessions.specs.Machine.{octets, answerRoom}
 use Rattle.sessions.specs.Session.{answer, stateAfter}
 use Rattle.model.specs.Types.{Model, fresh}
-use Rattle.model.specs.Engine.{models, engine, begin}
+use Rattle.model.specs.Engine.{models}
+use Rattle.wholes.specs.Engine.{engine, begin}
 use Rattle.model.specs.Rows.{Row, Reply, wrote, replyOf, same, answered, reached, imaged, right, session, cmd, quiet, added0, on, onAnswer}
 use Rattle.model.specs.Requests.{addKey, aa, bb}
 use Rattle.model.specs.Second.{addSecond, ofAa, second}

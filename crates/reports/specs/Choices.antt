@@ -13,7 +13,7 @@ use Rattle.decimals.specs.Decimals.{numberOf}
 use Rattle.decimals.specs.declared.Number.{Number}
 use Rattle.sessions.specs.Machine.{saveRoom}
 use Rattle.model.specs.Image.{isImage}
-use Rattle.model.specs.Engine.{blockIn}
+use Rattle.wholes.specs.Engine.{blockIn}
 use Rattle.restore.specs.Accept.{image-long}
 use Rattle.engine.specs.declared.Restored.{Restored}
 use Rattle.engine.specs.Public.{loadedOf}

@@ -13,7 +13,7 @@ use takeover::Next;
 
 mod messages;
 mod options;
-mod words;
+pub mod words;
 
 // More characters than any of the texts has.
 pub const ROOM: usize = 256;

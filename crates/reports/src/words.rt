@@ -14,7 +14,7 @@ fn least(a: usize, b: usize) -> usize
 }
 
 // No text yet.
-pub(super) fn blank() -> Text
+pub fn blank() -> Text
     ensures { λ r. ⌜ told r ≡ [] ⌝ }
 {
     Text {
@@ -24,7 +24,7 @@ pub(super) fn blank() -> Text
 }
 
 // A text and words behind it, as far as there is room.
-pub(super) fn with(t: Text, words: &[u8]) -> Text
+pub fn with(t: Text, words: &[u8]) -> Text
     ensures { λ r. ⌜ told r ≡ take room (told t ++ now (words .entry)) ⌝ }
 {
     let mut octets = t.octets;
@@ -38,7 +38,7 @@ pub(super) fn with(t: Text, words: &[u8]) -> Text
 }
 
 // A text, words and a number behind it.
-pub(super) fn said(t: Text, words: &[u8], n: u64) -> Text
+pub fn said(t: Text, words: &[u8], n: u64) -> Text
     ensures { λ r. ⌜ told r ≡ take room (told t ++ (now (words .entry) ++ decimal n)) ⌝ }
 {
     let mut digits = [0u8; decimals::MOST];

@@ -8,6 +8,7 @@ ghost use Prim.Native.Nat.{_+_, _≤_, _<_};
 ghost use lib.ListN.{length};
 use engine::Loaded;
 use engine::Stop;
+use index::Whole;
 use libc::STDIN_FILENO;
 use libc::STDOUT_FILENO;
 use refusals::Wrote;
@@ -102,7 +103,7 @@ fn go_on(t: Tally, text: &[u8], out: &[u8], taken: usize, wrote: usize, number: 
 }
 
 // One call of replay over what is left of the journal.
-fn turn(block: &mut [u8; State::SIZE], text: &[u8], out: &mut [u8], t: Tally) -> Tally {
+fn turn(block: &mut [u8; Whole::SIZE], text: &[u8], out: &mut [u8], t: Tally) -> Tally {
     let at = t.at;
     if text.len() < at {
         return broken();
@@ -116,7 +117,7 @@ fn turn(block: &mut [u8; State::SIZE], text: &[u8], out: &mut [u8], t: Tally) ->
 }
 
 // Calls of replay until one comes to the end or is refused. No journal here has as many lines as turns are counted.
-fn replay_turns(block: &mut [u8; State::SIZE], text: &[u8], out: &mut [u8]) -> Tally {
+fn replay_turns(block: &mut [u8; Whole::SIZE], text: &[u8], out: &mut [u8]) -> Tally {
     let mut t = Tally {
         digest: 0,
         count: 0,
@@ -142,7 +143,7 @@ fn show(digest: u64, count: u64, number: u8) {
 }
 
 // Saves the image, and writes the session's line.
-fn finish(block: &[u8; State::SIZE], t: Tally) {
+fn finish(block: &[u8; Whole::SIZE], t: Tally) {
     let mut text = [0u8; IMAGE_ROOM];
     let saved = engine::save(block, &mut text);
     match saved {
@@ -155,7 +156,7 @@ fn finish(block: &[u8; State::SIZE], t: Tally) {
     }
 }
 
-fn follow(state: State, journal: &[u8]) {
+fn follow(state: Whole, journal: &[u8]) {
     let mut block = state.block;
     let mut out = [0u8; ANSWER_ROOM];
     let t = replay_turns(&mut block, journal, &mut out);

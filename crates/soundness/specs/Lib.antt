@@ -14,3 +14,4 @@ pub mod Same
 pub mod Fields
 pub mod Code
 pub mod CodePairs
+pub mod Seen

@@ -1,5 +1,7 @@
 // Whether a block of octets is a sound state (document 01, The image, "Sound"): in place, in bounded work, for any
 // octets. The rows are laid out as `State` says.
+mod keys;
+
 use state::Seconds;
 use state::State;
 use state::Ticks;
@@ -8,7 +10,7 @@ ghost use mathlib.Core.Path.{_≡_};
 ghost use lib.ListN.{length, take, getD};
 ghost use Rattle.model.specs.Block.{sound};
 ghost use Rattle.soundness.specs.Below.{allBelow};
-ghost use Rattle.soundness.specs.Clauses.{headTest, heldTest, monitorTest, placeTest, otherTest, heldPairTest};
+ghost use Rattle.soundness.specs.Clauses.{headTest, heldTest, monitorTest, placeTest, heldPairTest};
 ghost use Rattle.soundness.specs.Clauses.{monitorsTest, pairsTest};
 ghost use Rattle.soundness.specs.Code.{sumAbove};
 ghost use Rattle.soundness.specs.Fields.{windowTest, latestTest, emptyTest, fieldsTest, addedTest, formTest};
@@ -196,30 +198,15 @@ fn pair_sound(s: &[u8], i: usize) -> bool
     fields_sound(&s[a..e], position, interval, sampling, filtering % 2 == 1)
 }
 
-// Whether the pair at a place is another than each one before it.
-fn other_sound(s: &[u8], i: usize) -> bool
-    requires { ⌜ (length (now s) ≡ blockSize) × (i < mostPairs) ⌝ }
-    ensures { λ b. ⌜ b ≡ otherTest (now (s .entry)) i ⌝ }
-{
-    let key = octets::get64(s, State::PAIRS_AT + State::PAIR_ROW * i);
-    let mut j = 0;
-    while j < i {
-        if key == octets::get64(s, State::PAIRS_AT + State::PAIR_ROW * j) {
-            return false;
-        }
-        j += 1;
-    }
-    true
-}
-
 fn held_pairs_sound(s: &[u8], c: usize) -> bool
     requires { ⌜ (length (now s) ≡ blockSize) × (c ≤ mostPairs) ⌝ }
     ensures { λ b. ⌜ b ≡ allBelow (heldPairTest (now (s .entry))) c ⌝ }
 {
+    let mut seen = [0u8; keys::MARKS];
     let mut i = 0;
     while i < c {
         let held = pair_sound(s, i);
-        let other = other_sound(s, i);
+        let other = keys::take_key(&mut seen, s, i);
         let good = held & other;
         if !good {
             return false;

@@ -17,8 +17,9 @@ use Rattle.sessions.specs.Saved.{cutFrom}
 use Rattle.model.specs.Types.{Model}
 use Rattle.model.specs.Frames.{Body, Typed, command, packet, tick, bad, typed}
 use Rattle.model.specs.Step.{act, actTyped, refusalTyped, stepTyped, answerTyped}
-use Rattle.model.specs.Block.{held, padded}
-use Rattle.model.specs.Engine.{engine, actBlock, onBlocks}
+use Rattle.model.specs.Block.{held}
+use Rattle.wholes.specs.Whole.{whole}
+use Rattle.wholes.specs.Engine.{engine, actWhole, onWholes}
 use Rattle.replays.specs.Into.{Reached, begun, reach, lineFrom, linesWhile}
 use Rattle.turns.specs.Takeover.{Next, reads, again, ended, stopped, nextOf, acts}
 use Rattle.turns.specs.Takeover.{follows, turn}
@@ -188,9 +189,9 @@ typed-rooms m f e = go (eqb (refusalTyped m f) 0) e
     go false q = not-three m f (refused-inj (refusalTyped m f) 3 q)
 
 pub engine-rooms : Rooms engine
-unfolding actBlock onBlocks act
+unfolding actWhole onWholes act
 engine-rooms = record { acts = λ s b e. go s b (act (held s) b) refl e }
   where
-    go : (s : List ℕ) (b : Body) (o : Outcome Model) → act (held s) b ≡ o → onBlocks o ≡ refused 3 → ⊥
-    go s b (done m a) p q = done≢refused (padded m) a 3 q
+    go : (s : List ℕ) (b : Body) (o : Outcome Model) → act (held s) b ≡ o → onWholes o ≡ refused 3 → ⊥
+    go s b (done m a) p q = done≢refused (whole m) a 3 q
     go s b (refused k) p q = typed-rooms (held s) (typed b) (p ∙ ap refused (refused-inj k 3 q))

@@ -29,7 +29,7 @@ use Rattle.model.specs.Watch.{packetMove, startOf, stopOf, turns, turnAnswer, t
 use Rattle.model.specs.Step.{answerTyped, act}
 use Rattle.model.specs.Sound.{soundModel}
 use Rattle.model.specs.Block.{held}
-use Rattle.model.specs.Engine.{engine}
+use Rattle.wholes.specs.Engine.{engine}
 use Rattle.steps.specs.Lists.{all-weaken}
 use Rattle.steps.specs.Facts.{fields-of}
 use Rattle.steps.specs.Whole.{Held, Sound, sound-of}
@@ -37,7 +37,7 @@ use Rattle.steps.specs.Typed.{Sent, Formed, typed-formed}
 use Rattle.steps.specs.Executed.{Executed, executed}
 use Rattle.steps.specs.Named.{Named, held-named, named-moved, turns-named, stop-named, starts-named}
 use Rattle.failover.specs.Read.{body-octets}
-use Rattle.blocks.specs.Block.{sound-held}
+use Rattle.wholes.specs.Laid.{whole-good}
 use Rattle.turns.specs.Blocks.{laws, OnModel, on-model}
 use Rattle.turns.specs.Events.{Whole, nothing, whole-one, whole-append}
 use Rattle.model.specs.Layout.{mostMonitors}
@@ -212,7 +212,7 @@ engine-tells =
       whole = λ lent s t l a q. let r : Ran engine s t a = ran engine laws lent s t l a q in
           let e : Executes engine s (r .line) t a = r .executes in
           let o : OnModel s (r .line .body) t a = on-model s (r .line .body) t a (e .acts) in
-          act-whole (held s) (o .model) (r .line .body) a (sound-held s (e .before)) (body-octets (e .form) (e .raw) (r .line) (e .given)) (o .acts);
+          act-whole (held s) (o .model) (r .line .body) a (whole-good s (e .before)) (body-octets (e .form) (e .raw) (r .line) (e .given)) (o .acts);
       keeps = λ lent s t l a q. let r : Ran engine s t a = ran engine laws lent s t l a q in laws .keeps s t (r .line) a (r .executes);
       long = long-unread;
     }

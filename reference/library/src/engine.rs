@@ -4,7 +4,7 @@ use crate::{write_line, State, ANSWER};
 use reference::block;
 use reference::engine::{Engine, Replayed};
 use reference::refusal::Refusal;
-use reference::state::State as Record;
+use reference::state::{Device, State as Record};
 
 pub struct Library {
     pub state: State,
@@ -64,6 +64,13 @@ impl Engine for Library {
 
     fn state(&self) -> Record {
         block::state(&self.state.block)
+    }
+
+    fn ask(&self, device: &Device) -> Option<(u8, u8)> {
+        match self.state.watchers(device.kind, &device.address) {
+            (0, 0) => None,
+            (count, lowest) => Some((count as u8, lowest as u8)),
+        }
     }
 
     fn start(&mut self, opcode: u16, prefix: &[u8]) -> Result<(), Refusal> {

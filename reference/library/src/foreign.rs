@@ -1,5 +1,5 @@
 //! The declarations of `include/bournejade.h`, and a safe function over each. The only unsafe code: a slice is valid for
-//! its length and never null, a block has 5,225 octets, and what is lent mutably overlaps nothing.
+//! its length and never null, a block has 5,802 octets, and what is lent mutably overlaps nothing.
 
 use crate::{Ran, Refused, STATE};
 
@@ -45,6 +45,7 @@ extern "C" {
         taken: *mut usize,
         wrote: *mut usize,
     ) -> u8;
+    fn bournejade_watchers(state: *const u8, kind: u8, address: *const u8, lowest: *mut u32) -> u32;
     fn bournejade_match(
         condition: *const u8,
         condition_size: usize,
@@ -132,6 +133,12 @@ pub fn replay(block: &mut Block, journal: &[u8], out: &mut [u8]) -> Ran {
         bournejade_replay(state, text, journal.len(), out.as_mut_ptr(), room, &mut taken, &mut wrote)
     };
     Ran { taken, wrote, refusal }
+}
+
+pub fn watchers(block: &Block, kind: u8, address: &[u8; 6]) -> (u32, u32) {
+    let mut lowest = u32::MAX;
+    let count = unsafe { bournejade_watchers(block.as_ptr(), kind, address.as_ptr(), &mut lowest) };
+    (count, lowest)
 }
 
 pub fn match_cost(condition: &[u8], adv: &[u8], scan: &[u8]) -> (u8, usize) {

@@ -7,7 +7,7 @@ mod foreign;
 pub mod timing;
 
 /// Octets of a state, and of the outputs that a frame's answer, an image and a line need.
-pub const STATE: usize = 5225;
+pub const STATE: usize = 5802;
 pub const ANSWER: usize = 2880;
 pub const IMAGE: usize = 10698;
 pub const LINE: usize = 527;
@@ -61,6 +61,11 @@ impl State {
 
     pub fn position(&self) -> u32 {
         foreign::position(&self.block)
+    }
+
+    /// How many monitors watch a device, and the lowest handle; 0 and 0 for none.
+    pub fn watchers(&self, kind: u8, address: &[u8; 6]) -> (u32, u32) {
+        foreign::watchers(&self.block, kind, address)
     }
 
     pub fn submit(&mut self, frame: &[u8], out: &mut [u8]) -> Result<usize, Refused> {

@@ -1,6 +1,7 @@
 //! The generator of sessions. A session has a theme, and an engine of its own follows it, so that the
 //! generator knows the position, the live monitors and the pairs, and can aim at the edges.
 
+mod broken;
 pub mod conditions;
 pub mod frames;
 mod lines;
@@ -60,6 +61,7 @@ enum Action {
     Unsound,
     Replay,
     StartAgain,
+    Ask,
 }
 
 pub struct Generator {
@@ -220,7 +222,7 @@ impl Generator {
         use Action::*;
         // The weights of: Add, AddEdge, Cancel, Filter, OtherCommand, Packet, NewDevice, Ticks, Save,
         // BadLine, BadPayload, OtherOpcode, Seen, Gap, ShortOutput,
-        // WriteLine, Failover, Restore, RestoreDamaged, Unsound, Replay, StartAgain.
+        // WriteLine, Failover, Restore, RestoreDamaged, Unsound, Replay, StartAgain, Ask.
         let actions = [
             Add,
             AddEdge,
@@ -244,19 +246,20 @@ impl Generator {
             Unsound,
             Replay,
             StartAgain,
+            Ask,
         ];
-        let weights: [usize; 22] = match self.theme {
-            Theme::Mixed => [9, 2, 2, 5, 2, 40, 3, 14, 3, 1, 1, 1, 1, 1, 1, 1, 2, 0, 0, 0, 1, 0],
-            Theme::Commands => [30, 40, 14, 14, 14, 8, 1, 3, 2, 1, 1, 1, 1, 1, 1, 0, 1, 0, 0, 0, 0, 0],
-            Theme::Conditions => [12, 4, 3, 2, 0, 70, 3, 3, 1, 0, 0, 0, 0, 0, 0, 0, 0, 0, 0, 0, 0, 0],
-            Theme::Limits => [4, 2, 3, 4, 0, 30, 20, 10, 2, 0, 0, 0, 1, 1, 0, 0, 1, 0, 0, 0, 0, 0],
-            Theme::Full => [1, 0, 1, 2, 0, 40, 30, 4, 2, 0, 0, 0, 1, 0, 0, 0, 3, 0, 0, 0, 2, 0],
-            Theme::Second => [9, 3, 1, 4, 0, 70, 1, 10, 2, 0, 0, 0, 1, 0, 0, 0, 4, 0, 0, 0, 2, 0],
-            Theme::Windows => [4, 0, 1, 4, 0, 50, 2, 34, 2, 0, 0, 0, 0, 0, 0, 0, 2, 0, 0, 0, 1, 0],
-            Theme::LongTicks => [1, 0, 0, 1, 0, 6, 1, 60, 1, 0, 0, 0, 0, 0, 0, 0, 1, 0, 0, 0, 0, 0],
-            Theme::Lines => [6, 2, 1, 3, 2, 12, 1, 8, 6, 20, 24, 6, 10, 8, 8, 6, 1, 0, 0, 0, 2, 2],
-            Theme::Images => [6, 1, 2, 4, 1, 24, 2, 20, 4, 0, 1, 0, 2, 1, 1, 0, 4, 10, 12, 6, 2, 1],
-            Theme::Failover => [8, 1, 2, 4, 1, 34, 2, 14, 3, 1, 1, 0, 2, 1, 0, 0, 8, 1, 1, 0, 20, 0],
+        let weights: [usize; 23] = match self.theme {
+            Theme::Mixed => [9, 2, 2, 5, 2, 40, 3, 14, 3, 1, 1, 1, 1, 1, 1, 1, 2, 0, 0, 0, 1, 0, 3],
+            Theme::Commands => [30, 40, 14, 14, 14, 8, 1, 3, 2, 1, 1, 1, 1, 1, 1, 0, 1, 0, 0, 0, 0, 0, 1],
+            Theme::Conditions => [12, 4, 3, 2, 0, 70, 3, 3, 1, 0, 0, 0, 0, 0, 0, 0, 0, 0, 0, 0, 0, 0, 2],
+            Theme::Limits => [4, 2, 3, 4, 0, 30, 20, 10, 2, 0, 0, 0, 1, 1, 0, 0, 1, 0, 0, 0, 0, 0, 6],
+            Theme::Full => [1, 0, 1, 2, 0, 40, 30, 4, 2, 0, 0, 0, 1, 0, 0, 0, 3, 0, 0, 0, 2, 0, 8],
+            Theme::Second => [9, 3, 1, 4, 0, 70, 1, 10, 2, 0, 0, 0, 1, 0, 0, 0, 4, 0, 0, 0, 2, 0, 2],
+            Theme::Windows => [4, 0, 1, 4, 0, 50, 2, 34, 2, 0, 0, 0, 0, 0, 0, 0, 2, 0, 0, 0, 1, 0, 2],
+            Theme::LongTicks => [1, 0, 0, 1, 0, 6, 1, 60, 1, 0, 0, 0, 0, 0, 0, 0, 1, 0, 0, 0, 0, 0, 1],
+            Theme::Lines => [6, 2, 1, 3, 2, 12, 1, 8, 6, 20, 24, 6, 10, 8, 8, 6, 1, 0, 0, 0, 2, 2, 1],
+            Theme::Images => [6, 1, 2, 4, 1, 24, 2, 20, 4, 0, 1, 0, 2, 1, 1, 0, 4, 10, 12, 6, 2, 1, 6],
+            Theme::Failover => [8, 1, 2, 4, 1, 34, 2, 14, 3, 1, 1, 0, 2, 1, 0, 0, 8, 1, 1, 0, 20, 0, 4],
         };
         let offered = if any_call { weights.len() } else { 15 };
         let total: usize = weights[..offered].iter().sum();
@@ -294,6 +297,7 @@ impl Generator {
             Action::Unsound => self.unsound(),
             Action::Replay => self.replay(),
             Action::StartAgain => self.start_again(),
+            Action::Ask => self.ask(),
         }
     }
 }

@@ -1,7 +1,8 @@
 //! Random sound states, and states that break one clause of "Sound".
 
+pub use super::broken::{broken, WAYS};
+
 use super::{conditions, second};
-use crate::condition::{form, Form};
 use crate::limits::{Seconds, CONDITION, DATA, MONITORS, PAIRS, PREFIX};
 use crate::options;
 use crate::private::{self, Key};
@@ -148,6 +149,7 @@ pub fn sound(random: &mut Random, known: &[Device]) -> State {
             state.pair_count += 1;
         }
     }
+    state.index_afresh();
     state
 }
 
@@ -190,94 +192,6 @@ pub fn largest(random: &mut Random) -> State {
         };
     }
     state.pair_count = PAIRS as u8;
+    state.index_afresh();
     state
-}
-
-/// How many ways of breaking a state `broken` knows.
-pub const WAYS: usize = 51;
-
-/// A sound state with one clause of "Sound" broken in way `way`, if the state has the place for it.
-pub fn broken(random: &mut Random, sound: &State, way: usize) -> Option<State> {
-    let mut s = sound.clone();
-    let (monitors, pairs) = (s.monitor_count as usize, s.pair_count as usize);
-    if ((8..=21).contains(&way) || way >= 44) && monitors == 0 || (25..=43).contains(&way) && pairs == 0 {
-        return None;
-    }
-    let m = random.below(monitors.max(1));
-    let p = random.below(pairs.max(1));
-    let watcher = s.monitor(s.pairs[p].handle).copied().unwrap_or(Monitor::NONE);
-    let sampled = watcher.period();
-    let keeps = options::filters_duplicates(&watcher);
-    let second = s.monitors[m].second();
-    match way {
-        0 => s.opcode = random.pick(&[0xFBFF, 0]),
-        1 => s.filter = random.pick(&[2, 255]),
-        2 => s.prefix_length = 33,
-        3 if s.prefix_length < 32 => s.prefix[31] = 1,
-        4 => s.monitor_count = random.pick(&[17, 255]),
-        5 => s.pair_count = random.pick(&[65, 255]),
-        6 if monitors < 16 => s.monitors[15].high = 1,
-        7 if pairs < 64 => s.pairs[63].data[30] = 1,
-        8 if monitors > 1 => s.monitors.swap(0, 1),
-        9 if monitors > 1 && pairs == 0 => s.monitors[1] = s.monitors[0],
-        10 => s.monitors[monitors - 1].handle = random.pick(&[16, 255]),
-        11 => (s.monitors[m].high, s.monitors[m].low) = (s.monitors[m].low, s.monitors[m].high),
-        12 => s.monitors[m].high = random.pick(&[21, 127]),
-        13 => s.monitors[m].low = -128,
-        14 if pairs == 0 => s.monitors[m].interval = 0,
-        15 => s.monitors[m].interval = random.pick(&[61, 255]),
-        16 => s.monitors[m].kind = random.pick(&[0, 3, 5]),
-        17 => s.monitors[m].octets[0] = s.monitors[m].octets[0].wrapping_add(5),
-        18 => s.monitors[m].length = random.pick(&[65, 255]),
-        19 if s.monitors[m].length < 64 => s.monitors[m].octets[63] = 1,
-        20 => s.monitors[m].length -= 1,
-        21 => s.monitors[m].high = s.monitors[m].low.saturating_sub(1),
-        22 => s.pairs[63].handle ^= 0x10,
-        23 if monitors > 0 => s.monitor_count -= 1,
-        24 => s.prefix_length = 255,
-        25 if pairs < 64 => {
-            s.pairs[pairs] = s.pairs[p];
-            s.pair_count += 1;
-        }
-        26 => s.pairs[p].handle = random.pick(&[16, 31, 255]),
-        27 => s.pairs[p].device.kind = random.pick(&[2, 255]),
-        28 => s.pairs[p].event_type = random.pick(if keeps { &[4, 254] } else { &[4, 255] }),
-        29 => s.pairs[p].n = random.pick(&[32, 255]),
-        30 => s.pairs[p].quiet = Seconds(watcher.interval).ticks().0,
-        31 => s.pairs[p].quiet = u16::MAX,
-        32 => s.pairs[p].window_ticks = sampled.unwrap_or(1),
-        33 if s.position < u32::MAX => {
-            s.pairs[p].packets = s.position + 1;
-            s.pairs[p].sum = 0;
-        }
-        34 => s.pairs[p].sum = 20 * s.pairs[p].packets as i64 + 1,
-        35 => s.pairs[p].sum = -127 * s.pairs[p].packets as i64 - 1,
-        36 if sampled.is_none() => s.pairs[p].packets = 1.min(s.position),
-        37 if s.pairs[p].packets == 0 && !keeps => s.pairs[p].event_type = 1,
-        38 if s.pairs[p].packets == 0 && !keeps => s.pairs[p].n = 1,
-        39 if s.pairs[p].n < 31 => s.pairs[p].data[30] = 1,
-        40 => s.pairs[p].sum = random.pick(&[i64::MIN, i64::MAX]),
-        42 => s.pairs[p].rssi = random.pick(&[21, 127, -128]),
-        43 if keeps => (s.pairs[p].event_type, s.pairs[p].n) = (Pair::NO_PACKET, 1),
-        44 if second => s.monitors[m].options = random.pick(&[0x00, 0x40, 0xC0]),
-        45 if second && s.monitors[m].options & 0x0A != 0 => s.monitors[m].irk = [0; 16],
-        46 if second && s.monitors[m].kind > 2 => {
-            s.monitors[m].options |= random.pick(&[0x01, 0x02, 0x04, 0x08])
-        }
-        47 if second && s.monitors[m].sampling != 0 => s.monitors[m].reports |= 1,
-        48 if second => s.monitors[m].peer.kind = random.pick(&[2, 255]),
-        49 if !second => s.monitors[m].peer.address[random.below(6)] = 1,
-        50 if !second => {
-            (s.monitors[m].reports, s.monitors[m].irk[15]) = random.pick(&[(6, 0), (0, 1), (1, 0)]);
-        }
-        41 => {
-            let handles: Vec<u8> = s.monitors().iter().map(|m| m.handle).collect();
-            s.pairs[p].handle = (0..16).find(|h| !handles.contains(h))?;
-        }
-        _ => return None,
-    }
-    // Another octet may make another well-formed condition.
-    let changed = &s.monitors[m];
-    let harmless = [16, 17].contains(&way) && form(changed.kind, changed.condition()) == Form::WellFormed;
-    (s != *sound && !harmless).then_some(s)
 }

@@ -65,7 +65,7 @@ impl Generator {
             true => self.state.clone(),
             false => states::sound(&mut self.random, &self.devices),
         };
-        let way = self.random.below(states::WAYS);
+        let way = self.way();
         let text = match (self.random.percent(50), states::broken(&mut self.random, &sound, way)) {
             (true, Some(state)) => image::text(&state),
             _ => damage(&mut self.random, &image::text(&sound)),
@@ -83,7 +83,7 @@ impl Generator {
     pub(super) fn unsound(&mut self) {
         let sound = self.state.clone();
         for _ in 0..4 {
-            let way = self.random.below(states::WAYS);
+            let way = self.way();
             if let Some(state) = states::broken(&mut self.random, &sound, way) {
                 self.make_call(Call::Adopt(Box::new(state)));
                 self.tick();
@@ -91,9 +91,18 @@ impl Generator {
                 self.short_output();
                 self.save();
                 self.short_save();
+                (0..2).for_each(|_| self.ask());
             }
         }
         self.make_call(Call::Adopt(Box::new(sound)));
+    }
+
+    /// A way of breaking a state; one packet more than the position among them more often than others.
+    fn way(&mut self) -> usize {
+        match self.random.percent(12) {
+            true => 33,
+            false => self.random.below(states::WAYS),
+        }
     }
 
     fn short_save(&mut self) {

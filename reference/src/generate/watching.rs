@@ -4,6 +4,7 @@ use super::frames::{frame, monitor, packet, scanned, PACKET, SCANNED};
 use super::{conditions, states, Generator, Theme};
 use crate::limits::{Seconds, PAIRS};
 use crate::private::Key;
+use crate::script::Call;
 use crate::state::Device;
 
 impl Generator {
@@ -41,6 +42,19 @@ impl Generator {
             return self.state.pairs()[self.random.below(self.state.pairs().len())].device;
         }
         self.random.pick(&self.devices)
+    }
+
+    /// Ask for a device: one under watch, its address with the other type, or another.
+    pub(super) fn ask(&mut self) {
+        let mut device = self.random.pick(&self.devices);
+        let entries = &self.state.index[..(self.state.index_count as usize).min(PAIRS)];
+        if !entries.is_empty() && self.random.percent(80) {
+            device = self.random.pick(entries).device;
+        }
+        if self.random.percent(10) {
+            device.kind = 1 - device.kind.min(1);
+        }
+        self.make_call(Call::Ask(device));
     }
 
     /// An RSSI: at the edges of a live monitor's thresholds, at those of the range, or any.

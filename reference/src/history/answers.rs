@@ -6,6 +6,7 @@ use super::History;
 use crate::event;
 use crate::fault::Fault;
 use crate::frame::{Packet, Payload};
+use crate::index::Entry;
 use crate::limits::DATA;
 use crate::options;
 use crate::state::{Device, Pair, State};
@@ -77,6 +78,13 @@ impl History {
         answer
     }
 
+    /// The handles that have a device under watch.
+    pub(super) fn watching(&self, device: &Device) -> Vec<u8> {
+        let past = self.past();
+        let starts = past.under_watch(self.frames.len()).into_iter().map(|s| &self.facts.starts[s]);
+        starts.filter(|start| start.device == *device).map(|start| past.monitor(start).handle).collect()
+    }
+
     /// The state whose image this is, every field from the past frames.
     pub(super) fn image_state(&self) -> State {
         let past = self.past();
@@ -111,6 +119,15 @@ impl History {
             }
             state.pairs[place] = pair;
             state.pair_count += 1;
+        }
+        // The index: for each pair whose device is not listed yet, all handles that watch it.
+        for pair in state.pairs().to_vec() {
+            let count = state.index_count as usize;
+            if state.index[..count].iter().all(|entry| entry.device != pair.device) {
+                let mask = self.watching(&pair.device).iter().fold(0, |mask, handle| mask | 1 << handle);
+                state.index[count] = Entry { device: pair.device, mask };
+                state.index_count += 1;
+            }
         }
         state
     }

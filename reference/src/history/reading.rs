@@ -34,6 +34,7 @@ pub fn records(text: &[u8]) -> Option<State> {
             _ => (),
         }
     }
+    state.index_afresh();
     Some(state)
 }
 

@@ -86,6 +86,11 @@ impl Timers {
                 tally.reasons += self.reported_at_start(monitor, packet) as usize;
             }
         }
+        if tally.displaced > 0 && self.fault == Fault::IndexKeepsDisplaced {
+            self.index_started(packet);
+        } else if tally.starts > 0 {
+            self.index_pairs();
+        }
         tally.count(filter_off);
         match self.fault {
             Fault::DuplicateForAll if tally.duplicates > 0 => tally.reasons = filter_off as usize,
@@ -135,7 +140,7 @@ impl Timers {
         let found = match self.fault {
             Fault::NoneDisplaced => None,
             Fault::DisplacesOnce if tally.displaced > 0 => None,
-            Fault::LatestDisplaced => all().last(),
+            Fault::LatestDisplaced => all().next_back(),
             Fault::AnyDisplaced => Some(0),
             _ => all().next(),
         };

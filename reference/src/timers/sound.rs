@@ -2,6 +2,7 @@
 
 use crate::condition::{form, Form};
 use crate::fault::Fault;
+use crate::index::{self, Entry};
 use crate::limits::{
     rssi_in_range, Seconds, CONDITION, DATA, INTERVAL_LEAST, INTERVAL_MOST, MONITORS, OPCODE_LEAST, PAIRS,
     PREFIX,
@@ -17,6 +18,21 @@ pub fn sound(state: &State, fault: Fault) -> bool {
         && state.pairs().iter().all(|pair| pair_sound(state, pair, fault))
         && pairs_distinct(state)
         && state.pairs[state.pair_count as usize..].iter().all(|place| *place == Pair::NONE)
+        && (index_sound(state, fault) || fault == Fault::IndexNotChecked || index_differs(fault))
+}
+
+/// The index is the one worked out afresh from the pairs, every unused place 0 (T-02).
+fn index_sound(state: &State, fault: Fault) -> bool {
+    let index = index::of(state.pairs(), fault);
+    state.index_count as usize == index.len()
+        && state.index[..index.len()] == index
+        && state.index[index.len()..].iter().all(|place| *place == Entry::default())
+}
+
+/// Wrong builds that take the index as it is.
+fn index_differs(fault: Fault) -> bool {
+    use Fault::*;
+    matches!(fault, IndexNotRestored | IndexKeepsStopped | IndexKeepsDisplaced | IndexKeepsCancelled)
 }
 
 fn settings_in_range(state: &State) -> bool {

@@ -39,7 +39,11 @@ impl Timers {
         if any && answer.is_empty() {
             hit(Rule::TickQuiet);
         }
+        let ended = kept.len() < self.state.pair_count as usize;
         self.hold_pairs(&kept);
+        if ended && self.fault != Fault::IndexKeepsStopped {
+            self.index_pairs();
+        }
         answer
     }
 

@@ -5,7 +5,7 @@ use Rattle.bournejade.proofs.bournejade_begin.Statement.{statement}
 use Rattle.bournejade.proofs.bournejade_begin.Tie as tie
 use Rattle.bournejade.proofs.bournejade_begin.Reads as reads
 use Rattle.bournejade.proofs.bournejade_begin.Lts as lts
-use Rattle.bournejade.proofs.start_number.Reads as start-number-reads
+use Rattle.bournejade.proofs.numbers.start_number.Reads as start-number-reads
 use Rattle.state.proofs.State.fresh.Reads as fresh-reads
 
 -- src/lib.rt:118:9

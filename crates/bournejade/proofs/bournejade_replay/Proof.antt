@@ -7,7 +7,7 @@ use Rattle.bournejade.proofs.bournejade_replay.Statement.{statement}
 use Rattle.bournejade.proofs.bournejade_replay.Tie as tie
 use Rattle.bournejade.proofs.bournejade_replay.Reads as reads
 use Rattle.bournejade.proofs.bournejade_replay.Lts as lts
-use Rattle.bournejade.proofs.read_told.Reads as read-told-reads
+use Rattle.bournejade.proofs.numbers.read_told.Reads as read-told-reads
 use Rattle.engine.proofs.replay.Reads as replay-reads
 
 -- src/lib.rt:192:9

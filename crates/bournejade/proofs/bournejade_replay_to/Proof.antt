@@ -7,7 +7,7 @@ use Rattle.bournejade.proofs.bournejade_replay_to.Statement.{statement}
 use Rattle.bournejade.proofs.bournejade_replay_to.Tie as tie
 use Rattle.bournejade.proofs.bournejade_replay_to.Reads as reads
 use Rattle.bournejade.proofs.bournejade_replay_to.Lts as lts
-use Rattle.bournejade.proofs.read_told.Reads as read-told-reads
+use Rattle.bournejade.proofs.numbers.read_told.Reads as read-told-reads
 use Rattle.engine.proofs.replay_to.Reads as replay-to-reads
 
 -- src/lib.rt:192:9

@@ -6,7 +6,7 @@ use Rattle.bournejade.proofs.bournejade_restore.Statement.{statement}
 use Rattle.bournejade.proofs.bournejade_restore.Tie as tie
 use Rattle.bournejade.proofs.bournejade_restore.Reads as reads
 use Rattle.bournejade.proofs.bournejade_restore.Lts as lts
-use Rattle.bournejade.proofs.load_number.Reads as load-number-reads
+use Rattle.bournejade.proofs.numbers.load_number.Reads as load-number-reads
 use Rattle.engine.proofs.load.Reads as load-reads
 
 -- src/lib.rt:178:9

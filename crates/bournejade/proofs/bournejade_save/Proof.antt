@@ -5,7 +5,7 @@ use Rattle.bournejade.proofs.bournejade_save.Statement.{statement}
 use Rattle.bournejade.proofs.bournejade_save.Tie as tie
 use Rattle.bournejade.proofs.bournejade_save.Reads as reads
 use Rattle.bournejade.proofs.bournejade_save.Lts as lts
-use Rattle.bournejade.proofs.told.Reads as told-reads
+use Rattle.bournejade.proofs.numbers.told.Reads as told-reads
 use Rattle.engine.proofs.save.Reads as save-reads
 
 -- src/lib.rt:168:9

@@ -6,7 +6,7 @@ use Rattle.bournejade.proofs.bournejade_submit.Statement.{statement}
 use Rattle.bournejade.proofs.bournejade_submit.Tie as tie
 use Rattle.bournejade.proofs.bournejade_submit.Reads as reads
 use Rattle.bournejade.proofs.bournejade_submit.Lts as lts
-use Rattle.bournejade.proofs.told.Reads as told-reads
+use Rattle.bournejade.proofs.numbers.told.Reads as told-reads
 use Rattle.engine.proofs.submit.Reads as submit-reads
 
 -- src/lib.rt:139:9

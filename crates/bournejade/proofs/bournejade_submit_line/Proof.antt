@@ -6,7 +6,7 @@ use Rattle.bournejade.proofs.bournejade_submit_line.Statement.{statemen
 use Rattle.bournejade.proofs.bournejade_submit_line.Tie as tie
 use Rattle.bournejade.proofs.bournejade_submit_line.Reads as reads
 use Rattle.bournejade.proofs.bournejade_submit_line.Lts as lts
-use Rattle.bournejade.proofs.told.Reads as told-reads
+use Rattle.bournejade.proofs.numbers.told.Reads as told-reads
 use Rattle.engine.proofs.submit_line.Reads as submit-line-reads
 
 -- src/lib.rt:148:9

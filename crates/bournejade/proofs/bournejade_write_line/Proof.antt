@@ -8,7 +8,7 @@ use Rattle.bournejade.proofs.bournejade_write_line.Statement.{statement
 use Rattle.bournejade.proofs.bournejade_write_line.Tie as tie
 use Rattle.bournejade.proofs.bournejade_write_line.Reads as reads
 use Rattle.bournejade.proofs.bournejade_write_line.Lts as lts
-use Rattle.bournejade.proofs.told.Reads as told-reads
+use Rattle.bournejade.proofs.numbers.told.Reads as told-reads
 use Rattle.lines.proofs.write_line.Reads as write-line-reads
 
 -- src/lib.rt:159:9

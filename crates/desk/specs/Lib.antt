@@ -1,0 +1,3 @@
+-- An address as people write it, and what is said of a device.
+pub mod Written
+pub mod Says

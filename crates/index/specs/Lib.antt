@@ -1,0 +1,10 @@
+-- What asking answers, and the laws of the table of entries, of the loop that fills it and of the index worked out afresh.
+pub mod Asked
+pub mod Read
+pub mod Table
+pub mod Seen
+pub mod Found
+pub mod Written
+pub mod Built
+pub mod Renewed
+pub mod Watching

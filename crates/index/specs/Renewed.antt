@@ -1,0 +1,182 @@
+-- The index of a block of any octets: whether it is that of the pairs held, and the block with it. And the whole block of a fresh state.
+-- Document 02, T-02. Assumes nothing.
+use Prim.Native.Nat.{ℕ, zero, suc, _+_, _-_, _*_, _≤_, _<_}
+use mathlib.Core.Path.{_≡_, refl, sym, ap, _∙_, subst}
+use mathlib.Core.Bool.{Bool, true, false, _&&_}
+use mathlib.Core.List.{List, [], _∷_, _++_, map}
+use native.Mathlib.Nat.{zero-add}
+use native.Mathlib.Omega.{arith}
+use borrow.Author.Tests.{eq-eqb, ne-eqb, leb-true}
+use lib.Dec.{eqb, leb}
+use lib.ListN.{length, take, drop, getD, set, replicate, length-drop, length-replicate, replicate-append-replicate, drop-of-length-le}
+use lib.Seq.{take-all, drop-at, drop-cons, set-at}
+use Rattle.laws.specs.Put.{put, putIf, put-of}
+use Rattle.laws.specs.Tests.{pick, pick-true, pick-false, sames, and-left, and-right, and-not-left}
+use Rattle.laws.specs.Loops.{every}
+use Rattle.octets.specs.Little.{isOctet}
+use Rattle.blocks.specs.Block.{length-padded}
+use Rattle.laws.specs.Rows.{rows, flat}
+use Rattle.octets.specs.Numbers.{atMost, numberAt}
+use Rattle.model.specs.Types.{Model, Pair, fresh, blank}
+use Rattle.model.specs.Image.{pairIn}
+use Rattle.model.specs.Sound.{soundSettings, octetsUpTo}
+use Rattle.model.specs.Block.{held, padded, pairTable}
+use Rattle.model.specs.Engine.{begin as beginCore}
+use Rattle.model.specs.Layout.{blockSize, countAt, mostPairs, mostPrefix, pairSize, pairsAt, pairsSize}
+use Rattle.wholes.specs.Layout.{entriesSize, entryCountAt, entrySize, indexAt, indexSize, wholeSize}
+use Rattle.wholes.specs.Index.{entryTable, indexBlock, indexOf, maskFor, maskIn, notedAll}
+use Rattle.wholes.specs.Whole.{whole}
+use Rattle.wholes.specs.Kept.{pairEvent}
+use Rattle.wholes.specs.Engine.{begin}
+use Rattle.index.specs.Read.{rows-most, rows-part}
+use Rattle.index.specs.Table.{Tabled}
+
+-- a block of its size, with the index of the pairs that it holds
+unfoldable pub isIndexed : List ℕ → Bool
+isIndexed s = eqb (length s) wholeSize && sames (indexBlock (held s .pairs)) (drop indexAt s)
+
+-- a block with that index; one of another size as it is
+unfoldable pub renewed : List ℕ → List ℕ
+renewed s = pick (eqb (length s) wholeSize) (put s indexAt (indexBlock (held s .pairs))) s
+
+-- whether a frame that wrote n octets at an output's start, with so many pairs held before it, started or ended a pair: another number is held
+-- now, or the answer opens with an event of a pair
+unfoldable pub isMoved : ℕ → List ℕ → ℕ → List ℕ → Bool
+isMoved before out n s = pick (eqb (getD s countAt 0) before) (pick (eqb n 0) false (eqb (numberAt 1 out 0) pairEvent)) true
+
+-- the block after such a frame, with the index worked out again only where a pair started or ended
+unfoldable pub followed : ℕ → List ℕ → ℕ → List ℕ → List ℕ
+followed before out n s = pick (isMoved before out n s) (renewed s) s
+
+module _ (before : ℕ) (out : List ℕ) (n : ℕ) (s : List ℕ) where
+  pub moved-count : (getD s countAt 0 ≡ before → ⊥) → true ≡ isMoved before out n s
+  unfolding isMoved
+  moved-count h = sym (pick-false (pick (eqb n 0) false (eqb (numberAt 1 out 0) pairEvent)) true (ne-eqb (getD s countAt 0) before h))
+
+  pub moved-silent : getD s countAt 0 ≡ before → n ≡ 0 → false ≡ isMoved before out n s
+  unfolding isMoved
+  moved-silent h z =
+      sym (pick-true (pick (eqb n 0) false (eqb (numberAt 1 out 0) pairEvent)) true (eq-eqb (getD s countAt 0) before h)
+      ∙ pick-true false (eqb (numberAt 1 out 0) pairEvent) (eq-eqb n 0 z))
+
+  pub moved-first : getD s countAt 0 ≡ before → (n ≡ 0 → ⊥) → {k : ℕ} → k ≡ numberAt 1 out 0 → eqb k pairEvent ≡ isMoved before out n s
+  unfolding isMoved
+  moved-first h z e =
+      ap (λ (j : ℕ). eqb j pairEvent) e
+      ∙ sym (pick-true (pick (eqb n 0) false (eqb (numberAt 1 out 0) pairEvent)) true (eq-eqb (getD s countAt 0) before h)
+      ∙ pick-false false (eqb (numberAt 1 out 0) pairEvent) (ne-eqb n 0 z))
+
+  pub followed-other : (length s ≡ wholeSize → ⊥) → s ≡ followed before out n s
+  unfolding followed renewed pick
+  followed-other h = go (isMoved before out n s)
+    where
+      go : (b : Bool) → s ≡ pick b (renewed s) s
+      go true = sym (pick-false (put s indexAt (indexBlock (held s .pairs))) s (ne-eqb (length s) wholeSize h))
+      go false = refl
+
+  pub followed-moved : {b : Bool} {t : List ℕ} → b ≡ isMoved before out n s → b ≡ true → t ≡ renewed s → t ≡ followed before out n s
+  unfolding followed
+  followed-moved e h q = q ∙ sym (pick-true (renewed s) s (sym e ∙ h))
+
+  pub followed-still : {b : Bool} → b ≡ isMoved before out n s → b ≡ false → s ≡ followed before out n s
+  unfolding followed
+  followed-still e h = sym (pick-false (renewed s) s (sym e ∙ h))
+
+module _ (s : List ℕ) where
+  pub indexed-not : (length s ≡ wholeSize → ⊥) → false ≡ isIndexed s
+  unfolding isIndexed
+  indexed-not n = sym (and-not-left (eqb (length s) wholeSize) _ (ne-eqb (length s) wholeSize n))
+
+  pub indexed-is : length s ≡ wholeSize → (x : List ℕ) (k : ℕ) {r : Bool} → x ≡ indexBlock (held s .pairs) → k ≡ length s - indexAt
+      → r ≡ sames x (take k (drop indexAt s)) → r ≡ isIndexed s
+  unfolding isIndexed
+  indexed-is l x k e n q =
+      q ∙ ap (λ (y : List ℕ). sames y (take k (drop indexAt s))) e
+      ∙ ap (sames (indexBlock (held s .pairs))) (take-all k (drop indexAt s) (simp length-drop (omega arith)))
+      ∙ sym (ap (λ (b : Bool). b && sames (indexBlock (held s .pairs)) (drop indexAt s)) (eq-eqb (length s) wholeSize l))
+
+  pub renewed-not : (length s ≡ wholeSize → ⊥) → s ≡ renewed s
+  unfolding renewed
+  renewed-not n = sym (pick-false (put s indexAt (indexBlock (held s .pairs))) s (ne-eqb (length s) wholeSize n))
+
+  pub renewed-is : length s ≡ wholeSize → (x : List ℕ) {r : Bool} {t : List ℕ} → x ≡ indexBlock (held s .pairs) → length x ≡ indexSize
+      → r ≡ leb (indexAt + length x) (length s) → t ≡ putIf r s indexAt x → t ≡ renewed s
+  unfolding renewed
+  renewed-is l x e n p q =
+      put-of s indexAt x (length x) (length s) p (omega arith) q ∙ ap (put s indexAt) e
+      ∙ sym (pick-true (put s indexAt (indexBlock (held s .pairs))) s (eq-eqb (length s) wholeSize l))
+
+-- no pairs: zeros
+pub none-index : indexBlock [] ≡ replicate indexSize 0
+unfolding indexBlock entryTable indexOf notedAll flat
+none-index = refl
+
+-- the whole block of a state without pairs
+pub whole-fresh : (m : Model) (c : List ℕ) {r : Bool} {l : List ℕ} → m .pairs ≡ [] → c ≡ padded m → length c ≡ blockSize
+    → r ≡ leb (0 + length c) wholeSize → l ≡ putIf r (replicate wholeSize 0) 0 c → l ≡ whole m
+unfolding whole put
+whole-fresh m c e p n q w =
+    let z : replicate {A = ℕ} wholeSize 0 ≡ replicate blockSize 0 ++ replicate indexSize 0 = sym (replicate-append-replicate blockSize indexSize 0) in
+    put-of (replicate wholeSize 0) 0 c (length c) wholeSize q (omega arith) w
+    ∙ ap (λ (k : ℕ). c ++ drop {A = ℕ} k (replicate wholeSize 0)) (zero-add (length c) ∙ n) ∙ ap (λ (x : List ℕ). c ++ drop blockSize x) z
+    ∙ ap (λ (x : List ℕ). c ++ x) (drop-at (replicate blockSize 0) (replicate indexSize 0) blockSize (length-replicate {A = ℕ} blockSize 0))
+    ∙ ap (λ (x : List ℕ). x ++ replicate indexSize 0) p ∙ ap (λ (x : List ℕ). padded m ++ x) (sym (ap indexBlock e ∙ none-index))
+
+-- the length of such a core
+pub fresh-long : (opcode : ℕ) (prefix : List ℕ) → length prefix ≤ mostPrefix → length (padded (fresh opcode prefix)) ≡ blockSize
+unfolding fresh
+fresh-long opcode prefix h =
+    length-padded (fresh opcode prefix)
+    (record { prefix-most = h; short = tt; fit = tt; pairs-most = omega arith })
+
+settings-short : (opcode : ℕ) (prefix : List ℕ) → soundSettings opcode prefix ≡ true → length prefix ≤ mostPrefix
+unfolding soundSettings octetsUpTo
+settings-short opcode prefix e =
+    leb-true (length prefix) mostPrefix (and-left (leb (length prefix) mostPrefix) (every isOctet prefix)
+    (and-right (leb 0xFC00 opcode && leb opcode 0xFFFF) (leb (length prefix) mostPrefix && every isOctet prefix) e))
+
+pub begun-whole : (opcode : ℕ) (prefix c : List ℕ) {r : Bool} {l : List ℕ} → c ≡ beginCore opcode prefix
+    → r ≡ leb (0 + length c) wholeSize → l ≡ putIf r (replicate wholeSize 0) 0 c → l ≡ begin opcode prefix
+unfolding beginCore begin fresh blank
+begun-whole opcode prefix c {r} {l} e q w = go (soundSettings opcode prefix) refl e
+  where
+    go : (b : Bool) → soundSettings opcode prefix ≡ b → c ≡ pick b (padded (fresh opcode prefix)) (padded blank)
+        → l ≡ pick b (whole (fresh opcode prefix)) (whole blank)
+    go true s f =
+        let g : c ≡ padded (fresh opcode prefix) = f ∙ pick-true (padded (fresh opcode prefix)) (padded blank) refl in
+        whole-fresh (fresh opcode prefix) c refl g (ap length g ∙ fresh-long opcode prefix (settings-short opcode prefix s)) q w
+        ∙ sym (pick-true (whole (fresh opcode prefix)) (whole blank) refl)
+    go false s f =
+        let g : c ≡ padded blank = f ∙ pick-false (padded (fresh opcode prefix)) (padded blank) refl in
+        whole-fresh blank c refl g (ap length g ∙ fresh-long 0xFC00 [] (omega arith)) q w
+        ∙ sym (pick-false (whole (fresh opcode prefix)) (whole blank) refl)
+
+-- what a block's index says, from the part that has it
+pub mask-said : (s d : List ℕ) (n k v : ℕ) {r : ℕ} → length s ≡ wholeSize → n ≡ atMost v mostPairs → v ≡ getD s entryCountAt 0 → k ≡ entriesSize
+    → r ≡ maskIn d (take n (rows entrySize mostPairs (take k (drop indexAt s)))) → r ≡ maskFor d s
+unfolding maskFor
+mask-said s d n k v l e q p w =
+    w ∙ ap (λ (x : List (List ℕ)). maskIn d (take n x)) (rows-part entrySize mostPairs k (drop indexAt s) p (simp length-drop (omega arith)))
+    ∙ ap (λ (j : ℕ). maskIn d (take j (rows entrySize mostPairs (drop indexAt s)))) e
+    ∙ ap (maskIn d) (rows-most entrySize mostPairs (drop indexAt s) v)
+    ∙ ap (λ (j : ℕ). maskIn d (take j (rows entrySize mostPairs (drop indexAt s)))) q
+
+-- the index worked out of a block
+pub pairs-held : (s : List ℕ) (n k v : ℕ) → length s ≡ wholeSize → n ≡ atMost v mostPairs → v ≡ getD s countAt 0 → k ≡ pairsSize
+    → map pairIn (take n (rows pairSize mostPairs (take k (drop pairsAt s)))) ≡ held s .pairs
+unfolding held pairTable
+pairs-held s n k v l e q p =
+    ap (λ (x : List (List ℕ)). map pairIn (take n x)) (rows-part pairSize mostPairs k (drop pairsAt s) p (simp length-drop (omega arith)))
+    ∙ ap (λ (j : ℕ). map pairIn (take j (rows pairSize mostPairs (drop pairsAt s)))) e
+    ∙ ap (map pairIn) (rows-most pairSize mostPairs (drop pairsAt s) v)
+    ∙ ap (λ (j : ℕ). map pairIn (take j (rows pairSize mostPairs (drop pairsAt s)))) q
+
+pub worked-out : (x t : List ℕ) (k : ℕ) (qs : List Pair) → length x ≡ indexSize → Tabled (indexOf qs) k t → length t ≡ entriesSize
+    → set (t ++ drop entriesSize x) entriesSize k ≡ indexBlock qs
+unfolding indexBlock
+worked-out x t k qs l w m =
+    let d : drop entriesSize x ≡ getD x entriesSize 0 ∷ [] =
+    drop-cons x entriesSize 0 (omega arith)
+    ∙ ap (λ (y : List ℕ). getD x entriesSize 0 ∷ y) (drop-of-length-le x {i = suc entriesSize} (omega arith)) in
+    ap (λ (y : List ℕ). set (t ++ y) entriesSize k) d ∙ set-at t (getD x entriesSize 0) [] k entriesSize m
+    ∙ ap (λ (y : List ℕ). y ++ (k ∷ [])) (w .table) ∙ ap (λ (j : ℕ). entryTable (indexOf qs) ++ (j ∷ [])) (w .count)

@@ -1,0 +1,193 @@
+// The index by device behind the core of a block (document 02, T-02): worked out from the pairs, asked, compared. And the whole block of a
+// state: its size, and how one is begun. The core is laid out as `State` says.
+mod table;
+
+use state::Start;
+use state::State;
+ghost use Prim.Native.Nat.{_≤_, _<_};
+ghost use mathlib.Core.Path.{_≡_};
+ghost use lib.ListN.{length, replicate};
+ghost use Rattle.octets.specs.Little.{value};
+ghost use Rattle.state.specs.Start.{settingsOf};
+ghost use Rattle.model.specs.Types.{blank as blankModel, device};
+ghost use Rattle.model.specs.Block.{held};
+ghost use Rattle.model.specs.Layout.{addressSize};
+ghost use Rattle.wholes.specs.Layout.{indexSize, wholeSize};
+ghost use Rattle.wholes.specs.Index.{indexBlock, maskFor, handlesOf};
+ghost use Rattle.wholes.specs.Whole.{whole};
+ghost use Rattle.wholes.specs.Engine.{begin};
+ghost use Rattle.index.specs.Asked.{watchOf};
+ghost use Rattle.index.specs.Renewed.{isIndexed, isMoved, followed, renewed};
+
+// The octet that opens an event of a pair.
+const EVENT: u8 = 0xFF;
+
+// The whole block of a state: the core, and behind it the index, a row for each device in the order of its first held pair, and the number
+// of entries. What is not in use is 0.
+pub struct Whole {
+    pub block: [u8; Whole::SIZE],
+}
+
+// What starting gives: the whole block, and whether the settings were refused.
+pub struct Opened {
+    pub answer: Start,
+    pub state: Whole,
+}
+
+// How many monitors watch a device and the lowest of their handles, or that there is none.
+pub enum Watch {
+    By { count: u32, lowest: u32 },
+    Nobody,
+}
+
+impl Whole {
+    // An entry's row: address type, address, mask (2).
+    pub const DEVICE: usize = 7;
+
+    pub const MASK_AT: usize = Whole::DEVICE;
+
+    pub const ENTRY: usize = Whole::MASK_AT + 2;
+    // The index: the entries' rows, their number.
+    pub const ENTRIES: usize = Whole::ENTRY * State::PAIRS;
+
+    pub const INDEX: usize = Whole::ENTRIES + 1;
+    // The whole block: the core, the index.
+    pub const INDEX_AT: usize = State::SIZE;
+
+    pub const COUNT_AT: usize = Whole::INDEX_AT + Whole::ENTRIES;
+
+    pub const SIZE: usize = Whole::INDEX_AT + Whole::INDEX;
+
+    // The fresh state with these settings; the blank one and refusal 9 where they are out of range.
+    pub fn fresh(opcode: u16, prefix: &[u8]) -> Opened
+        ensures { λ r. ⌜ (r .answer ≡ settingsOf opcode (now (prefix .entry))) × (r .state .block ≡ begin opcode (now (prefix .entry))) ⌝ }
+    {
+        let begun = State::fresh(opcode, prefix);
+        let answer = begun.answer;
+        let fresh = begun.state;
+        let core = fresh.block;
+        let mut block = [0u8; Whole::SIZE];
+        parts::copy(&mut block, 0, &core);
+        Opened {
+            answer: answer,
+            state: Whole { block },
+        }
+    }
+
+    // The blank state: fresh, opcode 0xFC00, empty prefix.
+    pub fn blank() -> Whole
+        ensures { λ r. ⌜ r .block ≡ whole blankModel ⌝ }
+    {
+        let fresh = State::blank();
+        let core = fresh.block;
+        let mut block = [0u8; Whole::SIZE];
+        parts::copy(&mut block, 0, &core);
+        Whole { block }
+    }
+}
+
+// What a mask says: how many handles it has and the lowest, or that there is none.
+fn told(mask: u16) -> Watch
+    ensures { λ r. ⌜ r ≡ watchOf (handlesOf mask) ⌝ }
+{
+    if mask == 0 {
+        return Watch::Nobody;
+    }
+    Watch::By {
+        count: u16::count_ones(mask),
+        lowest: u16::trailing_zeros(mask),
+    }
+}
+
+// A device as a number of 7 octets.
+fn device_number(kind: u8, address: &[u8]) -> u64
+    requires { ⌜ length (now address) ≡ addressSize ⌝ }
+    ensures { λ r. ⌜ r ≡ value (device kind (now (address .entry))) ⌝ }
+{
+    let low = octets::get32(address, 0) as u64;
+    let high = octets::get16(address, 4) as u64;
+    kind as u64 + 256 * (low + 4294967296 * high)
+}
+
+// What the index of a block says of a device.
+fn mask_for(s: &[u8], kind: u8, address: &[u8]) -> u16
+    requires { ⌜ (length (now s) ≡ wholeSize) × (length (now address) ≡ addressSize) ⌝ }
+    ensures { λ r. ⌜ r ≡ maskFor (device kind (now (address .entry))) (now (s .entry)) ⌝ }
+{
+    let n = octets::at_most(s[Whole::COUNT_AT], State::PAIRS);
+    let dev = device_number(kind, address);
+    table::mask_of(&s[Whole::INDEX_AT..Whole::COUNT_AT], n, dev)
+}
+
+// Which monitors watch a device (address type and address)? It reads the index alone: the first of at most 64 entries for that device
+// answers, whatever the block's octets are.
+pub fn ask(s: &[u8; Whole::SIZE], kind: u8, address: &[u8; 6]) -> Watch
+    ensures { λ r. ⌜ r ≡ watchOf (handlesOf (maskFor (device kind (now (address .entry))) (now (s .entry)))) ⌝ }
+{
+    told(mask_for(s, kind, address))
+}
+
+// The index of the pairs that a block holds, into a lent buffer of zeros.
+fn work_out(s: &[u8], index: &mut [u8])
+    requires { ⌜ (length (now s) ≡ wholeSize) × (length (now index) ≡ indexSize) × (now index ≡ replicate indexSize 0) ⌝ }
+    ensures { λ _. ⌜ now (index .exit) ≡ indexBlock (held (now (s .entry)) .pairs) ⌝ }
+{
+    let n = octets::at_most(s[State::COUNT_AT], State::PAIRS);
+    let k = table::build(
+        &mut index[..Whole::ENTRIES],
+        &s[State::PAIRS_AT..State::COUNT_AT],
+        n,
+    );
+    index[Whole::ENTRIES] = k as u8;
+}
+
+// Whether a block has its size and the index of the pairs that it holds.
+pub fn is_indexed(s: &[u8]) -> bool
+    ensures { λ r. ⌜ r ≡ isIndexed (now (s .entry)) ⌝ }
+{
+    if s.len() != Whole::SIZE {
+        return false;
+    }
+    let mut index = [0u8; Whole::INDEX];
+    work_out(s, &mut index);
+    parts::same(&index, &s[Whole::INDEX_AT..])
+}
+
+// The index of a block worked out afresh; a block of another size is left as it is.
+pub fn renew(s: &mut [u8])
+    ensures { λ _. ⌜ now (s .exit) ≡ renewed (now (s .entry)) ⌝ }
+{
+    if s.len() != Whole::SIZE {
+        return;
+    }
+    let mut index = [0u8; Whole::INDEX];
+    work_out(s, &mut index);
+    parts::copy(s, Whole::INDEX_AT, &index);
+}
+
+// Whether a frame that wrote n octets at an output's start, with so many pairs held before it, started or ended a pair: another number is
+// held now, or the answer opens with an event of a pair.
+fn is_moved(s: &[u8], before: u8, out: &[u8], n: usize) -> bool
+    requires { ⌜ length (now s) ≡ wholeSize ⌝ }
+    ensures { λ r. ⌜ r ≡ isMoved before (now (out .entry)) n (now (s .entry)) ⌝ }
+{
+    if s[State::COUNT_AT] != before {
+        return true;
+    }
+    if n == 0 {
+        return false;
+    }
+    octets::get8(out, 0) == EVENT
+}
+
+// Keeps the index up after such a frame: it is worked out again only where a pair started or ended. A block of another size is left as it is.
+pub fn follow(s: &mut [u8], before: u8, out: &[u8], n: usize)
+    ensures { λ _. ⌜ now (s .exit) ≡ followed before (now (out .entry)) n (now (s .entry)) ⌝ }
+{
+    if s.len() != Whole::SIZE {
+        return;
+    }
+    if is_moved(s, before, out, n) {
+        renew(s);
+    }
+}

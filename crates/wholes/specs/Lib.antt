@@ -1,0 +1,12 @@
+-- The whole block of a state: the core (crate model) and behind it the index by device of document 02, T-02. `Index` says what the index is,
+-- `Whole` what a whole block is and when it is sound, `Engine` is the engine over whole blocks; the rest are laws.
+pub mod Layout
+pub mod Index
+pub mod Whole
+pub mod Engine
+pub mod Sizes
+pub mod Laid
+pub mod Kept
+pub mod Watched
+pub mod Restores
+pub mod Edges
