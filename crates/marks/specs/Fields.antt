@@ -198,36 +198,43 @@ module _ (l : List ℕ) (c : 10 ≤ length l) where
         )
 
 -- what the octets of the handles are written from: 16 octets, a block, the octets of a packet frame
-unfoldable pub marksFit : List ℕ → List ℕ → List ℕ → Bool
-marksFit acts s l = eqb (length acts) mostMonitors && (eqb (length s) blockSize && framed l)
+unfoldable pub fitsFor : ℕ → List ℕ → List ℕ → Bool
+fitsFor n s l = eqb n mostMonitors && (eqb (length s) blockSize && framed l)
+
+abbrev pub marksFit : List ℕ → List ℕ → List ℕ → Bool
+marksFit acts s l = fitsFor (length acts) s l
+
+pub fits-facts : (n : ℕ) (s l : List ℕ) → fitsFor n s l ≡ true → (n ≡ mostMonitors) × (length s ≡ blockSize) × Framed l
+unfolding fitsFor
+fits-facts n s l e =
+    let r = and-right (eqb n mostMonitors) _ e in (
+      eqb-true n mostMonitors (and-left (eqb n mostMonitors) _ e),
+      eqb-true (length s) blockSize (and-left (eqb (length s) blockSize) (framed l) r),
+      framed-facts l (and-right (eqb (length s) blockSize) (framed l) r),
+    )
+
+pub facts-fits : (n : ℕ) (s l : List ℕ) → n ≡ mostMonitors → length s ≡ blockSize → Framed l → fitsFor n s l ≡ true
+unfolding fitsFor
+facts-fits n s l a b f = and-both (eq-eqb n mostMonitors a) (and-both (eq-eqb (length s) blockSize b) (facts-framed l f))
 
 -- what stands in their place after a call that wrote them or refused
 unfoldable pub marked : Bool → List ℕ → List ℕ → List ℕ → List ℕ
 marked t acts s l = pick t (marksAt s (packetOf l)) acts
 
 module _ (acts s l : List ℕ) where
-  pub fit-acts : (length acts ≡ mostMonitors → ⊥) → (false ≡ marksFit acts s l) × (acts ≡ marked false acts s l)
-  unfolding marksFit marked pick
-  fit-acts n = (sym (and-not-left _ _ (ne-eqb (length acts) mostMonitors n)), refl)
+  pub marked-not : {t : Bool} → t ≡ marksFit acts s l → t ≡ false → (false ≡ marksFit acts s l) × (acts ≡ marked false acts s l)
+  unfolding marked pick
+  marked-not e z = (sym z ∙ e, refl)
 
-  pub fit-block : (length s ≡ blockSize → ⊥) → (false ≡ marksFit acts s l) × (acts ≡ marked false acts s l)
-  unfolding marksFit marked pick
-  fit-block n = (sym (and-not-right (eqb (length acts) mostMonitors) _ (and-not-left _ _ (ne-eqb (length s) blockSize n))), refl)
-
-  pub fit-frame : framed l ≡ false → (false ≡ marksFit acts s l) × (acts ≡ marked false acts s l)
-  unfolding marksFit marked pick
-  fit-frame n = (sym (and-not-right (eqb (length acts) mostMonitors) _ (and-not-right (eqb (length s) blockSize) _ n)), refl)
-
-  pub fit-done : {x : List ℕ} → length acts ≡ mostMonitors → length s ≡ blockSize → framed l ≡ true → x ≡ marksAt s (packetOf l)
+  pub marked-done : {t : Bool} {x : List ℕ} → t ≡ marksFit acts s l → t ≡ true → x ≡ marksAt s (packetOf l)
       → (true ≡ marksFit acts s l) × (x ≡ marked true acts s l)
-  unfolding marksFit marked pick
-  fit-done a b c e = (sym (and-both (eq-eqb (length acts) mostMonitors a) (and-both (eq-eqb (length s) blockSize b) c)), e)
+  unfolding marked pick
+  marked-done e z q = (sym z ∙ e, q)
 
   -- the octets, where the lengths are right
   pub marked-of : {t : Bool} {x : List ℕ} → length acts ≡ mostMonitors → length s ≡ blockSize → Framed l
       → (t ≡ marksFit acts s l) × (x ≡ marked t acts s l) → x ≡ marksAt s (packetOf l)
-  unfolding marksFit marked
+  unfolding marked
   marked-of {t} {x} a b f e =
-      let u : t ≡ true =
-      e .0 ∙ and-both (eq-eqb (length acts) mostMonitors a) (and-both (eq-eqb (length s) blockSize b) (facts-framed l f)) in
+      let u : t ≡ true = e .0 ∙ facts-fits (length acts) s l a b f in
       e .1 ∙ pick-true (marksAt s (packetOf l)) acts u

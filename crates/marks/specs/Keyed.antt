@@ -30,23 +30,36 @@ privateOf l = eqb (getD l 1 0) 1 && resolvable (take 6 (drop 2 l))
 abbrev pub KeyAt : List ℕ → ℕ → Type 0
 KeyAt s h = getD s (monitorsAt + monitorSize * h + 5) 0 ≡ 3
 
--- of the handles before h with a key, 1 where it resolves the packet's address and 0 where not
-abbrev pub Keyed : List ℕ → List ℕ → List ℕ → ℕ → Type 0
-Keyed m s l h = (j : ℕ) → j < h → KeyAt s j
-    → getD m j 0 ≡ flag (meetsCondition (monitorIn (row monitorSize j (drop monitorsAt s)) .1) (packetOf l))
+-- 1 where the key of a handle resolves the packet's address and 0 where not
+abbrev pub FoundAt : List ℕ → List ℕ → List ℕ → ℕ → Type 0
+FoundAt m s l h = KeyAt s h → getD m h 0 ≡ flag (meetsCondition (monitorIn (row monitorSize h (drop monitorsAt s)) .1) (packetOf l))
 
--- what the loop over the handles is told: whether the address is such a one, and then what was found for the keys
-pub record Told (private : Bool) (m s l : List ℕ) : Type 0 where
+-- so of the handles before h that are asked
+abbrev pub Keyed : List ℕ → List ℕ → List ℕ → List ℕ → ℕ → Type 0
+Keyed m s a l h = (j : ℕ) → j < h → (getD a j 0 ≡ 0 → ⊥) → FoundAt m s l j
+
+-- what the turn of a handle is told: whether the address is such a one, and then what was found for its key
+pub record Told (private : Bool) (m s l : List ℕ) (h : ℕ) : Type 0 where
   pub is : private ≡ privateOf l
-  pub keyed : private ≡ true → Keyed m s l mostMonitors
+  pub keyed : private ≡ true → FoundAt m s l h
+
+-- and the loop over the handles
+pub record ToldAll (private : Bool) (m s a l : List ℕ) : Type 0 where
+  pub is : private ≡ privateOf l
+  pub keyed : private ≡ true → Keyed m s a l mostMonitors
+
+pub told-at : {private : Bool} (m s a l : List ℕ) (h : ℕ) → h < mostMonitors → ToldAll private m s a l → (getD a h 0 ≡ 0 → ⊥)
+    → Told private m s l h
+told-at m s a l h b t n = record { is = t .is; keyed = λ e. t .keyed e h b n }
 
 -- one handle more
-pub keyed-turn : (m s l : List ℕ) (h x : ℕ) → h < length m → Keyed m s l h
-    → (KeyAt s h → x ≡ flag (meetsCondition (monitorIn (row monitorSize h (drop monitorsAt s)) .1) (packetOf l))) → Keyed (set m h x) s l (h + 1)
-keyed-turn m s l h x b f e j k q =
+pub keyed-turn : (m s a l : List ℕ) (h x : ℕ) → h < length m → Keyed m s a l h
+    → ((getD a h 0 ≡ 0 → ⊥) → KeyAt s h → x ≡ flag (meetsCondition (monitorIn (row monitorSize h (drop monitorsAt s)) .1) (packetOf l)))
+    → Keyed (set m h x) s a l (h + 1)
+keyed-turn m s a l h x b f e j k n q =
     cases-le h j
-    (λ z. let i : j ≡ h = omega arith in rw i (getD-set-same m h x 0 b ∙ e (rw i at q)))
-    (λ z. getD-set-other m h j x 0 (λ i. omega arith) ∙ f j z q)
+    (λ z. let i : j ≡ h = omega arith in rw i (getD-set-same m h x 0 b ∙ e (rw i at n) (rw i at q)))
+    (λ z. getD-set-other m h j x 0 (λ i. omega arith) ∙ f j z n q)
 
 -- the match of a key is that of the address
 key-matches : (s : List ℕ) (h : ℕ) (l : List ℕ) → KeyAt s h

@@ -4,3 +4,4 @@ pub mod Fields
 pub mod Monitors
 pub mod Keyed
 pub mod Options
+pub mod Asked

@@ -225,13 +225,13 @@ marks-padded m p f = places-same _ _ mostMonitors at
         (λ n e. find-all (λ x. SoundMonitor (x .1)) (m .mons) h n (f .mons-sound .monitors) e))
 
 -- reading them
-length-singles : (f : ℕ → ℕ) (k : ℕ) → length (upTo (λ h. f h ∷ []) k) ≡ k
+pub length-singles : (f : ℕ → ℕ) (k : ℕ) → length (upTo (λ h. f h ∷ []) k) ≡ k
 unfolding upTo
 length-singles f zero = refl
 length-singles f (suc k) =
     length-append (upTo (λ h. f h ∷ []) k) (f k ∷ []) ∙ ap (λ (n : ℕ). n + 1) (length-singles f k) ∙ add-one k
 
-getD-singles : (f : ℕ → ℕ) (k i : ℕ) → i < k → getD (upTo (λ h. f h ∷ []) k) i 0 ≡ f i
+pub getD-singles : (f : ℕ → ℕ) (k i : ℕ) → i < k → getD (upTo (λ h. f h ∷ []) k) i 0 ≡ f i
 unfolding upTo
 getD-singles f zero i h = absurd (omega arith)
 getD-singles f (suc k) i h =

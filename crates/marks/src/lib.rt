@@ -1,5 +1,7 @@
 // What a packet means to each monitor of a block (document 01, Conditions, Watching, by history). The monitors are asked once, in
 // handle order; what each says of the packet is kept as one octet a handle, which the loops over pairs and handles read.
+mod asks;
+mod keys;
 mod options;
 
 use state::State;
@@ -8,13 +10,14 @@ ghost use mathlib.Core.Path.{_≡_};
 ghost use lib.ListN.{length, drop};
 ghost use Rattle.laws.specs.Rows.{row};
 ghost use Rattle.model.specs.Frames.{packetOf};
-ghost use Rattle.marks.specs.Marks.{flag, markRow, marksAt};
-ghost use Rattle.marks.specs.Fields.{Framed, framed, scanAt, marksFit, marked};
+ghost use Rattle.marks.specs.Marks.{flag, markRow};
+ghost use Rattle.marks.specs.Fields.{Framed, framed, scanAt, fitsFor, marksFit, marked};
 ghost use mathlib.Core.Bool.{true};
 ghost use Rattle.model.specs.Monitors.{meetsCondition};
 ghost use Rattle.model.specs.Image.{monitorIn};
-ghost use Rattle.marks.specs.Monitors.{rowBits, metRow, Alike};
-ghost use Rattle.marks.specs.Keyed.{privateOf, KeyAt, Keyed, Told};
+ghost use Rattle.marks.specs.Monitors.{rowBits, metRow};
+ghost use Rattle.marks.specs.Keyed.{privateOf, Told, ToldAll};
+ghost use Rattle.marks.specs.Asked.{askedOf, markIf, marksIf, heldFit, markedFor};
 ghost use Rattle.model.specs.Layout.{blockSize, monitorSize, monitorsAt, mostMonitors};
 
 fn bit(t: bool) -> u8
@@ -47,44 +50,6 @@ fn row_bits(high: u8, low: u8, sampling: u8, rssi: u8, filtering: u8, event: u8)
     good + 2 * windowed + 4 * strong + 8 * instant + 16 * sifts + 32 * told + MATCHED
 }
 
-// Whether the row of handle j is in use and has the type and the condition of that of h.
-fn same_condition(s: &[u8], j: usize, h: usize) -> bool
-    requires { ⌜ (length (now s) ≡ blockSize) × (j < mostMonitors) × (h < mostMonitors) ⌝ }
-    ensures { λ r. ⌜ (r ≡ true → Alike (now (s .entry)) j h) ⌝ }
-{
-    let a = State::MONITORS_AT + State::MONITOR_ROW * j;
-    let b = State::MONITORS_AT + State::MONITOR_ROW * h;
-    if s[a + State::INTERVAL_AT] == 0 {
-        return false;
-    }
-    if s[a + State::TYPE_AT] != s[b + State::TYPE_AT] {
-        return false;
-    }
-    if s[a + State::CONDITION_AT] != s[b + State::CONDITION_AT] {
-        return false;
-    }
-    let n = octets::at_most(s[a + State::CONDITION_LENGTH_AT], State::CONDITION_ROOM);
-    let m = octets::at_most(s[b + State::CONDITION_LENGTH_AT], State::CONDITION_ROOM);
-    let from = a + State::CONDITION_AT;
-    let begin = b + State::CONDITION_AT;
-    parts::same(&s[from..from + n], &s[begin..begin + m])
-}
-
-// The first handle up to h that has the type and the condition of h: h itself where no other does.
-fn first_alike(s: &[u8], h: usize) -> usize
-    requires { ⌜ (length (now s) ≡ blockSize) × (h < mostMonitors) ⌝ }
-    ensures { λ r. ⌜ (r ≤ h) × (r < h → Alike (now (s .entry)) r h) ⌝ }
-{
-    let mut j = 0;
-    while j < h {
-        if same_condition(s, j, h) {
-            return j;
-        }
-        j += 1;
-    }
-    h
-}
-
 // Whether a packet matches the condition at a handle. The scan response begins at index scan.
 fn matches_at(s: &[u8], h: usize, payload: &[u8], scan: usize) -> bool
     requires { ⌜ (length (now s) ≡ blockSize) × (h < mostMonitors) × Framed (now payload) × (scan ≡ scanAt (now payload)) ⌝ }
@@ -105,53 +70,11 @@ fn matches_at(s: &[u8], h: usize, payload: &[u8], scan: usize) -> bool
     )
 }
 
-// Whether a random address is resolved by the key at a handle.
-fn resolved_at(s: &[u8], h: usize, payload: &[u8]) -> bool
-    requires { ⌜ (length (now s) ≡ blockSize) × (h < mostMonitors) × Framed (now payload) × (privateOf (now payload) ≡ true) × KeyAt (now s) h ⌝ }
-    ensures { λ r. ⌜ r ≡ meetsCondition (monitorIn (row monitorSize h (drop monitorsAt (now (s .entry)))) .1) (packetOf (now (payload .entry))) ⌝ }
-{
-    let at = State::MONITORS_AT + State::MONITOR_ROW * h;
-    let from = at + State::CONDITION_AT;
-    let to = from + octets::at_most(s[at + State::CONDITION_LENGTH_AT], State::CONDITION_ROOM);
-    resolve::resolves(&s[from..to], &payload[2..8])
-}
-
-// Whether the key at a handle resolves the packet's address, as 1 or 0; met has it of the keys before. What was found for a key is
-// not worked out again for another handle with the same key.
-fn met_key(met: &[u8], s: &[u8], h: usize, payload: &[u8]) -> u8
-    requires { ⌜ (length (now met) ≡ mostMonitors) × (length (now s) ≡ blockSize) × (h < mostMonitors) × Framed (now payload)
-        × (privateOf (now payload) ≡ true) × Keyed (now met) (now s) (now payload) h ⌝ }
-    ensures { λ r. ⌜ (KeyAt (now (s .entry)) h → r ≡ flag (meetsCondition (monitorIn (row monitorSize h (drop monitorsAt (now (s .entry)))) .1) (packetOf (now (payload .entry))))) ⌝ }
-{
-    let at = State::MONITORS_AT + State::MONITOR_ROW * h;
-    if s[at + State::TYPE_AT] != advert::IRK {
-        return 0;
-    }
-    let j = first_alike(s, h);
-    if j < h {
-        return met[j];
-    }
-    bit(resolved_at(s, h, payload))
-}
-
-// The same of every handle with a key.
-fn met_keys(met: &mut [u8], s: &[u8], payload: &[u8])
-    requires { ⌜ (length (now met) ≡ mostMonitors) × (length (now s) ≡ blockSize) × Framed (now payload) × (privateOf (now payload) ≡ true) ⌝ }
-    ensures { λ _. ⌜ Keyed (now (met .exit)) (now (s .entry)) (now (payload .entry)) mostMonitors ⌝ }
-{
-    let mut h = 0;
-    while h < State::MONITORS {
-        let m = met_key(met, s, h, payload);
-        met[h] = m;
-        h += 1;
-    }
-}
-
 // Whether the monitor of a handle is in use (its interval is not 0) and the packet meets its condition, as 1 or 0; for an address that keys resolve
 // met has it of the handles with a key, and no key resolves another.
 fn met_at(met: &[u8], s: &[u8], h: usize, payload: &[u8], scan: usize, private: bool) -> u8
     requires { ⌜ (length (now met) ≡ mostMonitors) × (length (now s) ≡ blockSize) × (h < mostMonitors) × Framed (now payload)
-        × (scan ≡ scanAt (now payload)) × Told private (now met) (now s) (now payload) ⌝ }
+        × (scan ≡ scanAt (now payload)) × Told private (now met) (now s) (now payload) h ⌝ }
     ensures { λ r. ⌜ r ≡ metRow (row monitorSize h (drop monitorsAt (now (s .entry)))) (packetOf (now (payload .entry))) ⌝ }
 {
     let at = State::MONITORS_AT + State::MONITOR_ROW * h;
@@ -190,16 +113,45 @@ fn mark_at(s: &[u8], h: usize, payload: &[u8], met: u8) -> u8
     )
 }
 
-fn mark_each(acts: &mut [u8], met: &[u8], s: &[u8], payload: &[u8], private: bool)
-    requires { ⌜ (length (now acts) ≡ mostMonitors) × (length (now met) ≡ mostMonitors) × (length (now s) ≡ blockSize) × Framed (now payload)
-        × Told private (now met) (now s) (now payload) ⌝ }
-    ensures { λ _. ⌜ now (acts .exit) ≡ marksAt (now (s .entry)) (packetOf (now (payload .entry))) ⌝ }
+// The octet of a handle that is asked, 0 of another.
+fn mark_asked(
+    met: &[u8],
+    s: &[u8],
+    h: usize,
+    payload: &[u8],
+    scan: usize,
+    private: bool,
+    ask: u8,
+) -> u8
+    requires { ⌜ (length (now met) ≡ mostMonitors) × (length (now s) ≡ blockSize) × (h < mostMonitors) × Framed (now payload)
+        × (scan ≡ scanAt (now payload)) × ((ask ≡ 0 → ⊥) → Told private (now met) (now s) (now payload) h) ⌝ }
+    ensures { λ r. ⌜ r ≡ markIf ask (markRow (row monitorSize h (drop monitorsAt (now (s .entry)))) (packetOf (now (payload .entry)))) ⌝ }
+{
+    if ask == 0 {
+        return 0;
+    }
+    let m = met_at(met, s, h, payload, scan, private);
+    mark_at(s, h, payload, m)
+}
+
+fn mark_each(
+    acts: &mut [u8],
+    met: &[u8],
+    s: &[u8],
+    held: &[u8],
+    strength: u8,
+    payload: &[u8],
+    private: bool,
+)
+    requires { ⌜ (length (now acts) ≡ mostMonitors) × (length (now met) ≡ mostMonitors) × (length (now s) ≡ blockSize)
+        × (length (now held) ≡ mostMonitors) × Framed (now payload) × ToldAll private (now met) (now s) (askedOf (now held) (now s) strength) (now payload) ⌝ }
+    ensures { λ _. ⌜ now (acts .exit) ≡ marksIf (askedOf (now (held .entry)) (now (s .entry)) strength) (now (s .entry)) (packetOf (now (payload .entry))) ⌝ }
 {
     let scan = scan_at(payload);
     let mut h = 0;
     while h < State::MONITORS {
-        let m = met_at(met, s, h, payload, scan, private);
-        acts[h] = mark_at(s, h, payload, m);
+        let ask = asks::ask_at(s, h, held[h], strength);
+        acts[h] = mark_asked(met, s, h, payload, scan, private, ask);
         h += 1;
     }
 }
@@ -213,25 +165,27 @@ fn is_private(payload: &[u8]) -> bool
 }
 
 // For a resolvable private address the keys are asked first, so that the cipher runs once a key.
-fn mark_private(acts: &mut [u8], s: &[u8], payload: &[u8])
-    requires { ⌜ (length (now acts) ≡ mostMonitors) × (length (now s) ≡ blockSize) × Framed (now payload) × (privateOf (now payload) ≡ true) ⌝ }
-    ensures { λ _. ⌜ now (acts .exit) ≡ marksAt (now (s .entry)) (packetOf (now (payload .entry))) ⌝ }
+fn mark_private(acts: &mut [u8], s: &[u8], held: &[u8], strength: u8, payload: &[u8])
+    requires { ⌜ (length (now acts) ≡ mostMonitors) × (length (now s) ≡ blockSize) × (length (now held) ≡ mostMonitors) × Framed (now payload)
+        × (privateOf (now payload) ≡ true) ⌝ }
+    ensures { λ _. ⌜ now (acts .exit) ≡ marksIf (askedOf (now (held .entry)) (now (s .entry)) strength) (now (s .entry)) (packetOf (now (payload .entry))) ⌝ }
 {
     let mut met = [0u8; State::MONITORS];
-    met_keys(&mut met, s, payload);
-    mark_each(acts, &met, s, payload, true);
+    keys::met_keys(&mut met, s, held, strength, payload);
+    mark_each(acts, &met, s, held, strength, payload, true);
 }
 
-fn mark_in(acts: &mut [u8], s: &[u8], payload: &[u8])
-    requires { ⌜ (length (now acts) ≡ mostMonitors) × (length (now s) ≡ blockSize) × Framed (now payload) ⌝ }
-    ensures { λ _. ⌜ now (acts .exit) ≡ marksAt (now (s .entry)) (packetOf (now (payload .entry))) ⌝ }
+// The octets of the handles that are asked, 0 of the others.
+fn mark_in(acts: &mut [u8], s: &[u8], held: &[u8], strength: u8, payload: &[u8])
+    requires { ⌜ (length (now acts) ≡ mostMonitors) × (length (now s) ≡ blockSize) × (length (now held) ≡ mostMonitors) × Framed (now payload) ⌝ }
+    ensures { λ _. ⌜ now (acts .exit) ≡ marksIf (askedOf (now (held .entry)) (now (s .entry)) strength) (now (s .entry)) (packetOf (now (payload .entry))) ⌝ }
 {
     if is_private(payload) {
-        mark_private(acts, s, payload);
+        mark_private(acts, s, held, strength, payload);
         return;
     }
     let met = [0u8; State::MONITORS];
-    mark_each(acts, &met, s, payload, false);
+    mark_each(acts, &met, s, held, strength, payload, false);
 }
 
 // Where the scan response of a packet frame's payload begins. A payload of kind 02 has none: there the RSSI stands.
@@ -272,20 +226,40 @@ fn is_framed(payload: &[u8]) -> bool
     (k <= State::DATA) & (n == 11 + d + k)
 }
 
+// Whether the octets of so many handles can be written from a block and a payload.
+fn is_fit(n: usize, s: &[u8], payload: &[u8]) -> bool
+    ensures { λ r. ⌜ r ≡ fitsFor n (now (s .entry)) (now (payload .entry)) ⌝ }
+{
+    let framed = is_framed(payload);
+    (n == State::MONITORS) & ((s.len() == State::SIZE) & framed)
+}
+
 // The octets of the handles 0 to 15, from the block s and a packet frame's payload. Where acts is not of 16 octets, s no block of
 // 5,225 or the payload no packet frame's by its lengths, nothing is written and the answer is false.
 pub fn mark_all(acts: &mut [u8], s: &[u8], payload: &[u8]) -> bool
     ensures { λ r. ⌜ (r ≡ marksFit (now (acts .entry)) (now (s .entry)) (now (payload .entry))) × (now (acts .exit) ≡ marked r (now (acts .entry)) (now (s .entry)) (now (payload .entry))) ⌝ }
 {
-    if acts.len() != State::MONITORS {
+    if !is_fit(acts.len(), s, payload) {
         return false;
     }
-    if s.len() != State::SIZE {
+    let held = [1u8; State::MONITORS];
+    mark_in(acts, s, &held, 0, payload);
+    true
+}
+
+// The same of the handles alone whose pair of the packet's device is held, by an octet a handle that is not 0, and of those that the packet is
+// strong enough to start: the others' octets are 0, and of their monitors no more than the high threshold is read. Where held is not of 16 octets,
+// too, nothing is written and the answer is false.
+pub fn mark_held(acts: &mut [u8], s: &[u8], payload: &[u8], held: &[u8]) -> bool
+    ensures { λ r. ⌜ (r ≡ heldFit (now (held .entry)) (now (acts .entry)) (now (s .entry)) (now (payload .entry))) × (now (acts .exit) ≡ markedFor r (now (held .entry)) (now (acts .entry)) (now (s .entry)) (now (payload .entry))) ⌝ }
+{
+    if held.len() != State::MONITORS {
         return false;
     }
-    if !is_framed(payload) {
+    if !is_fit(acts.len(), s, payload) {
         return false;
     }
-    mark_in(acts, s, payload);
+    let strength = state::level_of(payload[payload.len() - 1]);
+    mark_in(acts, s, held, strength, payload);
     true
 }

@@ -1,6 +1,7 @@
 -- A start of a monitor that filters duplicates (document 02, T-13): the start of one that does not, and then the packet that its pair
 -- keeps, or none. Assumes nothing.
-use Prim.Native.Nat.{ℕ, _+_, _-_, _*_, _/_, _%_, _≤_, _<_}
+use Prim.Native.Nat.{ℕ, zero, suc, _+_, _-_, _*_, _/_, _%_, _≤_, _<_}
+use native.Mathlib.Numerals.{add-one}
 use mathlib.Core.Path.{_≡_, refl, sym, ap, _∙_, subst}
 use mathlib.Core.Bool.{Bool, true, false, _&&_, not}
 use mathlib.Core.List.{List, [], _∷_, _++_}
@@ -26,8 +27,9 @@ use Rattle.marks.specs.Marks.{opens, sifted, allowed}
 use Rattle.packets.specs.Changes.{started, starts, after, told}
 use Rattle.packets.specs.Writes.{noPair, bare, begunAs, begun-bare, same-row, row-latest}
 use Rattle.packets.specs.Moves.{pairAt, withPair, AtPair, pair-fits}
-use Rattle.packets.specs.Starts.{Told, wrote-is}
-use Rattle.packets.specs.Handles.{after-fit}
+use Rattle.packets.specs.Firm.{Settled}
+use Rattle.packets.specs.Starts.{Told, wrote-is, start-weak}
+use Rattle.packets.specs.Handles.{Turns, NoStart, after-fit, turns-none, turns-turn}
 use Rattle.model.specs.Layout.{eventAt, mostMonitors, mostPairs, pairSize, pairsAt}
 
 -- the octet of a handle as if its monitor filtered no duplicates
@@ -180,3 +182,15 @@ module _ (m : Model) (a h : ℕ) (p : Packet) {s out o : List ℕ} {n at r : ℕ
         },
         sym (ap (λ (t : Bool). t && allowed a) g0),
       )
+
+-- the turns where no octet says that its handle may start a pair
+module _ (m : Model) (p : Packet) (f : Measured m) (t : Sent p) where
+  pub turns-idle : (acts under : List ℕ) (dev h : ℕ) (s out : List ℕ) (n : ℕ) → h ≤ mostMonitors → s ≡ padded m → n ≡ length (m .pairs)
+      → Settled m p acts under dev → NoStart acts mostMonitors → Turns m p h s n out out 0 false
+  turns-idle acts under dev zero s out n b e c x y = turns-none m p f t s out n e c
+  turns-idle acts under dev (suc h) s out n b e c x y =
+      let i : getD acts h 0 / 4 % 2 ≡ 1 → ⊥ = y h (omega arith) in
+      subst (λ (j : ℕ). Turns m p j s n out out 0 false) (add-one h)
+      (turns-turn m p f t acts under dev h (getD acts h 0) (getD under h 0) (omega arith) x refl refl
+      (turns-idle acts under dev h s out n (omega arith) e c x y)
+      (λ g w z. (start-weak g s n p (getD acts h 0) h w out 0 i, idle-weak (getD acts h 0) h p (g .pairs) i)))

@@ -1,15 +1,18 @@
 -- The loop over the handles: what their turns leave and write, one after another. Document 01, Watching, by history ("monitors take one packet
 -- in handle order, and a start takes its room at once"); document 02, T-05. Assumes nothing.
-use Prim.Native.Nat.{ℕ, zero, suc, _+_, _≤_, _<_}
+use Prim.Native.Nat.{ℕ, zero, suc, _+_, _/_, _%_, _≤_, _<_}
 use mathlib.Core.Path.{_≡_, refl, sym, ap, ap₂, _∙_, subst}
-use mathlib.Core.Bool.{Bool, true, false, _&&_, _||_, not}
+use mathlib.Core.Bool.{Bool, true, false, _&&_, _||_, not, false≢true}
 use mathlib.Core.List.{List, [], _∷_, _++_}
 use native.Mathlib.Omega.{arith}
 use native.Mathlib.Numerals.{add-one}
 use native.Mathlib.Nat.{zero-add}
+use Rattle.laws.specs.Tests.{pick}
 use lib.ListN.{length, getD, length-append}
-use Rattle.laws.specs.Tests.{and-right}
-use Rattle.laws.specs.Loops.{some as someOf}
+use lib.Dec.{eqb}
+use borrow.Author.Tests.{eqb-false}
+use Rattle.laws.specs.Tests.{and-right, cases-eq}
+use Rattle.laws.specs.Loops.{some as someOf, when}
 use Rattle.laws.specs.Put.{put-nil}
 use Rattle.rule.specs.Base.{All, all-append}
 use Rattle.rule.specs.Engine.{find}
@@ -22,9 +25,11 @@ use Rattle.blocks.specs.Block.{Measured}
 use Rattle.blocks.specs.Updates.{measured-pairs}
 use Rattle.steps.specs.Typed.{pick-both, Sent}
 use Rattle.steps.specs.Drops.{stays-fewer, stays-all}
-use Rattle.marks.specs.Marks.{opens, sifted, allowed, mark, marks, getD-marks}
+use Rattle.marks.specs.Marks.{flag, opens, sifted, allowed, mark}
+use Rattle.marks.specs.Asked.{spared, spared-opens, spared-open}
 use Rattle.packets.specs.Changes.{some-append, started, starts, after, told, turn-after, answer-told, start-told}
 use Rattle.packets.specs.Writes.{Wrote, fits-start}
+use Rattle.packets.specs.Firm.{Settled, turns-holds}
 use Rattle.packets.specs.Starts.{Holding, Turned, Told, wrote-both, wrote-is}
 use Rattle.model.specs.Layout.{mostMonitors, mostPairs}
 
@@ -57,6 +62,40 @@ turns-fit mons p (suc n) qs b t a h = go (turns mons p n qs) (turns-fit mons p n
         subst (λ (z : List Pair). All Fits z × (length z ≤ mostPairs)) (sym (turn-after (find mons n) p n l))
         (after-fit (mark (find mons n) p) n p l (omega arith) t x)
 
+-- two octets with which a handle's turn is the same
+record Same (prefix : List ℕ) (a c h : ℕ) (p : Packet) (qs : List Pair) : Type 0 where
+  pairs : after a h p qs ≡ after c h p qs
+  octets : told prefix a h p qs ≡ told prefix c h p qs
+  tells : (starts a h p qs && allowed a) ≡ (starts c h p qs && allowed c)
+
+-- an octet that is left out where it says nothing of a start
+spared-same : (prefix : List ℕ) (k c h : ℕ) (p : Packet) (qs : List Pair) → Same prefix (spared k c) c h p qs
+unfolding after told starts pick when
+spared-same prefix k c h p qs = go (opens c) refl
+  where
+    go : (t : Bool) → opens c ≡ t → Same prefix (spared k c) c h p qs
+    go true e = rw (spared-open k c e) (record { pairs = refl; octets = refl; tells = refl })
+    go false e = record { pairs = rw (spared-opens k c, e); octets = rw (spared-opens k c, e); tells = rw (spared-opens k c, e) }
+
+-- no octet below an index says that its handle may start a pair
+abbrev pub NoStart : List ℕ → ℕ → Type 0
+NoStart acts n = (h : ℕ) → h < n → getD acts h 0 / 4 % 2 ≡ 1 → ⊥
+
+pub no-start-more : (acts : List ℕ) (h : ℕ) {x : Bool} → (x ≡ false → NoStart acts h) → (x || eqb (getD acts h 0 / 4 % 2) 1) ≡ false
+    → NoStart acts (h + 1)
+no-start-more acts h {x} f e j b =
+    let a : x ≡ false = or-left x _ e in
+    let c : eqb (getD acts h 0 / 4 % 2) 1 ≡ false = or-right x _ e in
+    cases-eq j h (λ i. rw i (eqb-false (getD acts h 0 / 4 % 2) 1 c)) (λ i. f a j (omega arith))
+  where
+    or-left : (s t : Bool) → (s || t) ≡ false → s ≡ false
+    or-left false t e = refl
+    or-left true t e = absurd (false≢true (sym e))
+
+    or-right : (s t : Bool) → (s || t) ≡ false → t ≡ false
+    or-right false t e = e
+    or-right true t e = absurd (false≢true (sym e))
+
 -- what the turns of the handles below h leave and write
 pub record Turns (m : Model) (p : Packet) (h : ℕ) (s : List ℕ) (n : ℕ) (out wrote : List ℕ) (w : ℕ) (t : Bool) : Type 0 where
   pub turned : Turned m (turns (m .mons) p h (m .pairs)) s n
@@ -79,29 +118,34 @@ module _ (m : Model) (p : Packet) (f : Measured m) (t : Sent p) where
       }
 
   -- a turn of the loop over the handles
-  pub turns-turn : (acts : List ℕ) (h a : ℕ) {s u out o v : List ℕ} {n k w r : ℕ} {t0 t1 : Bool} → h < mostMonitors → acts ≡ marks (m .mons) p
-      → a ≡ getD acts h 0
+  pub turns-turn : (acts under : List ℕ) (dev h a k : ℕ) {s u out o v : List ℕ} {n n′ w r : ℕ} {t0 t1 : Bool} → h < mostMonitors
+      → Settled m p acts under dev → a ≡ getD acts h 0 → k ≡ getD under h 0
       → Turns m p h s n out o w t0
-      → ((g : Model) → Holding g s n → Told g a h p u k o w v r × (t1 ≡ (starts a h p (g .pairs) && allowed a)))
-      → Turns m p (h + 1) u k out v (w + r) (t0 || t1)
+      → ((g : Model) → Holding g s n → (opens a ≡ true → k ≡ flag (holds (g .pairs) h (deviceOf p)))
+      → Told g a h p u n′ o w v r × (t1 ≡ (starts a h p (g .pairs) && allowed a)))
+      → Turns m p (h + 1) u n′ out v (w + r) (t0 || t1)
   unfolding withLists turns turnsAnswer startsBelow
-  turns-turn acts h a {s} {u} {out} {o} {v} {n} {k} {w} {r} {t0} {t1} b e z x y =
+  turns-turn acts under dev h a k {s} {u} {out} {o} {v} {n} {n′} {w} {r} {t0} {t1} b e za zk x y =
       let qs : List Pair = turns (m .mons) p h (m .pairs) in
       let g : Model = withLists m (m .mons) qs in
       let d : Holding g s n = record { measured = turns-measured h (omega arith); block = x .turned .block; count = x .turned .count } in
-      let c : a ≡ mark (find (m .mons) h) p = z ∙ ap (λ (l : List ℕ). getD l h 0) e ∙ getD-marks (m .mons) p h b in
+      let c : ℕ = mark (find (m .mons) h) p in
+      let ac : a ≡ spared (getD under h 0) c = za ∙ e .octets h b in
+      let same : Same (m .prefix) a c h p qs = rw ac (spared-same (m .prefix) (getD under h 0) c h p qs) in
+      let opened : opens a ≡ true → opens c ≡ true = λ z. sym (spared-opens (getD under h 0) c) ∙ ap opens (sym ac) ∙ z in
+      let held : opens a ≡ true → k ≡ flag (holds qs h (deviceOf p)) =
+      λ z. zk ∙ e .flags h b ∙ ap flag (sym (turns-holds p h (m .mons) (m .pairs) (e .firm h (opened z)))) in
       let i : after a h p qs ≡ turns (m .mons) p (h + 1) (m .pairs) =
-      ap (λ (j : ℕ). after j h p qs) c ∙ sym (turn-after (find (m .mons) h) p h qs)
-      ∙ ap (λ (j : ℕ). turns (m .mons) p j (m .pairs)) (sym (add-one h)) in
+      same .pairs ∙ sym (turn-after (find (m .mons) h) p h qs) ∙ ap (λ (j : ℕ). turns (m .mons) p j (m .pairs)) (sym (add-one h)) in
       let before : List ℕ = turnsAnswer (m .prefix) (m .mons) p h (m .pairs) in
       let q : before ++ told (m .prefix) a h p qs ≡ turnsAnswer (m .prefix) (m .mons) p (h + 1) (m .pairs) =
-      ap (λ (j : ℕ). before ++ told (m .prefix) j h p qs) c
+      ap (λ (l : List ℕ). before ++ l) (same .octets)
       ∙ ap (λ (l : List ℕ). before ++ l) (sym (answer-told (m .prefix) (find (m .mons) h) p h qs))
       ∙ ap (λ (j : ℕ). turnsAnswer (m .prefix) (m .mons) p j (m .pairs)) (sym (add-one h)) in
-      let l : Told g a h p u k o w v r = y g d .0 in
+      let l : Told g a h p u n′ o w v r = y g d held .0 in
       let below : List Pair = startsBelow (m .mons) p h (m .pairs) in
       let j : t1 ≡ someOf (startTold (m .mons) p) (startOf (find (m .mons) h) p h qs) =
-      y g d .1 ∙ ap (λ (i : ℕ). starts i h p qs && allowed i) c ∙ sym (start-told (m .mons) p h qs) in
+      y g d held .1 ∙ same .tells ∙ sym (start-told (m .mons) p h qs) in
       record {
         turned = record {
           block = l .turned .block ∙ ap (λ (j : List Pair). padded (withLists m (m .mons) j)) i;

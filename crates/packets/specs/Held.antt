@@ -1,6 +1,6 @@
 -- The loop over the pairs held: the turn of a row by its key, and the turn of the loop. Document 01, Watching, by
 -- history ("only packets that match its condition count"). Assumes nothing.
-use Prim.Native.Nat.{ℕ, zero, suc, _+_, _*_, _/_, _%_, _≤_, _<_}
+use Prim.Native.Nat.{ℕ, zero, suc, _+_, _-_, _*_, _/_, _%_, _≤_, _<_}
 use mathlib.Core.Path.{_≡_, refl, sym, ap, ap₂, _∙_, subst}
 use mathlib.Core.Bool.{Bool, false, _&&_, _||_}
 use mathlib.Core.List.{List, [], _∷_, map}
@@ -24,83 +24,78 @@ use Rattle.blocks.specs.Block.{Measured}
 use Rattle.blocks.specs.Updates.{measured-pairs}
 use Rattle.steps.specs.Lists.{all-drop}
 use Rattle.steps.specs.Typed.{Sent}
-use Rattle.marks.specs.Marks.{mark, marks, getD-marks}
+use Rattle.marks.specs.Marks.{mark}
 use Rattle.packets.specs.Changes.{some-append, or-none, changed, reasonBy, move-changed, wants-reason}
-use Rattle.packets.specs.Keys.{deviceNumber, same-true, same-false, key-pairs}
+use Rattle.packets.specs.Keys.{deviceNumber, same-true, same-false}
 use Rattle.packets.specs.Writes.{noPair, same-row}
 use Rattle.packets.specs.Moves.{pairAt, withPair, AtPair, pair-fits, moved-fits}
+use Rattle.packets.specs.Device.{Sender, Other, NoneBelow, NoneFrom, key-read, key-handle, key-device}
 use Rattle.model.specs.Layout.{mostMonitors, pairSize, pairsAt}
 
--- what the loops are given of the packet: its fields in range, the octets of the handles, the number of its device
-pub record Given (mons : List (ℕ × Monitor)) (p : Packet) (acts : List ℕ) (dev : ℕ) : Type 0 where
-  pub sent : Sent p
-  pub octets : acts ≡ marks mons p
-  pub number : dev ≡ deviceNumber p
+-- the octet of a pair's handle, where the pair is of the packet's device
+abbrev pub Heard : List (ℕ × Monitor) → Packet → List ℕ → Pair → Type 0
+Heard mons p acts q = value (watched q) ≡ deviceNumber p → getD acts (q .handle) 0 ≡ mark (find mons (q .handle)) p
+
+-- what the turn of a pair's row is given of the packet: its fields in range, the number of its device, the octet of the pair's handle
+pub record Given (mons : List (ℕ × Monitor)) (p : Packet) (acts : List ℕ) (dev : ℕ) (q : Pair) : Type 0 where
+  pub sender : Sender p dev
+  pub heard : Heard mons p acts q
 
 -- no window is full
 abbrev pub Roomy : List Pair → Type 0
 Roomy qs = All (λ (q : Pair). q .packets < 4294967295) qs
 
--- a row's turn, by its key
-module _ (m : Model) (s : List ℕ) (i : ℕ) (p : Packet) (acts : List ℕ) (dev key : ℕ) (w : AtPair m s i)
-    (g : Given (m .mons) p acts dev) (k : key ≡ little 8 s (pairsAt + pairSize * i)) where
-  key-read : key ≡ pairAt m i .handle + 256 * value (watched (pairAt m i))
-  unfolding pairAt
-  key-read =
-      k ∙ ap (λ (l : List ℕ). little 8 l (pairsAt + pairSize * i)) (w .block)
-      ∙ key-pairs m (w .measured) i noPair (w .within) (pair-fits w)
-
-  pub handle-low : key % 256 < mostMonitors
-  handle-low = let f : Fits (pairAt m i) = pair-fits w in omega (arith, key-read, f .handle-most)
-
-  own-octet : (a : ℕ) → a ≡ getD acts (key % 256) 0 → a ≡ mark (find (m .mons) (pairAt m i .handle)) p
-  own-octet a r =
-      let q : Pair = pairAt m i in
-      let f : Fits (pairAt m i) = pair-fits w in
-      let h : key % 256 ≡ q .handle = omega (arith, key-read, f .handle-most) in
-      r ∙ ap (λ (l : List ℕ). getD l (key % 256) 0) (g .octets) ∙ ap (λ (j : ℕ). getD (marks (m .mons) p) j 0) h
-      ∙ getD-marks (m .mons) p (q .handle) (f .handle-most)
-
-  pub row-other : (key / 256 ≡ dev → ⊥) → s ≡ padded (withPair m i (packetMove (m .mons) p (pairAt m i)))
+-- a row of another device
+module _ (m : Model) (s : List ℕ) (i : ℕ) (p : Packet) (w : AtPair m s i) (t : Sent p) (n : Other p (pairAt m i)) where
+  pub row-left : s ≡ padded (withPair m i (packetMove (m .mons) p (pairAt m i)))
   unfolding withPair pairAt
-  row-other n =
-      let q : Pair = pairAt m i in
-      let f : Fits (pairAt m i) = pair-fits w in
-      let v : key / 256 ≡ value (watched (pairAt m i)) = omega (arith, key-read, f .handle-most) in
-      let e : packetMove (m .mons) p q ≡ q =
-      move-changed (m .mons) p q
-      ∙ pick-false _ q (same-false p (g .sent) q (λ y. n (v ∙ y ∙ sym (g .number)))) in
+  row-left =
+      let q : Pair = getD (m .pairs) i noPair in
+      let e : packetMove (m .mons) p q ≡ q = move-changed (m .mons) p q ∙ pick-false _ q (same-false p t q n) in
       w .block ∙ same-row m (w .measured) i noPair
       ∙ ap (λ (y : Pair). padded (withLists m (m .mons) (set (m .pairs) i y))) (sym e)
 
+  pub told-left : false ≡ wants (m .mons) p (pairAt m i)
+  told-left = sym (wants-reason (m .mons) p (pairAt m i) ∙ and-not-left _ _ (same-false p t (pairAt m i) n))
+
+-- a row's turn, by its key
+module _ (m : Model) (s : List ℕ) (i : ℕ) (p : Packet) (acts : List ℕ) (dev key : ℕ) (w : AtPair m s i)
+    (g : Given (m .mons) p acts dev (pairAt m i)) (k : key ≡ little 8 s (pairsAt + pairSize * i)) where
+  pub handle-low : key % 256 < mostMonitors
+  handle-low = let f : Fits (pairAt m i) = pair-fits w in omega (arith, key-read m s i w k, f .handle-most)
+
+  other : (key / 256 ≡ dev → ⊥) → Other p (pairAt m i)
+  other n e = n (key-device m s i w k ∙ e ∙ sym (g .sender .number))
+
+  pub row-other : (key / 256 ≡ dev → ⊥) → s ≡ padded (withPair m i (packetMove (m .mons) p (pairAt m i)))
+  row-other n = row-left m s i p w (g .sender .sent) (other n)
+
   pub told-other : (key / 256 ≡ dev → ⊥) → false ≡ wants (m .mons) p (pairAt m i)
-  told-other n =
-      let q : Pair = pairAt m i in
-      let f : Fits (pairAt m i) = pair-fits w in
-      let v : key / 256 ≡ value (watched (pairAt m i)) = omega (arith, key-read, f .handle-most) in
-      sym (wants-reason (m .mons) p q ∙ and-not-left _ _ (same-false p (g .sent) q (λ y. n (v ∙ y ∙ sym (g .number)))))
+  told-other n = told-left m s i p w (g .sender .sent) (other n)
+
+  same-device : key / 256 ≡ dev → value (watched (pairAt m i)) ≡ deviceNumber p
+  same-device e = sym (key-device m s i w k) ∙ e ∙ g .sender .number
+
+  own-octet : (a : ℕ) → key / 256 ≡ dev → a ≡ getD acts (key % 256) 0 → a ≡ mark (find (m .mons) (pairAt m i .handle)) p
+  own-octet a e r = r ∙ ap (λ (j : ℕ). getD acts j 0) (key-handle m s i w k) ∙ g .heard (same-device e)
 
   pub told-own : {t : Bool} (a : ℕ) → key / 256 ≡ dev → a ≡ getD acts (key % 256) 0 → t ≡ reasonBy a p (pairAt m i)
       → t ≡ wants (m .mons) p (pairAt m i)
   told-own {t} a n r e =
       let q : Pair = pairAt m i in
-      let f : Fits (pairAt m i) = pair-fits w in
-      let v : value (watched (pairAt m i)) ≡ deviceNumber p = omega (arith, key-read, f .handle-most, g .number) in
-      e ∙ ap (λ (x : ℕ). reasonBy x p q) (own-octet a r)
-      ∙ sym (wants-reason (m .mons) p q ∙ ap (λ (b : Bool). b && reasonBy (mark (find (m .mons) (q .handle)) p) p q) (same-true p (g .sent) q f v))
+      e ∙ ap (λ (x : ℕ). reasonBy x p q) (own-octet a n r)
+      ∙ sym (wants-reason (m .mons) p q
+      ∙ ap (λ (b : Bool). b && reasonBy (mark (find (m .mons) (q .handle)) p) p q) (same-true p (g .sender .sent) q (pair-fits w) (same-device n)))
 
   pub row-own : {t : List ℕ} (a : ℕ) → key / 256 ≡ dev → a ≡ getD acts (key % 256) 0
       → t ≡ padded (withPair m i (changed a p (pairAt m i)))
       → t ≡ padded (withPair m i (packetMove (m .mons) p (pairAt m i)))
   row-own a n r e =
       let q : Pair = pairAt m i in
-      let f : Fits (pairAt m i) = pair-fits w in
-      let v : value (watched (pairAt m i)) ≡ deviceNumber p = omega (arith, key-read, f .handle-most, g .number) in
-      let b : a ≡ mark (find (m .mons) (q .handle)) p = own-octet a r in
       let c : changed a p q ≡ packetMove (m .mons) p q =
-      ap (λ (x : ℕ). changed x p q) b
+      ap (λ (x : ℕ). changed x p q) (own-octet a n r)
       ∙ sym (move-changed (m .mons) p q
-      ∙ pick-true (changed (mark (find (m .mons) (q .handle)) p) p q) q (same-true p (g .sent) q f v)) in
+      ∙ pick-true (changed (mark (find (m .mons) (q .handle)) p) p q) q (same-true p (g .sender .sent) q (pair-fits w) (same-device n))) in
       e ∙ ap (λ (y : Pair). padded (withPair m i y)) c
 
 -- the first i pairs moved
@@ -142,7 +137,7 @@ module _ (m : Model) (p : Packet) (f : Measured m) (t : Sent p) (r : Roomy (m .p
 
   -- a turn of the loop
   pub halfway-turn : (i : ℕ) {s u : List ℕ} → i < length (m .pairs) → s ≡ padded (halfway m p i)
-      → ((n : Model) → AtPair n s i → pairAt n i .packets < 4294967295 → m .mons ≡ n .mons
+      → ((n : Model) → AtPair n s i → pairAt n i .packets < 4294967295 → m .mons ≡ n .mons → pairAt n i ≡ getD (m .pairs) i noPair
       → u ≡ padded (withPair n i (packetMove (n .mons) p (pairAt n i))))
       → u ≡ padded (halfway m p (i + 1))
   unfolding halfway withPair withLists pairAt done
@@ -154,14 +149,15 @@ module _ (m : Model) (p : Packet) (f : Measured m) (t : Sent p) (r : Roomy (m .p
       getD-put-after (m .pairs) 0 (done i) i noPair (omega arith) (omega arith) in
       let w : AtPair (halfway m p i) s i =
       record { measured = halfway-measured i (omega arith); block = e; within = omega arith } in
-      g (halfway m p i) w (rw same (roomy-at (m .pairs) r i h)) refl
+      g (halfway m p i) w (rw same (roomy-at (m .pairs) r i h)) refl same
       ∙ ap (λ (x : List Pair). padded (withLists m (m .mons) x))
       (map-turn (packetMove (m .mons) p) (m .pairs) i noPair {m = qs} h refl refl)
 
   -- and whether a pair so far is a reason for a report
   pub told-turn : (i : ℕ) {s : List ℕ} {a b : Bool} → i < length (m .pairs) → s ≡ padded (halfway m p i)
       → a ≡ someOf (wants (m .mons) p) (take i (m .pairs))
-      → ((n : Model) → AtPair n s i → pairAt n i .packets < 4294967295 → m .mons ≡ n .mons → b ≡ wants (n .mons) p (pairAt n i))
+      → ((n : Model) → AtPair n s i → pairAt n i .packets < 4294967295 → m .mons ≡ n .mons → pairAt n i ≡ getD (m .pairs) i noPair
+      → b ≡ wants (n .mons) p (pairAt n i))
       → (a || b) ≡ someOf (wants (m .mons) p) (take (i + 1) (m .pairs))
   unfolding halfway withLists pairAt done someOf
   told-turn i {s} {a} {b} h e q g =
@@ -172,11 +168,26 @@ module _ (m : Model) (p : Packet) (f : Measured m) (t : Sent p) (r : Roomy (m .p
       getD-put-after (m .pairs) 0 (done i) i noPair (omega arith) (omega arith) in
       let w : AtPair (halfway m p i) s i =
       record { measured = halfway-measured i (omega arith); block = e; within = omega arith } in
-      let c : b ≡ wants (m .mons) p (getD (m .pairs) i noPair) = g (halfway m p i) w (rw same (roomy-at (m .pairs) r i h)) refl ∙ rw same refl in
+      let c : b ≡ wants (m .mons) p (getD (m .pairs) i noPair) = g (halfway m p i) w (rw same (roomy-at (m .pairs) r i h)) refl same ∙ rw same refl in
       ap₂ _||_ q c ∙ sym (ap (λ (j : ℕ). someOf (wants (m .mons) p) (take j (m .pairs))) (add-one i)
       ∙ ap (someOf (wants (m .mons) p)) (take-suc (m .pairs) i noPair h)
       ∙ some-append (wants (m .mons) p) (take i (m .pairs)) (getD (m .pairs) i noPair ∷ [])
       ∙ ap (λ (t : Bool). someOf (wants (m .mons) p) (take i (m .pairs)) || t) (or-none (wants (m .mons) p (getD (m .pairs) i noPair))))
+
+  -- rows of other devices, passed over
+  pass : (i k : ℕ) {s : List ℕ} {a : Bool} → i + k ≤ length (m .pairs) → ((j : ℕ) → i ≤ j → j < i + k → Other p (getD (m .pairs) j noPair))
+      → (a ≡ someOf (wants (m .mons) p) (take i (m .pairs))) × (s ≡ padded (halfway m p i))
+      → (a ≡ someOf (wants (m .mons) p) (take (i + k) (m .pairs))) × (s ≡ padded (halfway m p (i + k)))
+  pass i zero {s} {a} b x e = subst (λ (j : ℕ). (a ≡ someOf (wants (m .mons) p) (take j (m .pairs))) × (s ≡ padded (halfway m p j))) (omega arith) e
+  pass i (suc k) {s} {a} b x e =
+      let y = pass i k (omega arith) (λ j c d. x j c (omega arith)) e in
+      let z : Other p (getD (m .pairs) (i + k) noPair) = x (i + k) (omega arith) (omega arith) in
+      let n : i + k + 1 ≡ i + suc k = omega arith in
+      subst (λ (j : ℕ). (a ≡ someOf (wants (m .mons) p) (take j (m .pairs))) × (s ≡ padded (halfway m p j))) n (
+        sym (or-none a)
+            ∙ told-turn (i + k) (omega arith) (y .1) (y .0) (λ g w u v q. told-left g s (i + k) p w t (rw q z)),
+        halfway-turn (i + k) (omega arith) (y .1) (λ g w u v q. row-left g s (i + k) p w t (rw q z)),
+      )
 
   -- its beginning and its end
   pub halfway-none : padded m ≡ padded (halfway m p 0)
@@ -192,6 +203,24 @@ module _ (m : Model) (p : Packet) (f : Measured m) (t : Sent p) (r : Roomy (m .p
       ∙ ap (λ (x : List Pair). padded (withLists m (m .mons) x))
       (put-whole (m .pairs) (map (packetMove (m .mons) p) (m .pairs)) (sym (length-map (m .pairs) (packetMove
       (m .mons) p))))
+
+  pub moves-begin : (from : ℕ) {s : List ℕ} → from ≤ length (m .pairs) → NoneBelow (m .pairs) p from → s ≡ padded m
+      → (false ≡ someOf (wants (m .mons) p) (take from (m .pairs))) × (s ≡ padded (halfway m p from))
+  unfolding someOf
+  moves-begin from {s} b x e =
+      let n : 0 + from ≡ from = omega arith in
+      subst (λ (j : ℕ). (false ≡ someOf (wants (m .mons) p) (take j (m .pairs))) × (s ≡ padded (halfway m p j))) n
+      (pass 0 from (omega arith) (λ j c d. x j (omega arith)) (refl, e ∙ halfway-none))
+
+  pub moves-end : (to : ℕ) {s : List ℕ} {a : Bool} → to ≤ length (m .pairs) → NoneFrom (m .pairs) p to
+      → (a ≡ someOf (wants (m .mons) p) (take to (m .pairs))) × (s ≡ padded (halfway m p to))
+      → (a ≡ someOf (wants (m .mons) p) (m .pairs)) × (s ≡ padded (withLists m (m .mons) (map (packetMove (m .mons) p) (m .pairs))))
+  moves-end to {s} {a} b x e =
+      let n : ℕ = to + (length (m .pairs) - to) in
+      let y = pass to (length (m .pairs) - to) (omega arith) (λ j c d. x j c (omega arith)) e in (
+        y .0 ∙ ap (someOf (wants (m .mons) p)) (take-all n (m .pairs) (omega arith)),
+        y .1 ∙ halfway-all n (omega arith),
+      )
 
   -- the state with every pair moved has rows with room
   pub all-measured : Measured (withLists m (m .mons) (map (packetMove (m .mons) p) (m .pairs)))

@@ -5,7 +5,9 @@ pub mod Writes
 pub mod News
 pub mod Weakest
 pub mod Moves
+pub mod Device
 pub mod Held
+pub mod Firm
 pub mod Starts
 pub mod Handles
 pub mod Begins

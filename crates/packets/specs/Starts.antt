@@ -1,4 +1,4 @@
--- The starts of a packet: the search for a pair among the rows, and one handle's turn.
+-- The starts of a packet: one handle's turn.
 -- Document 01, Watching, by history ("monitors take one packet in handle order, and a start takes its room at once").
 -- Assumes nothing.
 use Prim.Native.Nat.{ℕ, suc, _+_, _-_, _*_, _/_, _%_, _≤_, _<_}
@@ -41,52 +41,11 @@ pub record Holding (m : Model) (s : List ℕ) (n : ℕ) : Type 0 where
   pub block : s ≡ padded m
   pub count : n ≡ length (m .pairs)
 
--- what the search for the pair of a handle is given
+-- what the start of a handle's pair is given
 pub record Sought (p : Packet) (h key : ℕ) : Type 0 where
   pub sent : Sent p
   pub low : h < mostMonitors
   pub number : key ≡ h + 256 * deviceNumber p
-
--- the search: what is left at row i has the answer
-module _ (m : Model) (s : List ℕ) (n : ℕ) (p : Packet) (h key i : ℕ) (w : Holding m s n) (x : Sought p h key)
-    (q : holds (m .pairs) h (deviceOf p) ≡ holds (drop i (m .pairs)) h (deviceOf p)) where
-  at-pair : i < n → AtPair m s i
-  at-pair b = record { measured = w .measured; block = w .block; within = omega (arith, w .count) }
-
-  key-at : (b : i < n) (k : ℕ) → k ≡ little 8 s (pairsAt + pairSize * i)
-      → k ≡ getD (m .pairs) i noPair .handle + 256 * value (watched (getD (m .pairs) i noPair))
-  unfolding pairAt
-  key-at b k e =
-      e ∙ ap (λ (l : List ℕ). little 8 l (pairsAt + pairSize * i)) (w .block)
-      ∙ key-pairs m (w .measured) i noPair (at-pair b .within) (pair-fits (at-pair b))
-
-  pub search-hit : (k : ℕ) → i < n → k ≡ little 8 s (pairsAt + pairSize * i) → k ≡ key → true ≡ holds (m .pairs) h (deviceOf p)
-  unfolding holds pairAt
-  search-hit k b e y =
-      let g : Pair = getD (m .pairs) i noPair in
-      let t : isPair h (deviceOf p) g ≡ true =
-      pair-true p (x .sent) h g (pair-fits (at-pair b)) (x .low) (sym (key-at b k e) ∙ y ∙ x .number) in
-      sym (q ∙ ap (λ (l : List Pair). someOf (isPair h (deviceOf p)) l) (drop-cons (m .pairs) i noPair
-      (at-pair b .within))
-      ∙ some-stop (isPair h (deviceOf p)) g (drop (suc i) (m .pairs)) t)
-
-  pub search-miss : (k : ℕ) → i < n → k ≡ little 8 s (pairsAt + pairSize * i) → (k ≡ key → ⊥)
-      → holds (m .pairs) h (deviceOf p) ≡ holds (drop (i + 1) (m .pairs)) h (deviceOf p)
-  unfolding holds
-  search-miss k b e y =
-      let g : Pair = getD (m .pairs) i noPair in
-      let t : isPair h (deviceOf p) g ≡ false =
-      pair-false p (x .sent) h g (λ z. y (key-at b k e ∙ z ∙ sym (x .number))) in
-      q ∙ ap (λ (l : List Pair). someOf (isPair h (deviceOf p)) l) (drop-cons (m .pairs) i noPair (at-pair b .within))
-      ∙ some-step (isPair h (deviceOf p)) g (drop (suc i) (m .pairs)) t
-      ∙ ap (λ (j : ℕ). someOf (isPair h (deviceOf p)) (drop j (m .pairs))) (sym (add-one i))
-
-  pub search-end : n ≤ i → false ≡ holds (m .pairs) h (deviceOf p)
-  unfolding holds
-  search-end b =
-      sym (q ∙ ap (λ (l : List Pair). someOf (isPair h (deviceOf p)) l)
-      (drop-of-length-le (m .pairs) {i = i} (omega (arith, w .count)))
-      ∙ some-nil (isPair h (deviceOf p)))
 
 -- what a turn leaves: the block of the state with these pairs, and their number
 pub record Turned (m : Model) (qs : List Pair) (s : List ℕ) (n : ℕ) : Type 0 where

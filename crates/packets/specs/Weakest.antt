@@ -35,6 +35,16 @@ unfolding weakestBelow
 weakest-turn s n {b} {r} e q =
     q ∙ ap (λ (k : ℕ). pick (ltb (levelAt s n) (levelAt s k)) n k) e ∙ sym (ap (weakestBelow s) (add-one n))
 
+pub weaker-turn : (s : List ℕ) (n i : ℕ) {kept low j k : ℕ} → kept ≡ levelAt s n → low ≡ levelAt s i → i ≡ weakestBelow s n
+    → j ≡ pick (ltb kept low) n i → k ≡ pick (ltb kept low) kept low → (j ≡ weakestBelow s (n + 1)) × (k ≡ levelAt s j)
+unfolding pick
+weaker-turn s n i {kept} {low} {j} {k} a b e q r =
+    (weakest-turn s n e (rw (← a, ← b) q), go (ltb kept low) q r)
+  where
+    go : (t : Bool) → j ≡ pick t n i → k ≡ pick t kept low → k ≡ levelAt s j
+    go true x y = y ∙ a ∙ ap (levelAt s) (sym x)
+    go false x y = y ∙ b ∙ ap (levelAt s) (sym x)
+
 -- it keeps no more than any, and less than those before it
 pub record Weakest (f : ℕ → ℕ) (n i : ℕ) : Type 0 where
   pub most : (j : ℕ) → j < n → f i ≤ f j

@@ -1,34 +1,39 @@
 -- The whole of a packet's step: what a sound state and a packet frame give the loops, and how the parts of the answer and of the block are put together. Document 01, Lines (02), Watching, by history.
 -- Assumes nothing.
-use Prim.Native.Nat.{ℕ, suc, _+_, _-_, _/_, _≤_, _<_}
+use Prim.Native.Nat.{ℕ, zero, suc, _+_, _-_, _/_, _≤_, _<_}
 use mathlib.Core.Path.{_≡_, refl, sym, ap, _∙_}
-use mathlib.Core.Bool.{Bool, true, _||_}
+use mathlib.Core.Bool.{Bool, true, false, _||_}
 use mathlib.Core.List.{List, [], _∷_, _++_, map}
 use native.Mathlib.Omega.{arith}
 use native.Mathlib.Nat.{zero-add}
-use lib.ListN.{length, drop, getD}
+use lib.ListN.{length, take, drop, getD}
 use borrow.Author.Tests.{lt-ltb}
 use Rattle.laws.specs.Tests.{and-left, and-right, and-both}
-use Rattle.laws.specs.Loops.{every, when}
+use Rattle.laws.specs.Loops.{every, when, some as someOf, some-stop}
+use Rattle.rule.specs.Base.{All}
+use Rattle.rule.specs.Engine.{find}
 use Rattle.laws.specs.Put.{put}
 use Rattle.octets.specs.Little.{little, isOctet}
-use Rattle.model.specs.Types.{Model, Packet, Pair, withLists}
+use Rattle.model.specs.Types.{Model, Packet, Pair, deviceOf, withLists}
 use Rattle.model.specs.Frames.{packet, hasPacket, packetOf}
 use Rattle.model.specs.Events.{packetReports}
-use Rattle.model.specs.Watch.{packetMove, packetPairs, reported, packetAnswer}
+use Rattle.model.specs.Watch.{isPair, holds, packetMove, packetPairs, reported, packetAnswer}
 use Rattle.model.specs.Step.{stepTyped, answerTyped}
 use Rattle.model.specs.Sound.{soundPair, soundModel}
 use Rattle.model.specs.Block.{padded, advanced}
 use Rattle.blocks.specs.Facts.{SoundModel, SoundPair, sound-facts, pair-facts}
-use Rattle.blocks.specs.Bounds.{Window, window-facts}
+use Rattle.blocks.specs.Bounds.{Fits, Window, window-facts}
 use Rattle.blocks.specs.Block.{Measured, sound-measured, getD-count, read-filter, length-padded}
 use Rattle.blocks.specs.Updates.{advanced-moved}
 use Rattle.steps.specs.Typed.{packet-sent}
 use Rattle.steps.specs.Stepped.{Stepped, Within, rest-put, rest-further}
-use Rattle.marks.specs.Marks.{marksAt, marks-padded}
-use Rattle.packets.specs.Keys.{payload-device}
+use Rattle.marks.specs.Marks.{flag, mark}
+use Rattle.marks.specs.Asked.{spared, marksFor, spared-padded, spared-held}
+use Rattle.packets.specs.Keys.{payload-device, pair-true}
+use Rattle.packets.specs.Device.{Sender, NoneFrom, flags-all}
+use Rattle.packets.specs.Firm.{Settled, moved-holds, moved-firm}
 use Rattle.packets.specs.Held.{Given, Roomy}
-use Rattle.packets.specs.Writes.{Wrote}
+use Rattle.packets.specs.Writes.{noPair, Wrote}
 use Rattle.packets.specs.Starts.{Holding, wrote-both}
 use Rattle.packets.specs.Handles.{Turns, turns-measured}
 use Rattle.packets.specs.Reports.{turnsOf, heldTold, startsTold, reported-off, reported-on}
@@ -55,36 +60,50 @@ roomy-all m h (q ∷ qs) e =
     let w : Window (m .position) q = window-facts (m .position) (s .mon) q (s .fields .window) (s .fields .empty) in
     (omega (arith, w .packets-most), roomy-all m h qs (and-right (soundPair m q) (every (soundPair m) qs) e))
 
--- what a sound state's block and a packet frame give the loops
-pub record Begun (m : Model) (s l acts : List ℕ) (dev n : ℕ) : Type 0 where
+-- what a sound state's block and a packet frame give the loops: held says of which handles pairs of the packet's device are held, acts what the
+-- monitors say that were asked
+pub record Begun (m : Model) (s l acts held : List ℕ) (dev n : ℕ) : Type 0 where
   pub facts : SoundModel m
   pub measured : Measured m
   pub block : s ≡ padded m
   pub below : m .position < 4294967295
   pub roomy : Roomy (m .pairs)
-  pub given : Given (m .mons) (packetOf l) acts dev
+  pub sender : Sender (packetOf l) dev
+  pub octets : (h : ℕ) → h < mostMonitors → getD acts h 0 ≡ spared (getD held h 0) (mark (find (m .mons) h) (packetOf l))
+  pub flags : (h : ℕ) → h < mostMonitors → getD held h 0 ≡ flag (holds (m .pairs) h (deviceOf (packetOf l)))
   pub count : n ≡ length (m .pairs)
 
-pub begun : (m : Model) (s l acts : List ℕ) (dev n : ℕ) → soundModel m ≡ true → s ≡ padded m → m .position < 4294967295
-    → ((i : ℕ) → getD l i 0 < 256) → hasPacket l ≡ true → acts ≡ marksAt s (packetOf l) → dev ≡ little 8 l 0 / 256
-    → Clamped (getD s countAt 0) mostPairs n → Begun m s l acts dev n
-begun m s l acts dev n e b h o k a d c =
+-- what the search for them is given
+pub block-holding : (m : Model) (s : List ℕ) (n : ℕ) → soundModel m ≡ true → s ≡ padded m → Clamped (getD s countAt 0) mostPairs n → Holding m s n
+block-holding m s n e b c =
     let f : SoundModel m = sound-facts m e in
     let g : Measured m = sound-measured m f in
     let z : getD s countAt 0 ≡ length (m .pairs) = ap (λ (x : List ℕ). getD x countAt 0) b ∙ getD-count m g in
+    record { measured = g; block = b; count = c .within (omega (arith, f .pairs-most)) ∙ z }
+
+pub packet-sender : (l : List ℕ) (dev : ℕ) → ((i : ℕ) → getD l i 0 < 256) → hasPacket l ≡ true → dev ≡ little 8 l 0 / 256
+    → Sender (packetOf l) dev
+packet-sender l dev o k d =
     let w : Framed l = packet-framed l k in
+    record { sent = packet-sent l (octets-known l o) k; number = d ∙ payload-device l (omega arith) (o 0) }
+
+pub begun : (m : Model) (s l acts held : List ℕ) (dev n to : ℕ) → soundModel m ≡ true → m .position < 4294967295
+    → Holding m s n → Sender (packetOf l) dev → acts ≡ marksFor held s (packetOf l) → to ≤ n → NoneFrom (m .pairs) (packetOf l) to
+    → ((h : ℕ) → h < mostMonitors → getD held h 0 ≡ flag (holds (take to (m .pairs)) h (deviceOf (packetOf l))))
+    → Begun m s l acts held dev n
+begun m s l acts held dev n to e h w t a b x y =
+    let f : SoundModel m = sound-facts m e in
     record {
       facts = f;
-      measured = g;
-      block = b;
+      measured = w .measured;
+      block = w .block;
       below = h;
       roomy = roomy-all m h (m .pairs) (f .pairs-sound);
-      given = record {
-        sent = packet-sent l (octets-known l o) k;
-        octets = a ∙ ap (λ (x : List ℕ). marksAt x (packetOf l)) b ∙ marks-padded m (packetOf l) f;
-        number = d ∙ payload-device l (omega arith) (o 0);
-      };
-      count = c .within (omega (arith, f .pairs-most)) ∙ z;
+      sender = t;
+      octets = λ i c. ap (λ (z : List ℕ). getD z i 0) (a ∙ ap (λ (z : List ℕ). marksFor held z (packetOf l)) (w .block))
+          ∙ spared-padded m (packetOf l) f held i c;
+      flags = λ i c. y i c ∙ flags-all m s n (packetOf l) dev w t i to c b x;
+      count = w .count;
     }
 
 -- the state after the pairs are moved, and after the starts
@@ -94,7 +113,43 @@ afterMoves m p = withLists m (m .mons) (map (packetMove (m .mons) p) (m .pairs))
 unfoldable pub afterStarts : Model → Packet → Model
 afterStarts m p = withLists m (m .mons) (packetPairs m p)
 
-module _ (m : Model) (s l acts : List ℕ) (dev n : ℕ) (b : Begun m s l acts dev n) where
+fits-at : (qs : List Pair) → All Fits qs → (i : ℕ) → i < length qs → Fits (getD qs i noPair)
+fits-at [] a i h = absurd (omega arith)
+fits-at (q ∷ qs) a zero h = a .0
+fits-at (q ∷ qs) a (suc i) h = fits-at qs (a .1) i (omega arith)
+
+some-at : (f : Pair → Bool) (qs : List Pair) (i : ℕ) → i < length qs → f (getD qs i noPair) ≡ true → someOf f qs ≡ true
+unfolding someOf
+some-at f [] i h e = absurd (omega arith)
+some-at f (q ∷ qs) zero h e = some-stop f q qs e
+some-at f (q ∷ qs) (suc i) h e = go (f q) (some-at f qs i (omega arith) e)
+  where
+    go : (t : Bool) → someOf f qs ≡ true → (t || someOf f qs) ≡ true
+    go true x = refl
+    go false x = x
+
+module _ (m : Model) (s l acts held : List ℕ) (dev n : ℕ) (b : Begun m s l acts held dev n) where
+  -- what the turn of a pair's row is given
+  one-flag : (h i : ℕ) → i < length (m .pairs) → isPair h (deviceOf (packetOf l)) (getD (m .pairs) i noPair) ≡ true
+      → holds (m .pairs) h (deviceOf (packetOf l)) ≡ true
+  unfolding holds
+  one-flag h i c e = some-at (isPair h (deviceOf (packetOf l))) (m .pairs) i c e
+
+  pub pair-given : (i : ℕ) → i < n → Given (m .mons) (packetOf l) acts dev (getD (m .pairs) i noPair)
+  unfolding flag
+  pair-given i c =
+      let q : Pair = getD (m .pairs) i noPair in
+      let f : Fits q = fits-at (m .pairs) (b .measured .fit) i (omega (arith, b .count)) in
+      record {
+        sender = b .sender;
+        heard = λ e.
+            let y : isPair (q .handle) (deviceOf (packetOf l)) q ≡ true =
+            pair-true (packetOf l) (b .sender .sent) (q .handle) q f (f .handle-most) (omega arith) in
+            let z : getD held (q .handle) 0 ≡ 1 =
+            b .flags (q .handle) (f .handle-most) ∙ ap flag (one-flag (q .handle) i (omega (arith, b .count)) y) in
+            b .octets (q .handle) (f .handle-most) ∙ spared-held (getD held (q .handle) 0) _ (λ u. omega arith);
+      }
+
   -- what the loop over the handles is given
   pub moves-holding : {t : List ℕ} → t ≡ padded (afterMoves m (packetOf l)) → Holding (afterMoves m (packetOf l)) t n
   unfolding afterMoves withLists
@@ -109,12 +164,18 @@ module _ (m : Model) (s l acts : List ℕ) (dev n : ℕ) (b : Begun m s l acts d
       }
     where
       moved-measured : Measured (withLists m (m .mons) (map (packetMove (m .mons) (packetOf l)) (m .pairs)))
-      moved-measured = Rattle.packets.specs.Held.all-measured m (packetOf l) (b .measured) (b .given .sent)
+      moved-measured = Rattle.packets.specs.Held.all-measured m (packetOf l) (b .measured) (b .sender .sent)
           (b .roomy)
 
-  pub moves-given : Given (afterMoves m (packetOf l) .mons) (packetOf l) acts dev
+  pub moves-settled : Settled (afterMoves m (packetOf l)) (packetOf l) acts held dev
   unfolding afterMoves withLists
-  moves-given = b .given
+  moves-settled =
+      record {
+        sender = b .sender;
+        octets = b .octets;
+        flags = λ h c. b .flags h c ∙ ap flag (sym (moved-holds (m .mons) (packetOf l) h (deviceOf (packetOf l)) (m .pairs)));
+        firm = λ h e. moved-firm (m .mons) (packetOf l) h (m .pairs) e;
+      }
 
   -- what the writers of the answer are given
   pub starts-holding : {t out o : List ℕ} {k w : ℕ} {u : Bool} → Turns (afterMoves m (packetOf l)) (packetOf l) mostMonitors t k out o w u
@@ -123,8 +184,8 @@ module _ (m : Model) (s l acts : List ℕ) (dev n : ℕ) (b : Begun m s l acts d
   starts-holding {t} {out} {o} {k} {w} {u} x =
       record {
         measured = turns-measured (afterMoves m (packetOf l)) (packetOf l)
-            (Rattle.packets.specs.Held.all-measured m (packetOf l) (b .measured) (b .given .sent) (b .roomy))
-            (b .given .sent) mostMonitors
+            (Rattle.packets.specs.Held.all-measured m (packetOf l) (b .measured) (b .sender .sent) (b .roomy))
+            (b .sender .sent) mostMonitors
             (omega arith);
         block = x .turned .block;
         count = x .turned .count;
@@ -135,21 +196,6 @@ module _ (m : Model) (s l acts : List ℕ) (dev n : ℕ) (b : Begun m s l acts d
       → Wrote out 0 (turnsOf m (packetOf l)) o w
   unfolding afterMoves withLists
   turns-wrote x = x .answer
-
-  -- whether the packet is reported
-  pub told-off : {t : List ℕ} {k : ℕ} → Holding (afterStarts m (packetOf l)) t k → getD t filterAt 0 ≡ 0
-      → true ≡ reported m (packetOf l)
-  unfolding afterStarts withLists
-  told-off {t} {k} h e =
-      reported-off m (packetOf l)
-      (sym (ap (λ (x : List ℕ). getD x filterAt 0) (h .block) ∙ read-filter (afterStarts m (packetOf l))) ∙ e)
-
-  pub told-on : {t : List ℕ} {k : ℕ} {r u v : Bool} → Holding (afterStarts m (packetOf l)) t k → (getD t filterAt 0 ≡ 0 → ⊥)
-      → u ≡ heldTold m (packetOf l) → v ≡ startsTold m (packetOf l) → r ≡ (u || v) → r ≡ reported m (packetOf l)
-  unfolding afterStarts withLists
-  told-on {t} {k} {r} {u} {v} h n e f q =
-      reported-on m (packetOf l)
-      (λ z. n (ap (λ (x : List ℕ). getD x filterAt 0) (h .block) ∙ read-filter (afterStarts m (packetOf l)) ∙ z)) e f q
 
   -- whether its starts are told
   pub turns-told : {t out o : List ℕ} {k w : ℕ} {u : Bool} → Turns (afterMoves m (packetOf l)) (packetOf l) mostMonitors t k out o w u
@@ -179,6 +225,22 @@ module _ (m : Model) (s l acts : List ℕ) (dev n : ℕ) (b : Begun m s l acts d
         octets = z .octets ∙ ap (put out 0) ans;
         count = z .count ∙ ap (λ (j : List ℕ). length j) ans;
       }
+
+-- whether the packet is reported
+module _ (m : Model) (p : Packet) where
+  pub told-off : {t : List ℕ} {k : ℕ} → Holding (afterStarts m p) t k → getD t filterAt 0 ≡ 0
+      → true ≡ reported m p
+  unfolding afterStarts withLists
+  told-off {t} {k} h e =
+      reported-off m p
+      (sym (ap (λ (x : List ℕ). getD x filterAt 0) (h .block) ∙ read-filter (afterStarts m p)) ∙ e)
+
+  pub told-on : {t : List ℕ} {k : ℕ} {r u v : Bool} → Holding (afterStarts m p) t k → (getD t filterAt 0 ≡ 0 → ⊥)
+      → u ≡ heldTold m p → v ≡ startsTold m p → r ≡ (u || v) → r ≡ reported m p
+  unfolding afterStarts withLists
+  told-on {t} {k} {r} {u} {v} h n e f q =
+      reported-on m p
+      (λ z. n (ap (λ (x : List ℕ). getD x filterAt 0) (h .block) ∙ read-filter (afterStarts m p) ∙ z)) e f q
 
 -- octets past the start events and the report are as they were
 pub answer-within : (out : List ℕ) {o v : List ℕ} {w r : ℕ} (ys : List ℕ) → w + r ≤ length out → length o ≡ length out

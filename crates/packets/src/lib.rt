@@ -1,21 +1,23 @@
-// A packet: what it does to the pairs held, the watches that it starts, and what it writes (document 01, Watching, by history). The
-// crate marks asks the monitors, and keeps what each says of the packet as one octet a handle. Then the rows of the pairs held are
-// changed in place, the handles take their turns, which start pairs behind them, and the reports are written.
+// A packet: what it does to the pairs held, the watches that it starts, and what it writes (document 01, Watching, by history). One pass
+// over the pairs finds those of the packet's device. The crate marks asks the monitors of these and those that the packet may start, and keeps
+// what each says of the packet as one octet a handle. Then the rows of the device's pairs are changed in place, the handles take their turns, which
+// start pairs behind them, and the reports are written.
+mod device;
 mod reports;
 mod starts;
 mod windows;
 
 use state::State;
-ghost use Prim.Native.Nat.{ℕ, _+_, _*_, _/_, _≤_, _<_};
+ghost use Prim.Native.Nat.{ℕ, _+_, _*_, _≤_, _<_};
 ghost use mathlib.Core.Path.{_≡_};
 ghost use mathlib.Core.Bool.{true, false};
 ghost use mathlib.Core.List.{List};
 ghost use lib.ListN.{length};
 ghost use Rattle.octets.specs.Numbers.{numberAt};
-ghost use Rattle.model.specs.Types.{Model, Packet, deviceOf};
+ghost use Rattle.model.specs.Types.{Model, Packet};
 ghost use Rattle.sessions.specs.Machine.{answerRoom};
 ghost use Rattle.model.specs.Frames.{hasPacket, packetOf, packet as packetFrame};
-ghost use Rattle.model.specs.Watch.{packetMove, holds, wants, reported};
+ghost use Rattle.model.specs.Watch.{packetMove, wants, reported};
 ghost use Rattle.model.specs.Block.{padded};
 ghost use Rattle.steps.specs.Typed.{Sent};
 ghost use Rattle.steps.specs.Stepped.{Steps, Within, Taken};
@@ -23,7 +25,8 @@ ghost use Rattle.marks.specs.Fields.{Framed};
 ghost use Rattle.packets.specs.Changes.{freshened, collected, counted, strengthened, recalled, changed, alikeTo, reasonBy};
 ghost use Rattle.packets.specs.Moves.{AtPair, pairAt, withPair};
 ghost use Rattle.packets.specs.Held.{Given};
-ghost use Rattle.packets.specs.Starts.{Holding, Sought};
+ghost use Rattle.packets.specs.Device.{Spans};
+ghost use Rattle.packets.specs.Starts.{Holding};
 ghost use Rattle.packets.specs.Whole.{Begun, afterMoves, afterStarts};
 ghost use Rattle.packets.specs.Reports.{heldTold, startsTold};
 ghost use Rattle.model.specs.Layout.{blockSize, mostMonitors, mostPairs, pairSize, pairsAt};
@@ -150,7 +153,7 @@ fn key_at(s: &[u8], i: usize) -> u64
 // Answers whether the pair is a reason for a report.
 fn move_row(s: &mut [u8], i: usize, acts: &[u8], payload: &[u8], dev: u64) -> bool
     requires { ⌜ (length (now s) ≡ blockSize) × (i < mostPairs) × (length (now acts) ≡ mostMonitors) × Framed (now payload) ⌝ }
-    ensures { λ r. ⌜ ((m : Model) → AtPair m (now (s .entry)) i → Given (m .mons) (packetOf (now (payload .entry))) (now (acts .entry)) dev → pairAt m i .packets < 4294967295 → (r ≡ wants (m .mons) (packetOf (now (payload .entry))) (pairAt m i)) × (now (s .exit) ≡ padded (withPair m i (packetMove (m .mons) (packetOf (now (payload .entry))) (pairAt m i))))) ⌝ }
+    ensures { λ r. ⌜ ((m : Model) → AtPair m (now (s .entry)) i → Given (m .mons) (packetOf (now (payload .entry))) (now (acts .entry)) dev (pairAt m i) → pairAt m i .packets < 4294967295 → (r ≡ wants (m .mons) (packetOf (now (payload .entry))) (pairAt m i)) × (now (s .exit) ≡ padded (withPair m i (packetMove (m .mons) (packetOf (now (payload .entry))) (pairAt m i))))) ⌝ }
 {
     let key = key_at(s, i);
     if key / 256 != dev {
@@ -166,14 +169,14 @@ fn move_row(s: &mut [u8], i: usize, acts: &[u8], payload: &[u8], dev: u64) -> bo
     told
 }
 
-// The n pairs held over the packet. Answers whether one of them is a reason for a report.
-fn move_rows(s: &mut [u8], n: usize, acts: &[u8], payload: &[u8], dev: u64) -> bool
-    requires { ⌜ (length (now s) ≡ blockSize) × (n ≤ mostPairs) × (length (now acts) ≡ mostMonitors) × Framed (now payload) ⌝ }
-    ensures { λ r. ⌜ ((m : Model) → Begun m (now (s .entry)) (now (payload .entry)) (now (acts .entry)) dev n → (r ≡ heldTold m (packetOf (now (payload .entry)))) × (now (s .exit) ≡ padded (afterMoves m (packetOf (now (payload .entry)))))) ⌝ }
+// The pairs held over the packet, from the first one of its device to the last. Answers whether one of them is a reason for a report.
+fn move_rows(s: &mut [u8], from: usize, to: usize, acts: &[u8], payload: &[u8], dev: u64) -> bool
+    requires { ⌜ (length (now s) ≡ blockSize) × (from ≤ to) × (to ≤ mostPairs) × (length (now acts) ≡ mostMonitors) × Framed (now payload) ⌝ }
+    ensures { λ r. ⌜ ((m : Model) (held : List ℕ) (n : ℕ) → Begun m (now (s .entry)) (now (payload .entry)) (now (acts .entry)) held dev n → Spans (m .pairs) (packetOf (now (payload .entry))) from to → (r ≡ heldTold m (packetOf (now (payload .entry)))) × (now (s .exit) ≡ padded (afterMoves m (packetOf (now (payload .entry)))))) ⌝ }
 {
     let mut told = false;
-    let mut i = 0;
-    while i < n {
+    let mut i = from;
+    while i < to {
         let reason = move_row(s, i, acts, payload, dev);
         told = told | reason;
         i += 1;
@@ -181,25 +184,10 @@ fn move_rows(s: &mut [u8], n: usize, acts: &[u8], payload: &[u8], dev: u64) -> b
     told
 }
 
-// Whether a pair with that key is among the n pairs held.
-fn is_held(s: &[u8], n: usize, key: u64) -> bool
-    requires { ⌜ (length (now s) ≡ blockSize) × (n ≤ mostPairs) ⌝ }
-    ensures { λ r. ⌜ ((m : Model) (p : Packet) (h : ℕ) → Holding m (now (s .entry)) n → Sought p h key → r ≡ holds (m .pairs) h (deviceOf p)) ⌝ }
-{
-    let mut i = 0;
-    while i < n {
-        if key_at(s, i) == key {
-            return true;
-        }
-        i += 1;
-    }
-    false
-}
-
 // Whether the packet is reported: the filter is off, or a pair held is a reason, or a start is told.
 fn is_told(s: &[u8], held: bool, start: bool) -> bool
     requires { ⌜ length (now s) ≡ blockSize ⌝ }
-    ensures { λ r. ⌜ ((m : Model) (e l acts : List ℕ) (dev n k : ℕ) → Begun m e l acts dev n → Holding (afterStarts m (packetOf l)) (now (s .entry)) k → held ≡ heldTold m (packetOf l) → start ≡ startsTold m (packetOf l) → r ≡ reported m (packetOf l)) ⌝ }
+    ensures { λ r. ⌜ ((m : Model) (p : Packet) (k : ℕ) → Holding (afterStarts m p) (now (s .entry)) k → held ≡ heldTold m p → start ≡ startsTold m p → r ≡ reported m p) ⌝ }
 {
     if s[State::FILTER_AT] == 0 {
         return true;
@@ -212,13 +200,16 @@ fn step(s: &mut [u8], payload: &[u8], out: &mut [u8]) -> usize
     requires { ⌜ (length (now s) ≡ blockSize) × (answerRoom ≤ length (now out)) × Framed (now payload) ⌝ }
     ensures { λ r. ⌜ Within (now (out .entry)) (now (out .exit)) r × (hasPacket (now (payload .entry)) ≡ true → Steps (packetFrame (packetOf (now (payload .entry)))) (now (s .entry)) (now (s .exit)) (now (out .entry)) (now (out .exit)) r) ⌝ }
 {
-    let mut acts = [0u8; State::MONITORS];
-    marks::mark_all(&mut acts, s, payload);
     let dev = octets::get64(payload, 0) / 256;
     let n = octets::at_most(s[State::COUNT_AT], State::PAIRS);
-    let held = move_rows(s, n, &acts, payload, dev);
-    let turn = starts::start_all(s, n, &acts, dev, payload, out);
-    let told = is_told(s, held, turn.told);
+    let from = device::first_of(s, n, dev);
+    let to = device::end_of(s, from, n, dev);
+    let held = device::held_in(s, from, to, dev);
+    let mut acts = [0u8; State::MONITORS];
+    marks::mark_held(&mut acts, s, payload, &held);
+    let reason = move_rows(s, from, to, &acts, payload, dev);
+    let turn = starts::start_all(s, n, &acts, &held, dev, payload, out);
+    let told = is_told(s, reason, turn.told);
     let r = reports::put_told(out, turn.wrote, told, payload);
     state::advance(s);
     turn.wrote + r

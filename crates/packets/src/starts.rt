@@ -10,25 +10,26 @@ ghost use lib.ListN.{length, take, drop};
 ghost use Rattle.laws.specs.Put.{put};
 ghost use Rattle.laws.specs.Tests.{pick};
 ghost use Rattle.sessions.specs.Machine.{answerRoom};
-ghost use Rattle.model.specs.Types.{Model, Packet};
+ghost use Rattle.model.specs.Types.{Model, Packet, deviceOf};
+ghost use Rattle.model.specs.Watch.{holds};
 ghost use Rattle.model.specs.Level.{level};
 ghost use Rattle.model.specs.Events.{event};
 ghost use Rattle.steps.specs.Typed.{Sent};
-ghost use Rattle.packets.specs.Keys.{deviceNumber};
 ghost use Rattle.packets.specs.Writes.{Wrote};
 ghost use Rattle.packets.specs.News.{startRow};
 ghost use Rattle.packets.specs.Weakest.{levelAt, weakestBelow};
-ghost use mathlib.Core.Bool.{_&&_};
+ghost use mathlib.Core.Bool.{true, false, _&&_};
 ghost use Rattle.model.specs.Frames.{packetOf};
 ghost use Rattle.model.specs.Block.{padded};
 ghost use Rattle.marks.specs.Fields.{Framed};
-ghost use Rattle.marks.specs.Marks.{sifted, allowed};
+ghost use Rattle.marks.specs.Marks.{flag, opens, sifted, allowed};
 ghost use Rattle.packets.specs.Changes.{starts};
 ghost use Rattle.packets.specs.Writes.{begunAs};
 ghost use Rattle.packets.specs.Moves.{AtPair, pairAt, withPair};
-ghost use Rattle.packets.specs.Held.{Given};
+ghost use Rattle.packets.specs.Device.{Sender};
+ghost use Rattle.packets.specs.Firm.{Settled};
 ghost use Rattle.packets.specs.Starts.{Holding, Asked, Told};
-ghost use Rattle.packets.specs.Handles.{Turns};
+ghost use Rattle.packets.specs.Handles.{Turns, NoStart};
 ghost use Rattle.model.specs.Layout.{blockSize, countAt, eventMost, mostMonitors, mostPairs, pairSize, pairsAt, turnMost, turnsMost};
 
 // What turns leave: how many pairs are held, how many octets were written, and whether the report of a start is let through.
@@ -81,6 +82,12 @@ fn replace_row(s: &mut [u8], i: usize, key: u64, rssi: u8)
     start_row(s, State::PAIRS - 1, key, rssi);
 }
 
+// A pair's index, and the level that it keeps.
+struct Weak {
+    at: usize,
+    least: u8,
+}
+
 // The level that pair i keeps.
 fn kept_at(s: &[u8], i: usize) -> u8
     requires { ⌜ (length (now s) ≡ blockSize) × (i < mostPairs) ⌝ }
@@ -89,31 +96,31 @@ fn kept_at(s: &[u8], i: usize) -> u8
     state::level_of(s[State::PAIRS_AT + State::PAIR_ROW * i + State::RSSI_AT])
 }
 
-// The weaker of two pairs, the first one where they keep the same.
-fn weaker(s: &[u8], i: usize, j: usize) -> usize
-    requires { ⌜ (length (now s) ≡ blockSize) × (i < mostPairs) × (j < mostPairs) ⌝ }
-    ensures { λ r. ⌜ (r < mostPairs) × (r ≡ pick (ltb (levelAt (now (s .entry)) j) (levelAt (now (s .entry)) i)) j i) ⌝ }
+// The weaker of a pair at an index, of a level, and the one at j, which keeps another: the first where they keep the same.
+fn weaker(i: usize, least: u8, j: usize, kept: u8) -> Weak
+    ensures { λ r. ⌜ (r .at ≡ pick (ltb kept least) j i) × (r .least ≡ pick (ltb kept least) kept least) ⌝ }
 {
-    let a = kept_at(s, i);
-    let b = kept_at(s, j);
-    if b < a {
-        return j;
+    if kept < least {
+        return Weak { at: j, least: kept };
     }
-    i
+    Weak { at: i, least }
 }
 
-// Of 64 pairs the first that keeps the smallest RSSI.
-fn weakest(s: &[u8]) -> usize
+// Of 64 pairs the first that keeps the smallest RSSI, and its level.
+fn weakest(s: &[u8]) -> Weak
     requires { ⌜ length (now s) ≡ blockSize ⌝ }
-    ensures { λ r. ⌜ (r < mostPairs) × (r ≡ weakestBelow (now (s .entry)) mostPairs) ⌝ }
+    ensures { λ r. ⌜ (r .at < mostPairs) × (r .at ≡ weakestBelow (now (s .entry)) mostPairs) × (r .least ≡ levelAt (now (s .entry)) (r .at)) ⌝ }
 {
     let mut i = 0;
+    let mut least = kept_at(s, 0);
     let mut j = 0;
     while j < State::PAIRS {
-        i = weaker(s, i, j);
+        let w = weaker(i, least, j, kept_at(s, j));
+        i = w.at;
+        least = w.least;
         j += 1;
     }
-    i
+    Weak { at: i, least }
 }
 
 // A start behind the n pairs held. Answers how many octets were written.
@@ -150,16 +157,15 @@ fn start_new(s: &mut [u8], n: usize, key: u64, rssi: u8, out: &mut [u8], at: usi
             told: false,
         };
     }
-    let i = weakest(s);
-    let least = kept_at(s, i);
-    if state::level_of(rssi) <= least {
+    let weak = weakest(s);
+    if state::level_of(rssi) <= weak.least {
         return Turn {
             held: n,
             wrote: 0,
             told: false,
         };
     }
-    let wrote = start_full(s, i, key, rssi, out, at);
+    let wrote = start_full(s, weak.at, key, rssi, out, at);
     Turn {
         held: n,
         wrote,
@@ -184,19 +190,20 @@ fn keep_start(s: &mut [u8], i: usize, a: u8, payload: &[u8])
     super::windows::put_none(s, at);
 }
 
-// One handle's turn, by its octet.
+// One handle's turn, by its octet and whether its pair of the packet's device is held.
 fn start_at(
     s: &mut [u8],
     n: usize,
     h: usize,
     a: u8,
+    held: u8,
     dev: u64,
     payload: &[u8],
     out: &mut [u8],
     at: usize,
 ) -> Turn
     requires { ⌜ (length (now s) ≡ blockSize) × (n ≤ mostPairs) × (h < mostMonitors) × (dev < 72057594037927936) × (at + turnMost ≤ length (now out)) × Framed (now payload) ⌝ }
-    ensures { λ r. ⌜ (r .held ≤ mostPairs) × (r .wrote ≤ turnMost) × (drop (at + r .wrote) (now (out .exit)) ≡ drop (at + r .wrote) (now (out .entry))) × ((m : Model) → Holding m (now (s .entry)) n → Sent (packetOf (now (payload .entry))) → dev ≡ deviceNumber (packetOf (now (payload .entry))) → Told m a h (packetOf (now (payload .entry))) (now (s .exit)) (r .held) (now (out .entry)) at (now (out .exit)) (r .wrote) × (r .told ≡ (starts a h (packetOf (now (payload .entry))) (m .pairs) && allowed a))) ⌝ }
+    ensures { λ r. ⌜ (r .held ≤ mostPairs) × (r .wrote ≤ turnMost) × (drop (at + r .wrote) (now (out .exit)) ≡ drop (at + r .wrote) (now (out .entry))) × ((m : Model) → Holding m (now (s .entry)) n → Sender (packetOf (now (payload .entry))) dev → (opens a ≡ true → held ≡ flag (holds (m .pairs) h (deviceOf (packetOf (now (payload .entry)))))) → Told m a h (packetOf (now (payload .entry))) (now (s .exit)) (r .held) (now (out .entry)) at (now (out .exit)) (r .wrote) × (r .told ≡ (starts a h (packetOf (now (payload .entry))) (m .pairs) && allowed a))) ⌝ }
 {
     if a / 4 % 2 != 1 {
         return Turn {
@@ -205,50 +212,73 @@ fn start_at(
             told: false,
         };
     }
-    let key = h as u64 + 256 * dev;
-    if super::is_held(s, n, key) {
+    if held != 0 {
         return Turn {
             held: n,
             wrote: 0,
             told: false,
         };
     }
+    let key = h as u64 + 256 * dev;
     let turn = start_new(s, n, key, payload[payload.len() - 1], out, at);
-    let held = turn.held;
+    let pairs = turn.held;
     let wrote = turn.wrote;
     if wrote == 0 {
         return Turn {
-            held,
+            held: pairs,
             wrote,
             told: false,
         };
     }
-    keep_start(s, held - 1, a, payload);
+    keep_start(s, pairs - 1, a, payload);
     Turn {
-        held,
+        held: pairs,
         wrote,
         told: a / 32 % 2 == 1,
     }
 }
 
-// The turns of the handles 0 to 15.
+// Whether an octet says that its handle may start a pair.
+fn is_start(acts: &[u8]) -> bool
+    requires { ⌜ length (now acts) ≡ mostMonitors ⌝ }
+    ensures { λ r. ⌜ (r ≡ false → NoStart (now (acts .entry)) mostMonitors) ⌝ }
+{
+    let mut some = false;
+    let mut h = 0;
+    while h < State::MONITORS {
+        some = some | (acts[h] / 4 % 2 == 1);
+        h += 1;
+    }
+    some
+}
+
+// The turns of the handles 0 to 15. For each, under is 1 where its pair of the packet's device was held before them, else 0: no turn before its own
+// changes that where its monitor matches the packet, since its pair then keeps the packet's RSSI and goes for no start.
 pub(super) fn start_all(
     s: &mut [u8],
     n: usize,
     acts: &[u8],
+    under: &[u8],
     dev: u64,
     payload: &[u8],
     out: &mut [u8],
 ) -> Turn
-    requires { ⌜ (length (now s) ≡ blockSize) × (n ≤ mostPairs) × (length (now acts) ≡ mostMonitors) × (dev < 72057594037927936) × (answerRoom ≤ length (now out)) × Framed (now payload) ⌝ }
-    ensures { λ r. ⌜ (r .held ≤ mostPairs) × (r .wrote ≤ turnsMost) × (drop (r .wrote) (now (out .exit)) ≡ drop (r .wrote) (now (out .entry))) × ((m : Model) → Holding m (now (s .entry)) n → Given (m .mons) (packetOf (now (payload .entry))) (now (acts .entry)) dev → Turns m (packetOf (now (payload .entry))) mostMonitors (now (s .exit)) (r .held) (now (out .entry)) (now (out .exit)) (r .wrote) (r .told)) ⌝ }
+    requires { ⌜ (length (now s) ≡ blockSize) × (n ≤ mostPairs) × (length (now acts) ≡ mostMonitors) × (length (now under) ≡ mostMonitors) × (dev < 72057594037927936) × (answerRoom ≤ length (now out)) × Framed (now payload) ⌝ }
+    ensures { λ r. ⌜ (r .held ≤ mostPairs) × (r .wrote ≤ turnsMost) × (drop (r .wrote) (now (out .exit)) ≡ drop (r .wrote) (now (out .entry))) × ((m : Model) → Holding m (now (s .entry)) n → Settled m (packetOf (now (payload .entry))) (now (acts .entry)) (now (under .entry)) dev → Turns m (packetOf (now (payload .entry))) mostMonitors (now (s .exit)) (r .held) (now (out .entry)) (now (out .exit)) (r .wrote) (r .told)) ⌝ }
 {
+    if !is_start(acts) {
+        return Turn {
+            held: n,
+            wrote: 0,
+            told: false,
+        };
+    }
     let mut held = n;
     let mut wrote = 0;
     let mut told = false;
     let mut h = 0;
     while h < State::MONITORS {
-        let turn = start_at(s, held, h, acts[h], dev, payload, out, wrote);
+        let turn = start_at(s, held, h, acts[h], under[h], dev, payload, out, wrote);
         held = turn.held;
         wrote += turn.wrote;
         told = told | turn.told;

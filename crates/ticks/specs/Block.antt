@@ -11,11 +11,11 @@ use lib.Dec.{eqb}
 use lib.ListN.{length, take, drop, getD, set, length-append, length-set, List·getD-append}
 use lib.Seq.{getD-at, getD-take, getD-drop, take-take}
 use borrow.Rule.Slice.PartMut.{putMid}
-use Rattle.laws.specs.Put.{put, set-put, length-put}
+use Rattle.laws.specs.Put.{put, put-nil, set-put, length-put}
 use Rattle.laws.specs.Tests.{pick, cases-le}
-use Rattle.laws.specs.Loops.{upTo}
+use Rattle.laws.specs.Loops.{each, upTo}
 use Rattle.laws.specs.Rows.{getD-row}
-use Rattle.rule.specs.Base.{All, each-length}
+use Rattle.rule.specs.Base.{All, each as moveEach, each-length}
 use Rattle.rule.specs.Engine.{find}
 use Rattle.rule.specs.Finds.{find-all}
 use Rattle.sessions.specs.Machine.{lastNumber}
@@ -202,4 +202,29 @@ ticked s out m z q h {head} {intervals} {periods} {filters} {t} {x} {o} {n} {e} 
       block = written-block m f (tickPairs m) a y vp (u .0) (u .1) (rw q at ex);
       octets = d .octets ∙ ap (put out 0) g;
       count = d .count ∙ ap (λ (r : List ℕ). length r) g;
+    }
+
+-- a tick where no pair is held: only the position moves, and nothing is written
+none-ticked : (f : Pair → Option Pair) (qs : List Pair) → length qs ≡ 0 → qs ≡ moveEach f qs
+none-ticked f [] e = refl
+none-ticked f (q ∷ qs) e = absurd (omega arith)
+
+none-told : (f : Pair → List ℕ) (qs : List Pair) → length qs ≡ 0 → [] ≡ each f qs
+unfolding each
+none-told f [] e = refl
+none-told f (q ∷ qs) e = absurd (omega arith)
+
+pub quiet : (s out : List ℕ) (m : Model) → soundModel m ≡ true → s ≡ padded m → m .position < lastNumber → {x : List ℕ}
+    → getD s countAt 0 ≡ 0 → x ≡ advanced s → Stepped m tick x out out 0
+unfolding stepTyped answerTyped tickAnswer tickPairs withLists moved lastNumber
+quiet s out m z q h {x} e ex =
+    let f : Measured m = measured m z in
+    let n : length (m .pairs) ≡ 0 = sym (getD-count m f) ∙ ap (λ (l : List ℕ). getD l countAt 0) (sym q) ∙ e in
+    let l : length s ≡ blockSize = rw q (length-padded m f) in
+    let a : [] ≡ tickAnswer m = none-told _ (m .pairs) n in
+    record {
+      block = ex ∙ advanced-moved m s q (omega arith) (omega arith)
+          ∙ ap (λ (qs : List Pair). padded (moved (withLists m (m .mons) qs))) (none-ticked _ (m .pairs) n);
+      octets = sym (put-nil out 0) ∙ ap (put out 0) a;
+      count = ap (λ (r : List ℕ). length r) a;
     }

@@ -3,6 +3,7 @@ pub mod Row
 pub mod Emptied
 pub mod Written
 pub mod Table
+pub mod Calm
 pub mod Pairs
 pub mod Whole
 pub mod Block

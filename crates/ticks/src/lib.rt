@@ -1,12 +1,14 @@
 // A tick (document 01, Watching, by history): one pass over the pairs held, in place. For each pair in start order: the ticks since a
 // good packet, the end of a watch with its stop event, the closing of a window with its report. Pairs that stay move down over those
 // that end, and the rows behind them are cleared.
+mod calm;
 mod tells;
 
 use state::Seconds;
 use state::State;
 use state::Ticks;
-ghost use Prim.Native.Nat.{_+_, _*_, _≤_, _<_};
+ghost use Prim.Native.Nat.{ℕ, _+_, _*_, _≤_, _<_};
+ghost use mathlib.Core.List.{List};
 ghost use mathlib.Core.Path.{_≡_};
 ghost use mathlib.Core.Bool.{true, not};
 ghost use lib.ListN.{length, take};
@@ -123,6 +125,35 @@ fn tick_row(
     Turn { kept, wrote }
 }
 
+// The turns of the rows from an index on, in order, where every row before stayed at its place and nothing was told. Behind each turn, rows that are
+// calm are passed at once.
+fn tick_rest(
+    t: &mut [u8],
+    from: usize,
+    n: usize,
+    out: &mut [u8],
+    intervals: &[u8],
+    periods: &[u8],
+    filters: &[u8],
+    prefix: &[u8],
+) -> Turn
+    requires { ⌜ (from ≤ n) × (n ≤ mostPairs) × (length (now t) ≡ pairsSize) × (answerRoom ≤ length (now out)) × (length (now prefix) ≤ mostPrefix) × (length (now intervals) ≡ mostMonitors) × (length (now periods) ≡ mostMonitors) ⌝ }
+    ensures { λ r. ⌜ (r .kept ≤ n) × (r .wrote ≤ reportMost * n) × ((t₀ : List ℕ) → Passed t₀ (now (t .entry)) (now (out .entry)) (now (out .entry)) from 0 (keptAt (now (intervals .entry)) (now (periods .entry)) t₀) (toldAt (now (intervals .entry)) (now (periods .entry)) (now (filters .entry)) (now (prefix .entry)) t₀) from → Passed t₀ (now (t .exit)) (now (out .entry)) (now (out .exit)) (r .kept) (r .wrote) (keptAt (now (intervals .entry)) (now (periods .entry)) t₀) (toldAt (now (intervals .entry)) (now (periods .entry)) (now (filters .entry)) (now (prefix .entry)) t₀) n) ⌝ }
+{
+    let mut i = from;
+    let mut kept = from;
+    let mut wrote = 0;
+    while i < n {
+        let turn = tick_row(t, i, kept, out, wrote, intervals, periods, filters, prefix);
+        wrote = turn.wrote;
+        i += 1;
+        let next = calm::calm_behind(t, i, turn.kept, n, intervals, periods);
+        kept = turn.kept + (next - i);
+        i = next;
+    }
+    Turn { kept, wrote }
+}
+
 // The turns of all rows, in order.
 fn tick_rows(
     t: &mut [u8],
@@ -133,19 +164,11 @@ fn tick_rows(
     filters: &[u8],
     prefix: &[u8],
 ) -> Turn
-    requires { ⌜ (n ≤ mostPairs) × (length (now t) ≡ pairsSize) × (answerRoom ≤ length (now out)) × (length (now prefix) ≤ mostPrefix) ⌝ }
+    requires { ⌜ (n ≤ mostPairs) × (length (now t) ≡ pairsSize) × (answerRoom ≤ length (now out)) × (length (now prefix) ≤ mostPrefix) × (length (now intervals) ≡ mostMonitors) × (length (now periods) ≡ mostMonitors) ⌝ }
     ensures { λ r. ⌜ (r .kept ≤ n) × (r .wrote ≤ reportMost * n) × Passed (now (t .entry)) (now (t .exit)) (now (out .entry)) (now (out .exit)) (r .kept) (r .wrote) (keptAt (now (intervals .entry)) (now (periods .entry)) (now (t .entry))) (toldAt (now (intervals .entry)) (now (periods .entry)) (now (filters .entry)) (now (prefix .entry)) (now (t .entry))) n ⌝ }
 {
-    let mut i = 0;
-    let mut kept = 0;
-    let mut wrote = 0;
-    while i < n {
-        let turn = tick_row(t, i, kept, out, wrote, intervals, periods, filters, prefix);
-        kept = turn.kept;
-        wrote = turn.wrote;
-        i += 1;
-    }
-    Turn { kept, wrote }
+    let from = calm::calm_rows(t, 0, n, intervals, periods);
+    tick_rest(t, from, n, out, intervals, periods, filters, prefix)
 }
 
 // A tick on the pair table: the turns of all rows, and the freed rows cleared.
@@ -158,7 +181,7 @@ fn tick_pairs(
     filters: &[u8],
     prefix: &[u8],
 ) -> Turn
-    requires { ⌜ (n ≤ mostPairs) × (length (now t) ≡ pairsSize) × (answerRoom ≤ length (now out)) × (length (now prefix) ≤ mostPrefix) ⌝ }
+    requires { ⌜ (n ≤ mostPairs) × (length (now t) ≡ pairsSize) × (answerRoom ≤ length (now out)) × (length (now prefix) ≤ mostPrefix) × (length (now intervals) ≡ mostMonitors) × (length (now periods) ≡ mostMonitors) ⌝ }
     ensures { λ r. ⌜ Cleared (now (t .entry)) (now (t .exit)) (now (out .entry)) (now (out .exit)) (r .kept) (r .wrote) (keptAt (now (intervals .entry)) (now (periods .entry)) (now (t .entry))) (toldAt (now (intervals .entry)) (now (periods .entry)) (now (filters .entry)) (now (prefix .entry)) (now (t .entry))) n ⌝ }
 {
     let turn = tick_rows(t, n, out, intervals, periods, filters, prefix);
@@ -252,8 +275,12 @@ fn tick_in(s: &mut [u8], out: &mut [u8]) -> usize
 pub fn tick(s: &mut [u8], out: &mut [u8]) -> usize
     ensures { λ r. ⌜ Taken aTick true (now (s .entry)) (now (s .exit)) (now (out .entry)) (now (out .exit)) r ⌝ }
 {
-    if state::ready(s, out) {
-        return tick_in(s, out);
+    if !state::ready(s, out) {
+        return 0;
     }
-    0
+    if s[State::COUNT_AT] == 0 {
+        state::advance(s);
+        return 0;
+    }
+    tick_in(s, out)
 }

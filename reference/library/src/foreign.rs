@@ -1,5 +1,5 @@
-//! The declarations of `include/bournejade.h`, and a safe function over each. The only unsafe code: a slice is valid for
-//! its length and never null, a block has 5,802 octets, and what is lent mutably overlaps nothing.
+//! The declarations of `include/bournejade.h` and of the system's clock, and a safe function over each. The only unsafe code but for
+//! `limit`: a slice is valid for its length and never null, a block has 5,802 octets, and what is lent mutably overlaps nothing.
 
 use crate::{Ran, Refused, STATE};
 
@@ -55,6 +55,28 @@ extern "C" {
         scan_size: usize,
         comparisons: *mut usize,
     ) -> u8;
+}
+
+/// A time as the system has it (`struct timespec` of 64-bit Linux).
+#[repr(C)]
+struct Time {
+    seconds: i64,
+    nanoseconds: i64,
+}
+
+/// The clock of the processor's time that this thread took.
+const THREAD_CLOCK: i32 = 3;
+
+extern "C" {
+    fn clock_gettime(clock: i32, time: *mut Time) -> i32;
+}
+
+/// Nanoseconds that the processor spent on this thread.
+pub fn spent() -> u128 {
+    let mut time = Time { seconds: 0, nanoseconds: 0 };
+    let failed = unsafe { clock_gettime(THREAD_CLOCK, &mut time) };
+    assert_eq!(failed, 0, "the system has this clock");
+    time.seconds as u128 * 1_000_000_000 + time.nanoseconds as u128
 }
 
 type Block = [u8; STATE];

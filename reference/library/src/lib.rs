@@ -4,6 +4,7 @@
 pub mod compare;
 pub mod engine;
 mod foreign;
+pub mod limit;
 pub mod timing;
 
 /// Octets of a state, and of the outputs that a frame's answer, an image and a line need.

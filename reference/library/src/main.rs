@@ -10,8 +10,9 @@ const USAGE: &str = "\
 library compare COUNT SEED            COUNT random sessions and scripts through both
 library costs COUNT SEED              COUNT pattern conditions against texts: matches or not, and the comparisons
 library faults COUNT SEED             how many of them notice each wrong build of the independent implementation
-library time IMAGE JOURNAL TIMES      replay in memory by both: nanoseconds, the shortest of TIMES runs
-library run WHO IMAGE JOURNAL         one replay by WHO, library or reference: the octets of the answers
+library time IMAGE JOURNAL TIMES      replay in memory by the library, the independent implementation, the rival, and reading
+                                      the hexadecimal alone: nanoseconds a line, the shortest of TIMES runs
+library run WHO IMAGE JOURNAL         one replay by WHO, library, reference, rival or limit: the octets of the answers
 ";
 
 fn main() -> ExitCode {
@@ -39,6 +40,8 @@ fn run(words: &[&str]) -> Result<String, String> {
             let replay = match *who {
                 "library" => timing::by_library,
                 "reference" => timing::by_reference,
+                "rival" => timing::by_rival,
+                "limit" => timing::by_limit,
                 _ => return Err(USAGE.to_string()),
             };
             let answers = replay(&read(image)?, &read(journal)?).ok_or("refused")?;
@@ -86,7 +89,8 @@ fn costs(count: u64, seed: u64) -> Result<String, String> {
 /// The octets of a text of digits; `-` is none.
 fn octets(text: &str) -> Result<Vec<u8>, String> {
     let text = if text == "-" { "" } else { text };
-    let pair = |i: usize| u8::from_str_radix(text.get(i..i + 2).unwrap_or("?"), 16).map_err(|_| text.to_string());
+    let pair =
+        |i: usize| u8::from_str_radix(text.get(i..i + 2).unwrap_or("?"), 16).map_err(|_| text.to_string());
     (0..text.len()).step_by(2).map(pair).collect()
 }
 
@@ -102,10 +106,16 @@ fn faults(count: u64, seed: u64) -> String {
 
 fn time(image: &[u8], journal: &[u8], times: usize) -> Result<String, String> {
     let lines = journal.iter().filter(|c| **c == b'\n').count() as u128;
-    let (ours, fast) = timing::timed(|| timing::by_library(image, journal), times).ok_or("refused")?;
-    let (theirs, slow) = timing::timed(|| timing::by_reference(image, journal), times).ok_or("refused")?;
-    if ours != theirs {
+    let timed = |replay: fn(&[u8], &[u8]) -> Option<Vec<u8>>| {
+        timing::timed(|| replay(image, journal), times).ok_or("refused")
+    };
+    let (ours, fast) = timed(timing::by_library)?;
+    let (theirs, slow) = timed(timing::by_reference)?;
+    let (plain, rival) = timed(timing::by_rival)?;
+    let (_, limit) = timed(timing::by_limit)?;
+    if ours != theirs || ours != plain {
         return Err("the answers differ".to_string());
     }
-    Ok(format!("{} {}", fast / lines, slow / lines))
+    let line = |time: u128| time as f64 / lines as f64;
+    Ok(format!("{:.1} {:.1} {:.1} {:.1}", line(fast), line(slow), line(rival), line(limit)))
 }

@@ -16,7 +16,7 @@ is-private-requires c κs = search needs
 -- src/lib.rt:216:9
 mark-private-requires : tie.Need-mark-private-requires
 mark-private-requires c κs =
-    (search needs, search needs, search needs, sym (c .before .before .is-private .ensures) ∙ c .before .if1 .taken)
+    (search needs, search needs, search needs, search needs, sym (c .before .before .is-private .ensures) ∙ c .before .if1 .taken)
 
 -- src/lib.rt:217:9
 same-length : tie.Need-same-length
@@ -33,6 +33,7 @@ slice-aggregate-mark-each c = search needs
 -- src/lib.rt:220:5
 mark-each-requires : tie.Need-mark-each-requires
 mark-each-requires c κs = (
+  search needs,
   search needs,
   search needs,
   search needs,

@@ -5,7 +5,7 @@ use Rattle.marks.proofs.mark_private.Tie as tie
 use Rattle.marks.proofs.mark_private.Reads as reads
 use Rattle.marks.proofs.mark_private.Lts as lts
 use Rattle.marks.proofs.mark_each.Reads as mark-each-reads
-use Rattle.marks.proofs.met_keys.Reads as met-keys-reads
+use Rattle.marks.proofs.keys.met_keys.Reads as met-keys-reads
 
 -- src/lib.rt:207:14
 slice-aggregate-met-keys : tie.Need-slice-aggregate-met-keys
@@ -21,8 +21,8 @@ slice-aggregate-mark-each c = search needs
 
 -- src/lib.rt:208:5
 mark-each-requires : tie.Need-mark-each-requires
-mark-each-requires c κs = let p = c .before .before .before .before .before .before .before .before .pre in
-    (search needs, search needs, search needs, search needs, record { is = sym (p .3); keyed = λ e. c .before .before .before .met-keys .ensures })
+mark-each-requires c κs = let p = c .before .before .before .before .before .before .before .before .before .pre in
+    (search needs, search needs, search needs, search needs, search needs, record { is = sym (p .4); keyed = λ e. c .before .before .before .met-keys .ensures })
 
 -- src/lib.rt:202:1
 same-length : tie.Need-same-length

@@ -48,7 +48,7 @@ shared-slice-read-result c = search needs
 returns-2 : tie.Need-returns-2
 returns-2 c = let a = c .before .before .before .before .before .before .before .before .before .args in let p = c .before .before .before .before .before .before .before .before .before .pre in
     met-used (a .s .now) (a .h) (a .payload .now) (c .before .before .before .before .if1 .left)
-    (p .5 .keyed (c .before .if3 .taken) (a .h) (omega arith) (c .before .before .if2 .taken)) refl
+    (p .5 .keyed (c .before .if3 .taken) (c .before .before .if2 .taken)) refl
 
 -- src/lib.rt:156:9
 returns-3 : tie.Need-returns-3

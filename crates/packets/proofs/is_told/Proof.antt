@@ -12,11 +12,11 @@ shared-slice-read-if1 c = search needs
 
 -- src/lib.rt:206:9
 returns : tie.Need-returns
-returns c = let a = c .before .before .args in λ m e l acts dev n k b w u v. told-off m e l acts dev n b w (c .if1 .taken)
+returns c = let a = c .before .before .args in λ m p k w u v. told-off m p w (c .if1 .taken)
 
 -- src/lib.rt:201:1
 returns-2 : tie.Need-returns-2
-returns-2 c = let a = c .before .before .args in λ m e l acts dev n k b w u v. told-on m e l acts dev n b w (c .if1 .left) u v refl
+returns-2 c = let a = c .before .before .args in λ m p k w u v. told-on m p w (c .if1 .left) u v refl
 
 pub is-told-spec : {M : Type 1} → statement M
 is-told-spec = tie.close (tie.spec shared-slice-read-if1 returns returns-2)

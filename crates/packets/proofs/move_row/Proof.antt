@@ -57,7 +57,7 @@ same-length-3 c = search needs
 returns-3 : tie.Need-returns-3
 returns-3 c = let a = c .before .before .before .before .before .before .before .before .before .before .before .before .before .before .args in λ m w g r. (
   told-own m (a .s .now) (a .i) (packetOf (a .payload .now)) (a .acts .now) (a .dev) (c .before .before .before .before .before .before .before .before .before .key-at .result) w g (number-of 8 (a .s .now) (pairsAt + pairSize * a .i) (c .before .before .before .before .before .before .before .before .before .key-at .ensures) (omega arith)) _ (c .before .before .before .before .before .before .before .before .if1 .left) refl (c .before .before .before .before .is-reason .ensures m w),
-  row-own m (a .s .now) (a .i) (packetOf (a .payload .now)) (a .acts .now) (a .dev) (c .before .before .before .before .before .before .before .before .before .key-at .result) w g (number-of 8 (a .s .now) (pairsAt + pairSize * a .i) (c .before .before .before .before .before .before .before .before .before .key-at .ensures) (omega arith)) _ (c .before .before .before .before .before .before .before .before .if1 .left) refl (c .before .before .change-row .ensures m w (g .sent) r),
+  row-own m (a .s .now) (a .i) (packetOf (a .payload .now)) (a .acts .now) (a .dev) (c .before .before .before .before .before .before .before .before .before .key-at .result) w g (number-of 8 (a .s .now) (pairsAt + pairSize * a .i) (c .before .before .before .before .before .before .before .before .before .key-at .ensures) (omega arith)) _ (c .before .before .before .before .before .before .before .before .if1 .left) refl (c .before .before .change-row .ensures m w (g .sender .sent) r),
 )
 
 pub move-row-spec : {M : Type 1} → statement M

@@ -1,53 +1,72 @@
+use Prim.Native.Nat.{ℕ, _-_, _≤_}
+use mathlib.Core.Path.{_≡_, refl}
 use native.Mathlib.Omega.{arith}
 use borrow.Author.Needs.{needs}
-use Prim.Native.Nat.{_-_, _≤_, _<_}
-use mathlib.Core.Path.{_≡_, refl}
 use Rattle.model.specs.Layout.{mostPairs}
-use Rattle.packets.specs.Weakest.{weakestBelow, weakest-turn}
+use Rattle.packets.specs.Weakest.{levelAt, weakestBelow, weaker-turn, weakest-low}
 use Rattle.packets.proofs.starts.weakest.Statement.{statement}
 use Rattle.packets.proofs.starts.weakest.Tie as tie
 use Rattle.packets.proofs.starts.weakest.Reads as reads
 use Rattle.packets.proofs.starts.weakest.Lts as lts
+use Rattle.packets.proofs.starts.kept_at.Reads as kept-at-reads
 use Rattle.packets.proofs.starts.weaker.Reads as weaker-reads
 
 abbrev Inv-loop : tie.InvT-loop
-Inv-loop s i₀ j₀ i j = (j ≤ mostPairs) × (i < mostPairs) × (i ≡ weakestBelow s j)
+Inv-loop s i₀ least₀ j₀ i least j = (j ≤ mostPairs) × (i ≡ weakestBelow s j) × (least ≡ levelAt s i)
 
 abbrev μ-loop : tie.MeasureT-loop
-μ-loop s i₀ j₀ i j = mostPairs - j
+μ-loop s i₀ least₀ j₀ i least j = mostPairs - j
 
--- src/starts.rt:103:5
+-- src/starts.rt:115:9
+kept-at-requires : tie.Need-kept-at-requires Inv-loop μ-loop
+kept-at-requires c κs = search needs
+
+-- src/starts.rt:117:5
 loop-holds : tie.Need-loop-holds Inv-loop μ-loop
 unfolding weakestBelow
-loop-holds c = (omega arith, omega arith, refl)
+loop-holds c = (omega arith, refl, c .kept-at .ensures)
 
--- src/starts.rt:104:9
+-- src/starts.rt:118:37
+kept-at-requires-2 : tie.Need-kept-at-requires-2 Inv-loop μ-loop
+kept-at-requires-2 c κs = search needs
+
+-- src/starts.rt:118:13
 weaker-requires : tie.Need-weaker-requires Inv-loop μ-loop
 weaker-requires c κs = search needs
 
--- src/starts.rt:105:9
+-- src/starts.rt:121:9
 add-j : tie.Need-add-j Inv-loop μ-loop
 add-j c = omega arith
 
--- src/starts.rt:103:5
+-- src/starts.rt:117:5
 loop-less : tie.Need-loop-less Inv-loop μ-loop
 loop-less c = omega arith
 
--- src/starts.rt:103:5
+-- src/starts.rt:117:5
 loop-again : tie.Need-loop-again Inv-loop μ-loop
-loop-again c = let l = c .before .before .loop in (
-  omega arith,
-  c .weaker .ensures .0,
-  weakest-turn _ (l .j) (l .inv .2) (c .weaker .ensures .1),
-)
+loop-again c = let l = c .before .before .before .loop in let s = c .before .before .before .before .before .before .args .s .now in
+    let w = weaker-turn s (l .j) (l .i) (c .before .kept-at2 .ensures) (l .inv .2) (l .inv .1) (c .weaker .ensures .0) (c .weaker .ensures .1) in
+    (omega arith, w .0, w .1)
 
--- src/starts.rt:97:1
+-- src/starts.rt:110:1
 returns : tie.Need-returns Inv-loop μ-loop
 returns c = let l = c .before .loop in
+    let s = c .before .before .before .before .args .s .now in
     let e : l .j ≡ mostPairs = omega arith in
-    (l .inv .1, rw e at (l .inv .2))
+    let i : l .i ≡ weakestBelow s mostPairs = rw e at (l .inv .1) in
+    (omega (arith, weakest-low s 63), i, l .inv .2)
 
 pub weakest-spec : {M : Type 1} → statement M
 weakest-spec =
     tie.close
-    (tie.spec Inv-loop μ-loop loop-holds weaker-requires add-j loop-less loop-again returns)
+    (tie.spec
+    Inv-loop
+    μ-loop
+    kept-at-requires
+    loop-holds
+    kept-at-requires-2
+    weaker-requires
+    add-j
+    loop-less
+    loop-again
+    returns)

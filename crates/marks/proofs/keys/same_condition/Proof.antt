@@ -8,8 +8,8 @@ use Rattle.marks.specs.Fields.{clamped}
 use Rattle.marks.specs.Monitors.{alike}
 use mathlib.Core.Bool.{false≢true}
 use borrow.Author.Needs.{needs}
-use Rattle.marks.proofs.same_condition.Statement.{statement}
-use Rattle.marks.proofs.same_condition.Tie as tie
+use Rattle.marks.proofs.keys.same_condition.Statement.{statement}
+use Rattle.marks.proofs.keys.same_condition.Tie as tie
 
 mul-a : tie.Need-mul-a
 mul-a c = search needs

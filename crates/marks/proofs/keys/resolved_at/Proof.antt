@@ -7,10 +7,10 @@ use Rattle.marks.specs.Fields.{clamped}
 use Rattle.marks.specs.Keyed.{key-asked}
 use Rattle.model.specs.Layout.{monitorSize, monitorsAt}
 use borrow.Author.Needs.{needs}
-use Rattle.marks.proofs.resolved_at.Statement.{statement}
-use Rattle.marks.proofs.resolved_at.Tie as tie
-use Rattle.marks.proofs.resolved_at.Reads as reads
-use Rattle.marks.proofs.resolved_at.Lts as lts
+use Rattle.marks.proofs.keys.resolved_at.Statement.{statement}
+use Rattle.marks.proofs.keys.resolved_at.Tie as tie
+use Rattle.marks.proofs.keys.resolved_at.Reads as reads
+use Rattle.marks.proofs.keys.resolved_at.Lts as lts
 use Rattle.octets.proofs.at_most.Reads as at-most-reads
 use Rattle.resolve.proofs.resolves.Reads as resolves-reads
 

@@ -1,0 +1,189 @@
+-- Which handles are asked of a packet, and that the others matter to nothing: a handle whose pair of the packet's device is not held can
+-- only start one, and that asks for an RSSI of at least the high threshold. Document 01, Watching, by history. Assumes nothing.
+use Prim.Native.Nat.{ℕ, _+_, _*_, _<_}
+use mathlib.Core.Path.{_≡_, refl, sym, ap, _∙_}
+use mathlib.Core.Bool.{Bool, true, false, _&&_, _||_, not, false≢true}
+use mathlib.Core.List.{List, [], _∷_}
+use native.Mathlib.Omega.{arith}
+use lib.Dec.{leb, eqb}
+use lib.Signed.{leZ}
+use lib.ListN.{length, drop, getD}
+use borrow.Author.Tests.{eq-eqb, ne-eqb}
+use Rattle.laws.specs.Tests.{pick, pick-true, pick-false, and-right, and-both, and-not-left, and-not-right}
+use Rattle.laws.specs.Loops.{upTo}
+use Rattle.laws.specs.Rows.{row, put-whole}
+use Rattle.laws.specs.Put.{put}
+use Rattle.rule.specs.Engine.{find}
+use Rattle.blocks.specs.Tables.{places-same}
+use Rattle.blocks.specs.Facts.{SoundModel}
+use Rattle.model.specs.Level.{level, dBm}
+use Rattle.model.specs.Levels.{most-levels}
+use Rattle.model.specs.Types.{Model, Packet}
+use Rattle.model.specs.Frames.{packetOf}
+use Rattle.model.specs.Monitors.{matches, strong}
+use Rattle.model.specs.Image.{monitorFrom, monitorIn}
+use Rattle.model.specs.Block.{inUse, padded}
+use Rattle.marks.specs.Marks.{flag, opens, mark, markOf, markRow, marksAt, mark-opens, marks-padded, getD-marks, length-singles, getD-singles}
+use Rattle.marks.specs.Fields.{Framed, fitsFor, facts-fits}
+use Rattle.marks.specs.Monitors.{row-field}
+use Rattle.model.specs.Layout.{blockSize, highAt, monitorSize, monitorsAt, mostMonitors}
+
+-- the octet of a handle that is asked, 0 of another; those of all 16
+unfoldable pub markIf : ℕ → ℕ → ℕ
+markIf ask a = pick (eqb ask 0) 0 a
+
+unfoldable pub marksIf : List ℕ → List ℕ → Packet → List ℕ
+marksIf asked s p = upTo (λ h. markIf (getD asked h 0) (markRow (row monitorSize h (drop monitorsAt s)) p) ∷ []) mostMonitors
+
+-- an octet where it can matter: its handle's pair is held, or it may start one
+unfoldable pub spared : ℕ → ℕ → ℕ
+spared held a = pick (not (eqb held 0) || opens a) a 0
+
+unfoldable pub marksFor : List ℕ → List ℕ → Packet → List ℕ
+marksFor held s p = upTo (λ h. spared (getD held h 0) (markRow (row monitorSize h (drop monitorsAt s)) p) ∷ []) mostMonitors
+
+-- whether a handle is asked, as a number: its pair is held, or the packet's level is not below the high threshold's
+unfoldable pub askAt : List ℕ → ℕ → ℕ → ℕ → ℕ
+askAt s h held strength = flag (not (eqb held 0) || leb (level (getD s (monitorsAt + monitorSize * h + highAt) 0)) strength)
+
+unfoldable pub askedOf : List ℕ → List ℕ → ℕ → List ℕ
+askedOf held s strength = upTo (λ h. askAt s h (getD held h 0) strength ∷ []) mostMonitors
+
+-- what the octets are written from, and what stands in their place after a call that wrote them or refused
+unfoldable pub heldFit : List ℕ → List ℕ → List ℕ → List ℕ → Bool
+heldFit held acts s l = eqb (length held) mostMonitors && fitsFor (length acts) s l
+
+unfoldable pub markedFor : Bool → List ℕ → List ℕ → List ℕ → List ℕ → List ℕ
+markedFor t held acts s l = pick t (marksFor held s (packetOf l)) acts
+
+-- a monitor that is not asked would start nothing, and one that is asked says what it says
+row-opens : (r : List ℕ) (p : Packet) → opens (markRow r p) ≡ true → strong (monitorIn r .1) p ≡ true
+unfolding markRow opens pick
+row-opens r p = go (inUse r)
+  where
+    go : (t : Bool) → opens (pick t (markOf (monitorIn r .1) p) 0) ≡ true → strong (monitorIn r .1) p ≡ true
+    go true e = and-right (matches (monitorIn r .1) p) _ (sym (mark-opens (monitorIn r .1) p) ∙ e)
+    go false e = absurd (false≢true e)
+
+row-weak : (r : List ℕ) (p : Packet) → strong (monitorIn r .1) p ≡ true → opens (markRow r p) ≡ false → markRow r p ≡ 0
+unfolding markRow markOf opens pick
+row-weak r p s = go (inUse r)
+  where
+    no : (m : Bool) → (m && strong (monitorIn r .1) p) ≡ false → m ≡ false
+    no false e = refl
+    no true e = absurd (false≢true (sym e ∙ s))
+
+    go : (t : Bool) → opens (pick t (markOf (monitorIn r .1) p) 0) ≡ false → pick t (markOf (monitorIn r .1) p) 0 ≡ 0
+    go true e = pick-false _ 0 (no (matches (monitorIn r .1) p) (sym (mark-opens (monitorIn r .1) p) ∙ e))
+    go false e = refl
+
+sparing : (w s : Bool) (a : ℕ) → (opens a ≡ true → s ≡ true) → (s ≡ true → opens a ≡ false → a ≡ 0)
+    → pick (eqb (flag (w || s)) 0) 0 a ≡ pick (w || opens a) a 0
+unfolding pick flag
+sparing true s a f g = refl
+sparing false true a f g = go (opens a) refl
+  where
+    go : (t : Bool) → opens a ≡ t → a ≡ pick t a 0
+    go true e = refl
+    go false e = g refl e
+sparing false false a f g = go (opens a) refl
+  where
+    go : (t : Bool) → opens a ≡ t → 0 ≡ pick t a 0
+    go true e = absurd (false≢true (f e))
+    go false e = refl
+
+-- the octets of the handles that are asked are those that can matter
+pub asked-for : (held s : List ℕ) (p : Packet) → marksIf (askedOf held s (level (p .rssi))) s p ≡ marksFor held s p
+unfolding marksIf marksFor markIf spared askedOf askAt strong monitorIn monitorFrom
+asked-for held s p = places-same _ _ mostMonitors (λ h b. ap (λ (n : ℕ). n ∷ []) (at h b))
+  where
+    at : (h : ℕ) → h < mostMonitors → markIf (getD (askedOf held s (level (p .rssi))) h 0) (markRow (row monitorSize h (drop monitorsAt s)) p)
+        ≡ spared (getD held h 0) (markRow (row monitorSize h (drop monitorsAt s)) p)
+    at h b =
+        let r : List ℕ = row monitorSize h (drop monitorsAt s) in
+        let k : Bool = not (eqb (getD held h 0) 0) in
+        let x : leb (level (getD s (monitorsAt + monitorSize * h + highAt) 0)) (level (p .rssi)) ≡ strong (monitorIn r .1) p =
+        sym (ap (λ (o : ℕ). leZ (dBm o) (dBm (p .rssi))) (row-field s h highAt (omega arith))
+        ∙ most-levels (getD s (monitorsAt + monitorSize * h + highAt) 0) (p .rssi)) in
+        ap (λ (n : ℕ). pick (eqb n 0) 0 (markRow r p))
+        (getD-singles (λ h. askAt s h (getD held h 0) (level (p .rssi))) mostMonitors h b ∙ ap (λ (t : Bool). flag (k || t)) x)
+        ∙ sparing k (strong (monitorIn r .1) p) (markRow r p) (row-opens r p) (row-weak r p)
+
+-- one of them
+pub ask-is : (held s : List ℕ) (strength h : ℕ) → h < mostMonitors → getD (askedOf held s strength) h 0 ≡ askAt s h (getD held h 0) strength
+unfolding askedOf
+ask-is held s strength h b = getD-singles (λ j. askAt s j (getD held j 0) strength) mostMonitors h b
+
+pub ask-said : (held s : List ℕ) (strength h : ℕ) {x : ℕ} → h < mostMonitors → x ≡ askAt s h (getD held h 0) strength
+    → x ≡ getD (askedOf held s strength) h 0
+ask-said held s strength h b e = e ∙ sym (ask-is held s strength h b)
+
+-- all handles asked
+pub all-asked : (held s : List ℕ) (strength : ℕ) (p : Packet) → ((h : ℕ) → h < mostMonitors → getD held h 0 ≡ 1)
+    → marksIf (askedOf held s strength) s p ≡ marksAt s p
+unfolding marksIf marksAt markIf pick askAt flag
+all-asked held s strength p f = places-same _ _ mostMonitors
+    (λ h b. ap (λ (n : ℕ). pick (eqb n 0) 0 (markRow (row monitorSize h (drop monitorsAt s)) p) ∷ [])
+    (ask-is held s strength h b ∙ ap (λ (k : ℕ). flag (not (eqb k 0) || leb (level (getD s (monitorsAt + monitorSize * h + highAt) 0)) strength)) (f h b)))
+
+-- the octets of a sound block, handle by handle
+pub spared-padded : (m : Model) (p : Packet) → SoundModel m → (held : List ℕ) (h : ℕ) → h < mostMonitors
+    → getD (marksFor held (padded m) p) h 0 ≡ spared (getD held h 0) (mark (find (m .mons) h) p)
+unfolding marksFor marksAt
+spared-padded m p f held h b =
+    let g : ℕ → ℕ = λ j. markRow (row monitorSize j (drop monitorsAt (padded m))) p in
+    getD-singles (λ j. spared (getD held j 0) (g j)) mostMonitors h b
+    ∙ ap (spared (getD held h 0)) (sym (getD-singles g mostMonitors h b) ∙ ap (λ (l : List ℕ). getD l h 0) (marks-padded m p f)
+    ∙ getD-marks (m .mons) p h b)
+
+-- such an octet is the handle's own, or it is 0 and the handle starts nothing
+pub spared-held : (k a : ℕ) → (k ≡ 0 → ⊥) → spared k a ≡ a
+unfolding spared
+spared-held k a n = pick-true a 0 (ap (λ (t : Bool). not t || opens a) (ne-eqb k 0 n))
+
+pub spared-opens : (k a : ℕ) → opens (spared k a) ≡ opens a
+unfolding spared opens pick
+spared-opens k a = go (eqb k 0) (opens a) refl
+  where
+    go : (t b : Bool) → opens a ≡ b → opens (pick (not t || b) a 0) ≡ b
+    go false b e = e
+    go true true e = e
+    go true false e = refl
+
+pub spared-open : (k a : ℕ) → opens a ≡ true → spared k a ≡ a
+unfolding spared
+spared-open k a e = go (not (eqb k 0))
+  where
+    go : (t : Bool) → pick (t || opens a) a 0 ≡ a
+    go true = pick-true a 0 refl
+    go false = pick-true a 0 e
+
+-- the end of the loop that writes them
+pub marks-if-end : (asked s : List ℕ) (p : Packet) (l : List ℕ) → length l ≡ mostMonitors → put l 0 (marksIf asked s p) ≡ marksIf asked s p
+unfolding marksIf
+marks-if-end asked s p l n =
+    put-whole l _ (n ∙ sym (length-singles (λ h. markIf (getD asked h 0) (markRow (row monitorSize h (drop monitorsAt s)) p)) mostMonitors))
+
+-- what a call says
+module _ (held acts s l : List ℕ) where
+  pub held-short : (length held ≡ mostMonitors → ⊥) → (false ≡ heldFit held acts s l) × (acts ≡ markedFor false held acts s l)
+  unfolding heldFit markedFor pick
+  held-short n = (sym (and-not-left _ _ (ne-eqb (length held) mostMonitors n)), refl)
+
+  pub held-not : {t : Bool} → t ≡ fitsFor (length acts) s l → t ≡ false
+      → (false ≡ heldFit held acts s l) × (acts ≡ markedFor false held acts s l)
+  unfolding heldFit markedFor pick
+  held-not e z = (sym (and-not-right (eqb (length held) mostMonitors) _ (sym e ∙ z)), refl)
+
+  pub held-done : {t : Bool} {x : List ℕ} → length held ≡ mostMonitors → t ≡ fitsFor (length acts) s l → t ≡ true
+      → x ≡ marksFor held s (packetOf l) → (true ≡ heldFit held acts s l) × (x ≡ markedFor true held acts s l)
+  unfolding heldFit markedFor pick
+  held-done n e z q = (sym (and-both (eq-eqb (length held) mostMonitors n) (sym e ∙ z)), q)
+
+  -- the octets, where the lengths are right
+  pub held-of : {t : Bool} {x : List ℕ} → length held ≡ mostMonitors → length acts ≡ mostMonitors → length s ≡ blockSize → Framed l
+      → (t ≡ heldFit held acts s l) × (x ≡ markedFor t held acts s l) → x ≡ marksFor held s (packetOf l)
+  unfolding heldFit markedFor
+  held-of {t} {x} n a b f e =
+      let u : t ≡ true = e .0 ∙ and-both (eq-eqb (length held) mostMonitors n) (facts-fits (length acts) s l a b f) in
+      e .1 ∙ pick-true (marksFor held s (packetOf l)) acts u
