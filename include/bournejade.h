@@ -22,9 +22,10 @@
  * deliver. Before more is appended, the journal is cut behind its last LF. docs/OPERATIONS.md says why,
  * examples/gateway does it, docs/FORMATS.md has the formats octet by octet.
  *
- * What a call needs. Octets of stack, measured over journals (reference/stack): write_line none, save 209, submit
- * 872, submit_line 1,416, replay and replay_to 1,528, begin 5,272, restore 16,321. No memory beside that and the
- * caller's buffers: a state of 5,802 octets, outputs of 2,880, 10,698 and 527. The code is 33 KB and reentrant. By the
+ * What a call needs. Octets of stack, measured over journals (reference/stack): write_line none, save 977, submit
+ * 2,680, submit_line 2,936, replay and replay_to 3,064 (1,496, 1,752 and 1,880 where no monitor has a key), begin
+ * 5,272, restore 17,089. No memory beside that and the caller's buffers: a state of 5,802 octets, outputs of 2,880,
+ * 10,698 and 527. The code is 39 KB and reentrant. By the
  * System V calling convention it uses the general registers and those of SSE2 (xmm0 to xmm15), no x87, MMX or AVX: a
  * kernel or an interrupt handler saves these first. Every call's work is bounded, that of the replays by the length
  * of the journal. Its time may depend on all that it is given: where a monitor's condition is a key (type 3), tables
