@@ -71,4 +71,5 @@ def main():
     print("%d lines in %d definitions" % (sum(len(found[k][0]) for k in seen), len(seen)))
 
 
-main()
+if __name__ == "__main__":
+    main()

@@ -1,6 +1,6 @@
 /*
- * What include/bournejade.h says of sizes, refusals, NULL with length 0, and replay as far as a frame, tried on the
- * library. It ends with 1 at the first that is not so.
+ * What include/bournejade.h says of sizes, refusals, NULL with length 0, replay as far as a frame, rows and events,
+ * tried on the library. It ends with 1 at the first that is not so.
  */
 #include <bournejade.h>
 #include <stdio.h>
@@ -10,7 +10,7 @@
 enum { FRAMES = 60, IMAGE_AFTER = 12, ROOM = FRAMES * BOURNEJADE_ANSWER_SIZE };
 
 static char journal[FRAMES * BOURNEJADE_LINE_SIZE];
-static size_t starts[FRAMES + 2], answers[FRAMES + 2];
+static bournejade_size starts[FRAMES + 2], answers[FRAMES + 2];
 static uint8_t unbroken[ROOM], out[ROOM], image[BOURNEJADE_IMAGE_SIZE];
 static bournejade_state state, after_image, standby;
 
@@ -22,10 +22,15 @@ static void must(int holds, const char *words)
     }
 }
 
-/* Executes the lines of standard input, and keeps where each and its answer begin. An image after frame 12. */
-static size_t gateway(void)
+static int same(const uint8_t *a, const uint8_t *b, bournejade_size size)
 {
-    size_t wrote, size = 0;
+    return memcmp(a, b, (size_t)size) == 0;
+}
+
+/* Executes the lines of standard input, and keeps where each and its answer begin. An image after frame 12. */
+static bournejade_size gateway(void)
+{
+    bournejade_size wrote, size = 0;
     must(bournejade_begin(&state, 0xFC1E, (const uint8_t *)"MS", 2) == 0, "settings in range");
     for (uint32_t n = 1; n <= FRAMES; n++) {
         char *line = journal + starts[n];
@@ -47,16 +52,16 @@ static void replay_to(uint32_t last)
 {
     const uint8_t *lines = (const uint8_t *)journal + starts[5];
     uint32_t end = last < IMAGE_AFTER ? IMAGE_AFTER : last;
-    size_t all = starts[FRAMES + 1] - starts[5], taken, wrote, more, rest;
+    bournejade_size all = starts[FRAMES + 1] - starts[5], taken, wrote, more, rest;
     standby = after_image;
     must(bournejade_replay_to(&standby, last, lines, all, out, sizeof out, &taken, &wrote) == 0, "as far as a frame");
     must(bournejade_position(&standby) == end, "it stops at the frame");
     must(taken == (last <= IMAGE_AFTER ? 0 : starts[last + 1] - starts[5]), "it stops behind the frame's line");
     must(wrote == answers[end + 1] - answers[IMAGE_AFTER + 1] &&
-         memcmp(out, unbroken + answers[IMAGE_AFTER + 1], wrote) == 0, "the answers up to the frame");
+         same(out, unbroken + answers[IMAGE_AFTER + 1], wrote), "the answers up to the frame");
     must(bournejade_replay(&standby, lines + taken, all - taken, out + wrote, sizeof out - wrote, &more, &rest) == 0 &&
          taken + more == all && wrote + rest == answers[FRAMES + 1] - answers[IMAGE_AFTER + 1] &&
-         memcmp(out, unbroken + answers[IMAGE_AFTER + 1], wrote + rest) == 0 &&
+         same(out, unbroken + answers[IMAGE_AFTER + 1], wrote + rest) &&
          memcmp(&standby, &state, sizeof state) == 0, "it goes on behind it");
 }
 
@@ -64,7 +69,7 @@ static void replay_to(uint32_t last)
 static void refusals(void)
 {
     uint8_t tick[] = {3, 0, 0, 0, 0};
-    size_t wrote;
+    bournejade_size wrote;
     standby = state;
     must(bournejade_submit(&state, tick, 5, out, sizeof out, &wrote) == BOURNEJADE_SEEN, "number 0");
     tick[1] = FRAMES + 2;
@@ -82,7 +87,7 @@ static void refusals(void)
 /* NULL with length 0 is an empty buffer, wherever a call reads one. */
 static void nulls(void)
 {
-    size_t wrote = 9, taken = 9;
+    bournejade_size wrote = 9, taken = 9;
     standby = state;
     must(bournejade_submit(&standby, NULL, 0, out, sizeof out, &wrote) == BOURNEJADE_NOT_A_LINE && wrote == 0 &&
          bournejade_submit_line(&standby, NULL, 0, out, sizeof out, &wrote) == BOURNEJADE_NOT_A_LINE &&
@@ -97,6 +102,65 @@ static void nulls(void)
     must(bournejade_begin(&standby, 0xFC1E, NULL, 0) == 0, "an empty prefix");
 }
 
+/* The journal counted: the answers and the state of the unbroken run, rows that are not empty; then the refusals of the call. */
+static void rows(void)
+{
+    static bournejade_row table[BOURNEJADE_ROWS], before[BOURNEJADE_ROWS], full[BOURNEJADE_ROWS];
+    uint64_t all = 0;
+    bournejade_size wrote;
+    must(sizeof(bournejade_row) == 32, "a row is of 32 octets");
+    must(bournejade_begin(&standby, 0xFC1E, (const uint8_t *)"MS", 2) == 0, "settings in range");
+    for (int h = 0; h < BOURNEJADE_ROWS; h++)
+        full[h].packets = full[h].reports = full[h].ticks = UINT64_MAX;
+    for (uint32_t n = 1; n <= FRAMES; n++) {
+        const uint8_t *line = (const uint8_t *)journal + starts[n];
+        bournejade_size size = starts[n + 1] - starts[n];
+        uint8_t refused = bournejade_count_line(&standby, line, size, out, BOURNEJADE_ANSWER_SIZE, &wrote, table, 15);
+        must(refused == BOURNEJADE_SHORT && wrote == 0, "a table of fifteen rows");
+        memcpy(before, full, sizeof full);
+        after_image = standby;
+        refused = bournejade_count_line(&standby, line, size, out, BOURNEJADE_ANSWER_SIZE, &wrote, full, BOURNEJADE_ROWS);
+        must(refused == 0 || refused == BOURNEJADE_TOTAL, "a full table");
+        must(memcmp(full, before, sizeof full) == 0, "full rows stay");
+        standby = after_image;
+        refused = bournejade_count_line(&standby, line, size, out, BOURNEJADE_ANSWER_SIZE, &wrote, table, BOURNEJADE_ROWS);
+        must(refused == 0 && wrote == answers[n + 1] - answers[n] && same(out, unbroken + answers[n], wrote),
+             "the same answer with rows");
+    }
+    must(memcmp(&standby, &state, sizeof state) == 0, "the same state with rows");
+    for (int h = 0; h < BOURNEJADE_ROWS; h++)
+        all += table[h].packets + table[h].reports + table[h].ticks;
+    must(all > 0, "rows that count");
+    must(bournejade_count_line(&standby, NULL, 0, out, sizeof out, &wrote, NULL, 0) == BOURNEJADE_SHORT &&
+         bournejade_count_line(&standby, NULL, 0, out, sizeof out, &wrote, table, BOURNEJADE_ROWS) ==
+             BOURNEJADE_NOT_A_LINE, "no rows, no line");
+}
+
+/* The events of every answer: as many octets as the answer has, none where it is cut, none behind it. */
+static void events(void)
+{
+    for (uint32_t n = 1; n <= FRAMES; n++) {
+        const uint8_t *answer = unbroken + answers[n];
+        bournejade_size size = answers[n + 1] - answers[n], at = 0, next, last = 0;
+        for (; (next = bournejade_event(answer, size, at)) != 0; at = next) {
+            must(next == at + 2 + answer[at + 1], "an event ends behind its parameters");
+            last = at;
+        }
+        must(at == size, "the events are the answer");
+        must(size == 0 || bournejade_event(answer, size - 1, last) == 0, "a cut event");
+    }
+    must(bournejade_event(NULL, 0, 0) == 0 && bournejade_event(unbroken, 2, UINT64_MAX) == 0, "no event");
+}
+
+/* Every refusal has a name of its own. */
+static void names(void)
+{
+    static const uint8_t numbers[] = {0, 1, 2, 3, 4, 5, 6, 7, 9, 10, 12, 13, 14, 15, 8};
+    for (size_t i = 0; i < sizeof numbers; i++)
+        for (size_t j = 0; j < i; j++)
+            must(strcmp(bournejade_refusal_name(numbers[i]), bournejade_refusal_name(numbers[j])) != 0, "names");
+}
+
 int main(void)
 {
     must(bournejade_version() == BOURNEJADE_VERSION && bournejade_state_size() == sizeof state &&
@@ -108,6 +172,9 @@ int main(void)
         replay_to(last);
     refusals();
     nulls();
-    puts("header: sizes, refusals, NULL, replay as far as a frame");
+    rows();
+    events();
+    names();
+    puts("header: sizes, refusals and their names, NULL, replay as far as a frame, rows, events");
     return 0;
 }

@@ -83,7 +83,7 @@ def main():
     words = sys.argv[2:] if TIME else sys.argv[1:]
     cost = nanoseconds if TIME else instructions
     programs = [[words[0]]] + ([[words[1], "replay"]] if len(words) > 1 else [])
-    image = "A00000000000" + OPCODE.to_bytes(2, "little").hex().upper() + "024D53\nAF0000\n"
+    image = "A00000000000" + OPCODE.to_bytes(2, "little").hex().upper() + "024D53\nA400000000024D53\nAF0000\n"
     with tempfile.TemporaryDirectory() as folder:
         print("| line | monitors | pairs |", " | ".join(os.path.basename(p[0]) for p in programs), "| ratio |" if len(programs) > 1 else "")
         for tail, monitors, pairs in (("tick", 1, 0), ("tick", 1, 8), ("tick", 1, 64), ("watched", 1, 8), ("watched", 1, 64), ("watched", 16, 64),

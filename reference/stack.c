@@ -1,26 +1,28 @@
 /*
- * Octets of stack that each call of the library needs: a call runs on a stack of its own that was filled with one octet,
- * and what is no longer that octet was used. Frames come as lines on standard input; LD_BIND_NOW=1 keeps the dynamic
- * linker's own use out of the figures.
+ * Octets of stack that each call of the library needs: what lies below the caller's own part of the stack is filled
+ * with one octet before a call, and what is no longer that octet after it was used. Frames come as lines on standard
+ * input; LD_BIND_NOW=1 keeps the dynamic linker's own use out of the figures.
  */
 #include <bournejade.h>
 #include <stdio.h>
 #include <string.h>
-#include <ucontext.h>
 
-enum { BEGIN, SUBMIT, SUBMIT_LINE, WRITE_LINE, REPLAY_TO, REPLAY, SAVE, RESTORE, NOTHING, FILL = 0x5A };
+enum { BEGIN, SUBMIT, SUBMIT_LINE, COUNT_LINE, TOTAL, WRITE_LINE, REPLAY_TO, REPLAY, SAVE, RESTORE, NOTHING };
+enum { FILL = 0x5A, ROOM = 1 << 16 };
 
-static const char *const names[] = {"begin", "submit", "submit_line", "write_line", "replay_to", "replay", "save",
-                                    "restore"};
-static uint8_t stack[1 << 16] __attribute__((aligned(16)));
-static ucontext_t here, there;
+static const char *const names[] = {"begin", "submit", "submit_line", "count_line", "count_line, 12", "write_line", "replay_to",
+                                    "replay", "save", "restore"};
 static bournejade_state state;
+static bournejade_row rows[BOURNEJADE_ROWS];
 static uint8_t out[16384], image[BOURNEJADE_IMAGE_SIZE], frame[BOURNEJADE_FRAME_SIZE];
 static char line[BOURNEJADE_LINE_SIZE + 2];
-static size_t frame_size, line_size, image_size, wrote, taken, most[NOTHING + 1];
+static bournejade_size frame_size, line_size, image_size, wrote, taken;
+static size_t most[NOTHING + 1];
 static int which;
+static uintptr_t lowest;
 
-static void call(void)
+/* Not inlined, so that this and the two functions below begin at the same place of the stack. */
+__attribute__((noinline)) static void call(void)
 {
     const uint8_t *text = (const uint8_t *)line;
     if (which == BEGIN)
@@ -29,6 +31,8 @@ static void call(void)
         bournejade_submit(&state, frame, frame_size, out, sizeof out, &wrote);
     else if (which == SUBMIT_LINE)
         bournejade_submit_line(&state, text, line_size, out, sizeof out, &wrote);
+    else if (which == COUNT_LINE || which == TOTAL)
+        bournejade_count_line(&state, text, line_size, out, sizeof out, &wrote, rows, BOURNEJADE_ROWS);
     else if (which == WRITE_LINE)
         bournejade_write_line(frame, frame_size, out, sizeof out, &wrote);
     else if (which == REPLAY_TO)
@@ -41,21 +45,33 @@ static void call(void)
         bournejade_restore(&state, image, image_size);
 }
 
+__attribute__((noinline)) static void fill(void)
+{
+    volatile uint8_t room[ROOM];
+    for (size_t i = 0; i < ROOM; i++)
+        room[i] = FILL;
+    lowest = (uintptr_t)room;
+}
+
+/* How many octets at the lowest end are as they were filled. */
+__attribute__((noinline)) static size_t unused(void)
+{
+    const volatile uint8_t *room = (const volatile uint8_t *)lowest;
+    size_t i = 0;
+    while (i < ROOM && room[i] == FILL)
+        i++;
+    return i;
+}
+
 static void measure(int k)
 {
-    size_t i = 0;
+    size_t used;
     which = k;
-    memset(stack, FILL, sizeof stack);
-    getcontext(&there);
-    there.uc_stack.ss_sp = stack;
-    there.uc_stack.ss_size = sizeof stack;
-    there.uc_link = &here;
-    makecontext(&there, call, 0);
-    swapcontext(&here, &there);
-    while (i < sizeof stack && stack[i] == FILL)
-        i++;
-    if (sizeof stack - i > most[k])
-        most[k] = sizeof stack - i;
+    fill();
+    call();
+    used = ROOM - unused();
+    if (used > most[k])
+        most[k] = used;
 }
 
 /* One line by each call that takes it, each from the same state; the last one keeps its effect. */
@@ -70,6 +86,12 @@ static void one_line(void)
     measure(SUBMIT);
     state = before;
     measure(SUBMIT_LINE);
+    state = before;
+    memset(rows, 0, sizeof rows);
+    measure(COUNT_LINE);
+    state = before;
+    memset(rows, 0xFF, sizeof rows);
+    measure(TOTAL);
     state = before;
     measure(REPLAY_TO);
     state = before;
@@ -87,6 +109,6 @@ int main(void)
     measure(SAVE);
     measure(RESTORE);
     for (int k = 0; k < NOTHING; k++)
-        printf("%s %zu\n", names[k], most[k] - most[NOTHING]);
+        printf("%s %lu\n", names[k], (unsigned long)(most[k] - most[NOTHING]));
     return 0;
 }

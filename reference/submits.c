@@ -10,7 +10,7 @@
 
 static bournejade_state state;
 static uint8_t out[BOURNEJADE_ANSWER_SIZE];
-static size_t wrote;
+static bournejade_size wrote;
 static uint32_t number;
 
 static void give(uint8_t kind, const uint8_t *payload, size_t size)

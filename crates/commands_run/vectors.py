@@ -27,7 +27,8 @@ def run(*words):
 
 def fresh(prefix, filter_on=0):
     head = bytes(4) + bytes([filter_on]) + octets("1EFC") + bytes([len(prefix)]) + prefix
-    return "A0" + head.hex().upper() + "\nAF0000\n"
+    first = bytes(4) + bytes([len(prefix)]) + prefix
+    return "A0" + head.hex().upper() + "\nA4" + first.hex().upper() + "\nAF0000\n"
 
 
 def replayed(image, commands):
@@ -44,7 +45,12 @@ def replayed(image, commands):
         for path, text in zip(paths, (image, "".join(lines))):
             with open(path, "w", encoding="ascii") as file:
                 file.write(text)
-        return run("replay", *paths)
+        return without_editions(run("replay", *paths))
+
+
+def without_editions(text):
+    """The text without its A4 lines: the program runs on the core of a block, which has no editions."""
+    return "".join(line + "\n" for line in text.splitlines() if not line.startswith("A4"))
 
 
 def poke(at, row):
@@ -70,7 +76,7 @@ def session(image, commands):
         elif text.startswith("A3"):
             lines.append(poke(PAIRS + PAIR * pairs, row))
             pairs += 1
-        else:
+        elif text.startswith("AF"):
             lines.append(poke(COUNT, row[1:]))
     lines += ["02" + params.hex().upper() + "\n" for params in commands]
     return "".join(lines + ["03\n"])
@@ -194,7 +200,8 @@ def with_pairs(count):
             with open(os.path.join(folder, name), encoding="ascii") as file:
                 image = file.read()
             handles = [line[2:4] for line in image.split() if line.startswith("A3")]
-            if len(handles) > 2 and len(set(handles)) > 1 and has_numbers(image):
+            one = sum(line.startswith("A4") for line in image.split()) == 1
+            if len(handles) > 2 and len(set(handles)) > 1 and has_numbers(image) and one:
                 images.append(image)
         images.sort(key=len)
         step = max(1, len(images) // count)

@@ -16,16 +16,16 @@ fn digest(octets: &[u8]) -> u64 {
     octets.iter().fold(0, |d, &o| mix(d, o as u64))
 }
 
-/// The block of a restored state without its index: restore_run is given the core alone.
-fn core(engine: &Timers) -> Vec<u8> {
-    block::of(&engine.state()).expect("the block of a restored state")[..block::CORE].to_vec()
+/// The whole block of a restored state.
+fn whole(engine: &Timers) -> Vec<u8> {
+    block::of(&engine.state()).expect("the block of a restored state").to_vec()
 }
 
 /// 0 where a text is refused, else a digest of the block and of its text.
 fn answer(text: &[u8]) -> u64 {
     let mut engine = Timers::default();
     match engine.restore(text) {
-        Ok(()) => 1 + mix(digest(&core(&engine)), digest(&image::text(&engine.state()))),
+        Ok(()) => 1 + mix(digest(&whole(&engine)), digest(&image::text(&engine.state()))),
         Err(_) => 0,
     }
 }
@@ -78,15 +78,15 @@ fn arranged(text: &[u8]) -> Vec<Vec<u8>> {
 
 fn main() {
     let folder = env::args().nth(1).expect("vectors DIR");
-    let fresh = b"A000000000001EFC024D53\nAF0000\n".to_vec();
-    let session = b"A002000000001EFC024D53\nA100C4B00300040700060504030201\n\
+    let fresh = b"A000000000001EFC024D53\nA400000000024D53\nAF0000\n".to_vec();
+    let session = b"A002000000001EFC024D53\nA400000000024D53\nA100C4B00300040700060504030201\n\
         A30000060504030201000000000000000000000000000000C40000\nAF0101\n"
         .to_vec();
-    let window = b"A003000000011EFC024D53\nA100C4B00302040700060504030201\nA10FC4B03CFE0203011218\n\
+    let window = b"A003000000011EFC024D53\nA4000000000100\nA402000000024D53\nA404000000034D5354\nA100C4B00302040700060504030201\nA10FC4B03CFE0203011218\n\
         A3000006050403020101000102000000C4FFFFFFFFFFFFFFC40302AABB\nAF0201\n"
         .to_vec();
     // Version 2 (document 02, T-13): an A5 line among A1 lines, and the packet that its pair keeps.
-    let second = b"A004000000011EFC024D53\nA100C4B00300040700060504030201\n\
+    let second = b"A004000000011EFC024D53\nA400000000024D53\nA100C4B00300040700060504030201\n\
         A502C4B0030001050103090041E1F30605040302010109090909090909090909090909090909\n\
         A10FC4B03CFE0203011218\nA30200060504030201000000000000000000000000000000C40303020941\nAF0301\n"
         .to_vec();

@@ -1,6 +1,6 @@
 """Sessions made by hand for both sides of the edges of conditions, of a line's characters and of images (document 01,
 Conditions, Lines, The image)."""
-from made import KEY, NAMED, OPCODE, SMALL, Session, address, line, long_data, of_device
+from made import KEY, NAMED, OPCODE, SMALL, Session, address, edition, line, long_data, of_device
 
 PATTERN = NAMED[2:]
 
@@ -34,9 +34,11 @@ def characters():
         yield made
 
 
-def head(filter_on=1, opcode=OPCODE, prefix=b"MS", position=9):
+def head(filter_on=1, opcode=OPCODE, prefix=b"MS", position=9, editions=None):
+    """An A0 line, and the A4 lines of the editions, the prefix's own if none are given."""
     settings = opcode + bytes([len(prefix)]) + prefix
-    return line(b"\xA0" + position.to_bytes(4, "little") + bytes([filter_on]) + settings)
+    first = line(b"\xA0" + position.to_bytes(4, "little") + bytes([filter_on]) + settings)
+    return first + (edition(prefix) if editions is None else "".join(editions))
 
 
 def monitor(handle=0, high=-60, low=-80, interval=60, sampling=4, condition=of_device(1), length=None):
@@ -65,10 +67,15 @@ def end(monitors=1, pairs=1):
     return line(bytes([0xAF, monitors, pairs]))
 
 
+def rising(count, prefix, step=1):
+    """A4 lines: so many editions of one prefix, from 0, 1 .. on."""
+    return [edition(prefix, step * i) for i in range(count)]
+
+
 def longest_image():
-    """The image of 10,698 characters."""
+    """The image of 13,162 characters."""
     condition = bytes([1, 1, 62, 9, 0]) + b"A" * 60
-    text = head(prefix=bytes(range(32)))
+    text = head(prefix=bytes(range(32)), editions=rising(32, bytes(range(32))))
     text += "".join(second(condition=condition, sampling=4, handle=handle) for handle in range(16))
     for i in range(64):
         text += pair(i % 16, device=i // 16, ticks=3, packets=1, total=-50, data=long_data(i))
@@ -150,6 +157,20 @@ IMAGES = (
     ("data length 32", head() + monitor() + pair(packets=1, data=long_data(1), length=32) + end(), False),
     ("64 pairs", head() + monitor() + "".join(pair(device=i) for i in range(64)) + end(1, 64), True),
     ("65 pairs", head() + monitor() + "".join(pair(device=i) for i in range(65)) + end(1, 65), False),
+    ("no edition", head(editions=[]) + end(0, 0), False),
+    ("the first edition from 1 on", head(editions=[edition(b"MS", 1)]) + end(0, 0), False),
+    ("the prefix of A0 is not that of its edition", head(editions=[edition(b"MT")]) + end(0, 0), False),
+    ("an edition from the position on", head(prefix=b"B", editions=[edition(b"A"), edition(b"B", 9)]) + end(0, 0), True),
+    ("an edition from the next frame on", head(prefix=b"A", editions=[edition(b"A"), edition(b"B", 10)]) + end(0, 0), True),
+    ("A0 ahead of its position", head(prefix=b"B", editions=[edition(b"A"), edition(b"B", 10)]) + end(0, 0), False),
+    ("two editions from one number", head(editions=[edition(b"MS"), edition(b"MS", 4), edition(b"MS", 4)]) + end(0, 0), False),
+    ("an edition of 32", head(prefix=bytes(32), editions=[edition(b""), edition(bytes(32), 1)]) + end(0, 0), True),
+    ("an edition of 33", head(editions=[edition(b"MS"), edition(bytes(33), 10)]) + end(0, 0), False),
+    ("32 editions", head(editions=rising(32, b"MS", 3)) + monitor() + end(1, 0), True),
+    ("33 editions", head(editions=rising(33, b"MS", 3)) + monitor() + end(1, 0), False),
+    ("an edition behind a monitor", head() + monitor() + edition(b"MS", 10) + end(1, 0), False),
+    ("three editions, used in turn", head(prefix=b"", editions=[edition(b""), edition(b"A", 10), edition(b"BC", 12)])
+     + monitor(interval=1, sampling=0) + end(1, 0), True),
     ("the longest image", longest_image(), True),
     ("one character more than the longest image", longest_image() + "\n", False),
 )

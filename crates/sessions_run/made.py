@@ -9,7 +9,7 @@ class Session:
     def __init__(self, name, prefix=b"MS", enable=None):
         self.name, self.number, self.lines, self.frames, self.stops = name, 0, [], 0, 0
         head = bytes(5) + OPCODE + bytes([len(prefix)]) + prefix
-        self.image = line(b"\xA0" + head) + line(b"\xAF\x00\x00")
+        self.image = line(b"\xA0" + head) + edition(prefix) + line(b"\xAF\x00\x00")
         if enable is not None:
             self.enable(enable)
 
@@ -56,6 +56,11 @@ class Session:
 def line(octets):
     """A line of document 01."""
     return octets.hex().upper() + "\n"
+
+
+def edition(prefix, number=0):
+    """An A4 line (document 02, T-12)."""
+    return line(b"\xA4" + number.to_bytes(4, "little") + bytes([len(prefix)]) + prefix)
 
 
 def address(device):

@@ -13,7 +13,7 @@ import tempfile
 
 sys.dont_write_bytecode = True
 from edges import characters, conditions, images
-from made import KEY, NAMED, OPCODE, PRIVATE, SMALL, Session, address, line, long_data, of_device
+from made import KEY, NAMED, OPCODE, PRIVATE, SMALL, Session, address, edition, line, long_data, of_device
 from second import filtered, options, seconds
 
 PRIME = 2**54 - 33
@@ -351,7 +351,7 @@ def counted():
             count = 2**32 - 1 - below
             pair = bytes(2) + address(1) + bytes(2) + bytes([3]) + count.to_bytes(4, "little")
             pair += (each * count).to_bytes(8, "little", signed=True) + bytes([each & 255, 0, 0])
-            made.image = line(b"\xA0" + count.to_bytes(4, "little") + b"\x01" + OPCODE + b"\x00")
+            made.image = line(b"\xA0" + count.to_bytes(4, "little") + b"\x01" + OPCODE + b"\x00") + edition(b"")
             made.image += line(b"\xA1\x00\xC4\xB0\x3C\x04\x04\x07" + of_device(1)[1:]) + line(b"\xA3" + pair)
             made.image += line(b"\xAF\x01\x01")
             made.number = count
@@ -379,7 +379,7 @@ def written(expected):
     for row in expected.splitlines():
         if len(row) < 3:
             number = int(row)
-        elif row[:2] in ("A0", "A1", "A3", "A5", "AF"):
+        elif row[:2] in ("A0", "A1", "A3", "A4", "A5", "AF"):
             image += row + "\n"
         else:
             answers += bytes.fromhex(row)
@@ -423,11 +423,11 @@ def main():
                 continue
             stem = os.path.join(folder, name[:-9])
             image, journal = read(stem + ".image"), read(stem + ".journal")
-            if len(image) + len(journal) <= SHORT:
+            if len(image) + len(journal) <= SHORT and not os.path.exists(stem + ".additions"):
                 sessions.append((image, journal))
                 lines.append(written(read(stem + ".expected").decode("ascii"))[0])
     print(len(sessions), "in all")
-    assert all(len(image) <= 10699 and len(journal) <= ROOM for image, journal in sessions)
+    assert all(len(image) <= 13163 and len(journal) <= ROOM for image, journal in sessions)
     with open("stdin", "wb") as file:
         for image, journal in sessions:
             file.write(b"%06d %06d\n" % (len(image), len(journal)) + image + journal)

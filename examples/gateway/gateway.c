@@ -22,7 +22,8 @@ static void give(const char *line)
     static uint8_t answer[BOURNEJADE_ANSWER_SIZE];
     char text[BOURNEJADE_LINE_SIZE + 1];
     uint32_t n = bournejade_position(&store.state) + 1;
-    size_t size = strlen(line), wrote;
+    size_t size = strlen(line);
+    bournejade_size wrote;
     uint8_t refusal = BOURNEJADE_NOT_A_LINE;
     if (size >= 2 && size + 9 <= BOURNEJADE_LINE_SIZE) {
         sprintf(text, "%.2s%02X%02X%02X%02X%s\n", line, n & 255U, n >> 8 & 255U, n >> 16 & 255U, n >> 24, line + 2);
@@ -35,7 +36,7 @@ static void give(const char *line)
         return;
     }
     store_line(&store, text, size + 9);
-    link_answer(n, answer, wrote);
+    link_answer(n, answer, (size_t)wrote);
 }
 
 /* The host's first line: RESET, or HAVE LIFE NUMBER: the last answer that it has. Gives the line to go on with. */

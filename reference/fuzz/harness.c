@@ -43,8 +43,8 @@ static size_t part(struct reader *r, size_t size, const uint8_t **octets)
 /* The length of an output: both sides of each edge, or a number of the input. */
 static size_t room(struct reader *r)
 {
-    static const size_t edges[] = {2880, 10698, 20480, 5760, 0,    1,    526,  527,
-                                   528,  2879, 2881,  5759, 10697, 10699, 8639, 12345};
+    static const size_t edges[] = {2880, 13162, 20480, 5760, 0,    1,    526,  527,
+                                   528,  2879, 2881,  5759, 13161, 13163, 8639, 12345};
     size_t chosen = number(r, 1) % 17;
     return chosen < 16 ? edges[chosen] : number(r, 2) % (ROOM_MOST + 1);
 }

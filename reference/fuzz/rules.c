@@ -20,7 +20,7 @@ static void look(const bournejade_state *state, uint8_t places, struct known *k)
     struct call c = {.kind = SAVE, .room = BOURNEJADE_IMAGE_SIZE, .places = places, .filler = places};
     perform(&c, state, &saved);
     k->sound = saved.number == 0;
-    hold(saved.number != BOURNEJADE_SHORT, "10,698 octets are enough for an image");
+    hold(saved.number != BOURNEJADE_SHORT, "13,162 octets are enough for an image");
     k->position = position_of(state, places);
     if (!k->sound)
         return;
@@ -33,17 +33,21 @@ static void look(const bournejade_state *state, uint8_t places, struct known *k)
     k->opcode = (uint16_t)(head[6] | head[7] << 8);
 }
 
-/* Whether a state is the fresh one of settings: its image is two lines that they alone give. */
+/* Whether a state is the fresh one of settings: its image is three lines that they alone give. */
 static int is_fresh(const bournejade_state *state, uint16_t opcode, const uint8_t *prefix, size_t size)
 {
     static struct known k;
-    uint8_t head[9 + BOURNEJADE_PREFIX_SIZE] = {0xA0, 0, 0, 0, 0, 0}, text[128];
+    uint8_t head[9 + BOURNEJADE_PREFIX_SIZE] = {0xA0, 0, 0, 0, 0, 0}, text[192];
+    uint8_t edition[6 + BOURNEJADE_PREFIX_SIZE] = {0xA4, 0, 0, 0, 0, (uint8_t)size};
     head[6] = (uint8_t)opcode;
     head[7] = (uint8_t)(opcode >> 8);
     head[8] = (uint8_t)size;
-    if (size > 0)
+    if (size > 0) {
         memcpy(head + 9, prefix, size);
+        memcpy(edition + 6, prefix, size);
+    }
     size_t length = line_of(head, 9 + size, text);
+    length += line_of(edition, 6 + size, text + length);
     memcpy(text + length, "AF0000\n", 7);
     look(state, 1, &k);
     return k.sound && k.position == 0 && k.size == length + 7 && memcmp(k.image, text, k.size) == 0;

@@ -8,7 +8,7 @@ import sys
 
 ROOT = os.path.dirname(os.path.dirname(os.path.dirname(os.path.abspath(__file__))))
 BEGIN, SUBMIT, SUBMIT_LINE, WRITE_LINE, SAVE, RESTORE, RECORDS, SAVED, REPLAY, FRAMES, OVERWRITE, KEEP = range(12)
-# Outputs of 2,880, 10,698 and 20,480 octets, by their place in harness.c's list.
+# Outputs of 2,880, 13,162 and 20,480 octets, by their place in harness.c's list.
 ANSWER, IMAGE, LONG = range(3)
 # Longer inputs are left out, but for those with the largest image.
 LONGEST = 2500
@@ -96,7 +96,9 @@ def as_calls(image, journal, places):
 def full(pattern, sampling, packets, pairs):
     """16 monitors of version 2 with conditions of 64 octets, and so many pairs. With 64, and packets, the largest image."""
     condition = bytes([1, len(pattern) + 2, 0xFF, 0]) + pattern
-    records = [bytes([0xA0]) + number(1000, 4) + b"\1\x1e\xfc" + counted(bytes(range(32)), 1)]
+    prefixes = [bytes([place] * 32) for place in range(32)]
+    records = [bytes([0xA0]) + number(1000, 4) + b"\1\x1e\xfc" + counted(prefixes[20], 1)]
+    records += [b"\xa4" + number(50 * place, 4) + counted(prefix, 1) for place, prefix in enumerate(prefixes)]
     for handle in range(16):
         added = bytes([0x21, 2]) + bytes([handle] * 6) + b"\1" + bytes(range(16))
         records.append(bytes([0xA5, handle, 0xC4, 0xB0, 60, sampling, 1]) + counted(condition, 1) + added)
@@ -111,7 +113,7 @@ def full(pattern, sampling, packets, pairs):
 
 def watched():
     """16 monitors of sampling 0, each watching its own device, the filter on; and a packet of each device."""
-    records = [bytes([0xA0]) + number(99, 4) + b"\1\x1e\xfc\0"]
+    records = [bytes([0xA0]) + number(99, 4) + b"\1\x1e\xfc\0", b"\xa4" + bytes(5)]
     devices = [bytes([0, 9, 2, 3, 4, 5, handle]) for handle in range(16)]
     records += [bytes([0xA1, handle, 0xC4, 0xB0, 3, 0, 4, 7]) + device for handle, device in enumerate(devices)]
     records += [bytes([0xA3, handle]) + device + bytes(15) + b"\xc4\0\0" for handle, device in enumerate(devices)]
@@ -135,7 +137,7 @@ def singles():
     for text in (line, line.lower(), line[:-1], line[:-1] + b"\r\n", line[1:], b"\n"):
         yield call(SUBMIT_LINE, 31, ANSWER, counted(text)) + call(SUBMIT_LINE, 0, ANSWER, counted(text))
     monitor = bytes([0, 0xC4, 0xB0, 3, 0, 4, 7])
-    blocks = (0, b"\xff\xff\xff\xfe"), (4, b"\2"), (40, monitor), (5224, b"\1"), (5224, b"A"), (5225, b"\1"), (5801, b"\1")
+    blocks = (0, b"\xff\xff\xff\xfe"), (4, b"\2"), (40, monitor), (5224, b"\1"), (5224, b"A"), (5225, b"\1"), (5801, b"\1"), (5802, b"\1"), (6986, b"\0")
     for at, put in blocks:
         damaged = call(OVERWRITE, 0, 0, number(at) + counted(put, 1))
         yield (call(KEEP, 0, 0) + damaged + call(SUBMIT, 31, ANSWER, b"\1" + counted(tick)) + call(SAVE, 0, IMAGE) +

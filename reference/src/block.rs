@@ -1,17 +1,19 @@
-//! The state as the block of 5,802 octets that the proved calls are given (docs/DESIGN.md, "The block"): the
+//! The state as the block of 6,987 octets that the proved calls are given (docs/DESIGN.md, "The block"): the
 //! fields of A0, a row for each handle, the pairs' rows in start order, their number, the
-//! index' rows (address type, address, mask), their number; the monitors' and pairs' rows hold the fields of A5
-//! (condition in 64 octets; the added ones 0 for an A1) and of A3, whatever is not in use is 0.
+//! index' rows (address type, address, mask), their number, the editions' rows, their number; the monitors', pairs' and
+//! editions' rows hold the fields of A5 (condition in 64 octets; the added ones 0 for an A1), of A3 and of A4 (prefix in
+//! 32 octets), whatever is not in use is 0.
 //!
 //! `of` and `state` undo each other: `of(&state(&b))` is `Some(b)` for any octets, and where `of(&s)` is
 //! `Some(b)`, `state(&b)` is `s`. So a block is sound exactly where its record is.
 
+use crate::edition::Edition;
 use crate::index::Entry;
-use crate::limits::{MONITORS, PAIRS};
+use crate::limits::{EDITIONS, MONITORS, PAIRS};
 use crate::state::{Device, Monitor, Pair, State};
 
 /// Octets of the block.
-pub const SIZE: usize = INDEX_COUNT_AT + 1;
+pub const SIZE: usize = EDITION_COUNT_AT + 1;
 /// Octets of it before the index: what the crates that know no index are given.
 pub const CORE: usize = INDEX_AT;
 
@@ -24,6 +26,9 @@ const COUNT_AT: usize = PAIRS_AT + PAIR_ROW * PAIRS;
 const INDEX_AT: usize = COUNT_AT + 1;
 const INDEX_ROW: usize = 9;
 const INDEX_COUNT_AT: usize = INDEX_AT + INDEX_ROW * PAIRS;
+const EDITIONS_AT: usize = INDEX_COUNT_AT + 1;
+const EDITION_ROW: usize = 37;
+const EDITION_COUNT_AT: usize = EDITIONS_AT + EDITION_ROW * EDITIONS;
 
 /// The number of monitors in the record of a block that has a row at another place than its handle's. No
 /// sound state has so many; the rows are then held as they stand in the block, one place each.
@@ -58,6 +63,13 @@ pub fn of(state: &State) -> Option<[u8; SIZE]> {
         block[row + 7..row + 9].copy_from_slice(&entry.mask.to_le_bytes());
     }
     block[INDEX_COUNT_AT] = state.index_count;
+    for (place, edition) in state.editions.iter().enumerate() {
+        let row = EDITIONS_AT + EDITION_ROW * place;
+        block[row..row + 4].copy_from_slice(&edition.from.to_le_bytes());
+        block[row + 4] = edition.length;
+        block[row + 5..row + EDITION_ROW].copy_from_slice(&edition.prefix);
+    }
+    block[EDITION_COUNT_AT] = state.edition_count;
     (self::state(&block) == *state).then_some(block)
 }
 
@@ -90,6 +102,12 @@ pub fn state(block: &[u8; SIZE]) -> State {
         Entry { device, mask: u16::from_le_bytes(part(block, row + 7)) }
     });
     state.index_count = block[INDEX_COUNT_AT];
+    state.editions = std::array::from_fn::<_, EDITIONS, _>(|i| {
+        let row = EDITIONS_AT + EDITION_ROW * i;
+        let from = u32::from_le_bytes(part(block, row));
+        Edition { from, length: block[row + 4], prefix: part(block, row + 5) }
+    });
+    state.edition_count = block[EDITION_COUNT_AT];
     state
 }
 

@@ -8,6 +8,7 @@
 use crate::aimed;
 use crate::block;
 use crate::cases::given;
+use crate::coverage::{self, Rule};
 use crate::engine::Engine;
 use crate::fault::Fault;
 use crate::generate;
@@ -61,12 +62,16 @@ pub fn scripts(seed: u64, count: usize) -> Vec<Stored> {
 }
 
 /// Is this script taken for a place? Most are short, a fourth have journals; some restore images or take up
-/// blocks, some are long, in some monitors are added while 16 are live.
+/// blocks, some are long, in some monitors are added while 16 are live, in some a duplicate for one monitor is reported for
+/// another.
 fn wanted(place: usize, calls: &[Call]) -> bool {
     let size: usize = calls.iter().map(|call| 7 + octets(call).len()).sum();
     let images = || calls.iter().any(|call| matches!(call, Call::Restore { .. } | Call::Adopt(_)));
     if place % 64 == 24 {
         return size < 5000 && crowded(calls) >= 3;
+    }
+    if place % 256 == 40 {
+        return size < 5000 && reported_elsewhere(calls);
     }
     match place % 32 {
         0 => (4000..9000).contains(&size),
@@ -74,6 +79,13 @@ fn wanted(place: usize, calls: &[Call]) -> bool {
         n if n % 4 == 1 => (600..1600).contains(&size),
         _ => size < 700,
     }
+}
+
+/// Is a duplicate for one monitor reported for another, whatever the filter is?
+fn reported_elsewhere(calls: &[Call]) -> bool {
+    coverage::take();
+    script::run(&mut Timers::default(), calls);
+    coverage::take()[Rule::DuplicateElsewhere as usize] > 0
 }
 
 /// How many frames that add a monitor are executed while 16 are live.
@@ -88,7 +100,7 @@ fn crowded(calls: &[Call]) -> usize {
     calls.iter().filter(|call| adds(call)).count()
 }
 
-/// A call; after a state that is not sound also a replay and a failover, which leave it as it is.
+/// A call; after a state that is not sound also a replay, an addition and a failover, which leave it as it is.
 fn tried(random: &mut Random, call: Call) -> Vec<Call> {
     let Call::Adopt(state) = &call else { return vec![call] };
     if timers::sound(state, Fault::None) {
@@ -97,16 +109,22 @@ fn tried(random: &mut Random, call: Call) -> Vec<Call> {
     let number = state.position.wrapping_add(random.below(2) as u32);
     let mut text = lines::write(&[&[3], &number.to_le_bytes()[..]].concat());
     text.truncate(random.pick(&[0, 10, 11, 11, 11]));
-    vec![call, Call::Replay { text }, Call::Failover]
+    let addition = Call::Edition { from: number, prefix: Vec::new() };
+    vec![call, Call::Replay { text }, addition, Call::Failover]
 }
 
-/// The script with frames that are executed or seen gathered into journals, which are replayed.
+/// The script with frames that are executed or seen gathered into journals, which are replayed. An addition between them is
+/// given before the journal.
 fn gathered(random: &mut Random, calls: &[Call]) -> Vec<Call> {
     let mut follower = Timers::default();
     let (mut made, mut text) = (Vec::new(), Vec::new());
     let mut most = random.pick(&[30, 300, 900, 2000]);
     for call in calls {
         let refusal = script::call(&mut follower, call).refusal;
+        if refusal == 0 && matches!(call, Call::Edition { .. }) {
+            made.push(call.clone());
+            continue;
+        }
         let frame = given(call).filter(|_| refusal <= 1);
         if !text.is_empty() && (frame.is_none() || text.len() > most) {
             made.push(Call::Replay { text: std::mem::take(&mut text) });
@@ -183,7 +201,7 @@ pub fn input(stored: &Stored) -> Vec<u8> {
             Call::Octets { lent, .. } | Call::Line { lent, .. } => (*lent, 0),
             Call::Save { lent } | Call::WriteLine { lent, .. } => (*lent, 0),
             Call::Failover => (IMAGE, 0),
-            Call::Restore { .. } | Call::Adopt(_) | Call::Ask(_) => (0, 0),
+            Call::Restore { .. } | Call::Adopt(_) | Call::Ask(_) | Call::Edition { .. } => (0, 0),
             Call::Replay { .. } | Call::ReplayTo { .. } => {
                 let showing = showings.next().expect("a showing for each replay");
                 (showing.lent, showing.piece)
@@ -201,7 +219,7 @@ pub fn input(stored: &Stored) -> Vec<u8> {
 }
 
 /// The names of the calls, in the order of their tags from 1.
-pub const NAMES: [&str; 11] = [
+pub const NAMES: [&str; 12] = [
     "start",
     "octets",
     "line",
@@ -213,6 +231,7 @@ pub const NAMES: [&str; 11] = [
     "adopt",
     "replay to",
     "ask",
+    "add an edition",
 ];
 
 pub(crate) fn tag(call: &Call) -> u8 {
@@ -228,6 +247,7 @@ pub(crate) fn tag(call: &Call) -> u8 {
         Call::Adopt(_) => 9,
         Call::ReplayTo { .. } => 10,
         Call::Ask(_) => 11,
+        Call::Edition { .. } => 12,
     }
 }
 
@@ -239,6 +259,7 @@ fn octets(call: &Call) -> Vec<u8> {
         Call::Line { text, .. } | Call::Restore { text } | Call::Replay { text } => text.clone(),
         Call::ReplayTo { last, text } => [&last.to_le_bytes()[..], text].concat(),
         Call::Save { .. } | Call::Failover => Vec::new(),
+        Call::Edition { from, prefix } => [&from.to_le_bytes()[..], prefix].concat(),
         Call::Ask(device) => [&[device.kind], &device.address[..]].concat(),
         Call::Adopt(state) => packed(&block::of(state).expect("states without a block were left out")),
     }

@@ -1,9 +1,9 @@
-//! Cases for programs: an image, a journal, and what is to be written; and single vectors, a line each.
+//! Single vectors, a line each.
 
 use crate::aes;
 use crate::command::{self, View};
 use crate::condition::{self, Form, Text};
-use crate::engine::{journal, write_line, Engine};
+use crate::engine::{write_line, Engine};
 use crate::fault::Fault;
 use crate::frame::{self, Packet, Payload};
 use crate::generate::{self, conditions, states, texts};
@@ -12,81 +12,10 @@ use crate::image;
 use crate::limits::{ANSWER, CONDITION};
 use crate::lines::{self, hex};
 use crate::private;
-use crate::program;
 use crate::random::Random;
 use crate::script::{self, Call};
 use crate::state::State;
 use crate::timers::Timers;
-
-/// One case in so many has addresses that change every 9,000 ticks.
-const QUARTERS: u64 = 1000;
-
-/// One case in so many has the table full from its first frames on.
-const FULL: u64 = 8;
-
-pub struct Case {
-    pub image: Vec<u8>,
-    pub journal: Vec<u8>,
-    pub expected: Vec<u8>,
-}
-
-/// The state and the calls of a case: from a sound state, where that may be, or from a start.
-pub fn calls_of(seed: u64, index: u64, from_sound: bool) -> (State, Vec<Call>) {
-    let calls = match index % QUARTERS {
-        7 => generate::quarters(seed, index),
-        place if place % FULL == 3 => generate::full(seed, index, 120),
-        _ if from_sound => return generate::session_from(seed, index, 80),
-        _ => generate::session(seed, index, 120),
-    };
-    let Call::Start { opcode, prefix } = &calls[0] else { panic!("a session starts") };
-    (State::fresh(*opcode, prefix), calls[1..].to_vec())
-}
-
-/// Case `index` of a seed: an image after some frame k of a session, the journal from some frame j, either
-/// of them damaged at times. Both engines must say the same of it.
-pub fn case(seed: u64, index: u64) -> Case {
-    let mut random = Random::of(seed ^ 0xCA5E, index);
-    let (base, calls) = calls_of(seed, index, random.percent(30));
-    let (frames, states) = unbroken(&base, &calls);
-    let k = random.below(states.len());
-    let j = match random.below(10) {
-        0..=5 => 1 + random.below(k + 1),
-        6..=7 => k + 1,
-        _ => 1 + random.below(frames.len() + 1),
-    };
-    let mut image = image::text(&states[k]);
-    let mut text = journal(&frames, j);
-    match random.below(20) {
-        0 => image = texts::damage(&mut random, &image),
-        1 => {
-            let way = random.below(states::WAYS);
-            image = states::broken(&mut random, &states[k], way).map_or(image, |state| image::text(&state));
-        }
-        2..=4 => text = texts::damage(&mut random, &text),
-        5..=6 => text.extend(&lines::write(&[3, 1, 0, 0, 0])[..random.below(11)]),
-        _ => (),
-    }
-    let expected = program::output(&mut Timers::default(), &image, &text);
-    let again = program::output(&mut History::default(), &image, &text);
-    assert_eq!(expected, again, "the engines differ: seed {seed}, case {index}");
-    Case { image, journal: text, expected }
-}
-
-/// The executed frames of a session from this state, and the states before and after each.
-fn unbroken(base: &State, calls: &[Call]) -> (Vec<Vec<u8>>, Vec<State>) {
-    let mut engine = Timers::default();
-    engine.adopt(base);
-    let (mut frames, mut states) = (Vec::new(), vec![base.clone()]);
-    for call in calls {
-        let outcome = script::call(&mut engine, call);
-        let octets = given(call).filter(|_| outcome.refusal == 0);
-        if let Some(octets) = octets {
-            frames.push(octets);
-            states.push(engine.state());
-        }
-    }
-    (frames, states)
-}
 
 /// The octets of the frame that a call gives.
 pub fn given(call: &Call) -> Option<Vec<u8>> {

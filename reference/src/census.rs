@@ -5,13 +5,16 @@ use crate::script::{self, Call};
 use crate::timers::Timers;
 use std::collections::BTreeSet;
 
+/// Numbers that no call here gives: 8 is not used again (T-11), 11 and 12 are those of other requests (T-07, T-09).
+pub const UNUSED: [usize; 3] = [8, 11, 12];
+
 /// What occurs in some scripts.
 #[derive(Clone, PartialEq, Eq, Debug, Default)]
 pub struct Census {
     /// Calls of each kind, in the order of `NAMES`; the save at each script's end is not counted.
-    pub calls: [usize; 11],
-    /// Calls with refusal n, at place n; the number 8 is not used.
-    pub refusals: [usize; 11],
+    pub calls: [usize; 12],
+    /// Calls with refusal n, at place n; see `UNUSED`.
+    pub refusals: [usize; 16],
     /// Sizes of pieces that are smaller than their text.
     pub sizes: BTreeSet<usize>,
     /// Journals shown whole.
@@ -44,8 +47,8 @@ impl Census {
         for (name, count) in NAMES.iter().zip(self.calls) {
             text += &format!("{count:>8} {name}\n");
         }
-        // The number 8 is not used (T-11).
-        for (number, count) in self.refusals.iter().enumerate().filter(|(number, _)| *number != 8) {
+        for (number, count) in self.refusals.iter().enumerate().filter(|(number, _)| !UNUSED.contains(number))
+        {
             text += &format!("{count:>8} calls with refusal {number}\n");
         }
         text += &format!("{:>8} sizes of pieces below their text's length\n", self.sizes.len());

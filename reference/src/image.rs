@@ -1,14 +1,18 @@
 //! Document 01, "The image": the text of a state, and reading records from a text line by line.
 
+use crate::edition::{self, Edition};
 use crate::fault::Fault;
 use crate::index;
-use crate::limits::{CONDITION, DATA, MONITORS, PAIRS, PREFIX};
+use crate::limits::{CONDITION, DATA, EDITIONS, MONITORS, PAIRS, PREFIX};
 use crate::lines;
 use crate::state::{Device, Monitor, Pair, State};
 
-/// The text of a state: A0, the A1s and A5s, the A3s, AF.
+/// The text of a state: A0, the A4s, the A1s and A5s, the A3s, AF.
 pub fn text(state: &State) -> Vec<u8> {
     let mut text = lines::write(&a0(state));
+    for held in state.editions() {
+        text.extend(lines::write(&edition::octets(held.from, held.prefix())));
+    }
     for monitor in state.monitors() {
         text.extend(lines::write(&a1_or_a5(monitor)));
     }
@@ -91,11 +95,19 @@ impl Fields {
     }
 }
 
-/// The records of a text, if it is lines A0, A1s and A5s, A3s, AF with right lengths and counts and nothing after
+/// The records of a text, if it is lines A0, A4s, A1s and A5s, A3s, AF with right lengths and counts and nothing after
 /// (READINGS 24). Whether they are those of a sound state is another question.
 pub fn read(text: &[u8], fault: Fault) -> Option<State> {
     let mut rest = text.split_inclusive(|c| *c == lines::LF).peekable();
     let mut state = read_a0(rest.next()?)?;
+    let mut editions = Vec::new();
+    while let Some(edition) = rest.peek().and_then(|line| read_a4(line)) {
+        editions.push(edition);
+        rest.next();
+    }
+    if editions.is_empty() && fault == Fault::NoEditionsTaken {
+        editions.push(Edition::of(0, state.prefix()));
+    }
     let mut monitors = Vec::new();
     while let Some(monitor) = rest.peek().and_then(|line| read_a1(line).or_else(|| read_a5(line))) {
         monitors.push(monitor);
@@ -109,9 +121,10 @@ pub fn read(text: &[u8], fault: Fault) -> Option<State> {
     let mut end = Fields::of(rest.next()?, 0xAF)?;
     let counts = end.take::<2>()?;
     end.rest::<0>(0)?;
-    if monitors.len() > MONITORS || pairs.len() > PAIRS {
+    if editions.len() > EDITIONS || monitors.len() > MONITORS || pairs.len() > PAIRS {
         return None;
     }
+    state.hold_editions(&editions);
     state.monitor_count = monitors.len() as u8;
     state.monitors[..monitors.len()].copy_from_slice(&monitors);
     state.pair_count = pairs.len() as u8;
@@ -137,6 +150,14 @@ fn read_a0(line: &[u8]) -> Option<State> {
     state.prefix_length = fields.octet()?;
     state.prefix = fields.rest::<PREFIX>(state.prefix_length)?;
     Some(state)
+}
+
+/// A4: starting number (4), prefix length, prefix.
+fn read_a4(line: &[u8]) -> Option<Edition> {
+    let mut fields = Fields::of(line, 0xA4)?;
+    let from = u32::from_le_bytes(fields.take()?);
+    let length = fields.octet()?;
+    Some(Edition { from, length, prefix: fields.rest(length)? })
 }
 
 fn read_a1(line: &[u8]) -> Option<Monitor> {

@@ -8,15 +8,16 @@ pub const PAIRS: usize = 64;
 pub const CONDITION: usize = 64;
 /// Octets of a packet's data.
 pub const DATA: usize = 31;
-/// Octets of the event prefix.
+/// Octets of the event prefix, and its editions (document 02, T-12).
 pub const PREFIX: usize = 32;
+pub const EDITIONS: usize = 32;
 /// Octets of a frame: a line before hexadecimal. The least is kind and number.
 pub const FRAME_LEAST: usize = 5;
 pub const FRAME_MOST: usize = 263;
 /// Octets that must be lent for writing a line, for an answer, for an image.
 pub const LINE: usize = 527;
 pub const ANSWER: usize = 2880;
-pub const IMAGE: usize = 10698;
+pub const IMAGE: usize = 13162;
 /// RSSI is signed, -127 to 20.
 pub const RSSI_LEAST: i8 = -127;
 pub const RSSI_MOST: i8 = 20;

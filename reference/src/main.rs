@@ -3,7 +3,7 @@
 use reference::engine::Engine;
 use reference::fault::{Fault, VECTOR_FAULTS};
 use reference::state::Device;
-use reference::{calls, cases, census, compare, cost, history::History, program, timers::Timers};
+use reference::{calls, case, cases, census, compare, cost, history::History, month, program, timers::Timers};
 use std::io::{self, Write};
 use std::path::Path;
 use std::process::ExitCode;
@@ -11,12 +11,20 @@ use std::{env, fs};
 
 const USAGE: &str = "\
 reference replay IMAGE JOURNAL      what document 01 says the program writes (engine with stored timers)
-reference replay IMAGE JOURNAL N    the same with wrong build N switched on (docs/RELIABILITY.md)
-reference history IMAGE JOURNAL     the same by the history rule
+reference replay IMAGE JOURNAL ADDITIONS   the same, with editions of the prefix added before the journal, an A4
+                                    line each
+reference replay IMAGE JOURNAL [ADDITIONS] N   the same with wrong build N switched on (docs/RELIABILITY.md); a word
+                                    of digits is a number, not a file
+reference history IMAGE JOURNAL [ADDITIONS]   the same by the history rule
 reference calls DIR SEED COUNT      writes DIR/stdin and DIR/stdout: COUNT scripts for crates/calls_run
 reference calls DIR SEED COUNT N    the same scripts, and what wrong build N gives
-reference cases DIR SEED COUNT      writes COUNT cases: DIR/N.image, N.journal, N.expected
+reference cases DIR SEED COUNT      writes COUNT cases: DIR/N.image, N.journal, N.expected, and where there are any
+                                    N.additions
+reference answers IMAGE JOURNAL     each executed frame's events in hexadecimal, a line for each frame; then the number
+                                    of the refusal that stopped the journal, or a dash; 10 alone for a refused image
 reference watchers IMAGE TYPE ADDRESS   how many monitors watch a device, and the lowest handle
+reference month IMAGE JOURNAL       the rows of a journal: handle, packets, reports, ticks, sum
+reference month --join IMAGE JOURNAL ..   the rows of several sites joined; 12 where a total would pass 64 bits
 reference vectors KIND SEED COUNT   COUNT vectors, KIND: lines frames conditions sections blocks commands
                                     images means
 reference costs SEED COUNT          COUNT vectors of the cost of a match
@@ -43,16 +51,16 @@ fn main() -> ExitCode {
 
 fn run(arguments: &[&str]) -> Result<Vec<u8>, (u8, String)> {
     match arguments {
-        ["replay", image, journal] => {
-            Ok(program::output(&mut Timers::default(), &read(image)?, &read(journal)?))
+        ["replay", image, journal, rest @ ..] if rest.len() <= 2 => {
+            let (fault, rest) = match rest.split_last() {
+                Some((word, before)) if word.bytes().all(|c| c.is_ascii_digit()) => (number(word)?, before),
+                _ => (0, rest),
+            };
+            let fault = Fault::of_number(fault as usize).ok_or_else(usage)?;
+            replay(&mut Timers::with_fault(fault), image, journal, rest)
         }
-        ["replay", image, journal, fault] => {
-            let fault = Fault::of_number(number(fault)? as usize).ok_or_else(usage)?;
-            Ok(program::output(&mut Timers::with_fault(fault), &read(image)?, &read(journal)?))
-        }
-        ["history", image, journal] => {
-            Ok(program::output(&mut History::default(), &read(image)?, &read(journal)?))
-        }
+        ["answers", image, journal] => Ok(program::answers(&mut Timers::default(), &read(image)?, &read(journal)?)),
+        ["history", image, journal, rest @ ..] => replay(&mut History::default(), image, journal, rest),
         ["calls", folder, seed, count] => {
             write_calls(Path::new(folder), number(seed)?, number(count)?, Fault::None)
         }
@@ -61,6 +69,8 @@ fn run(arguments: &[&str]) -> Result<Vec<u8>, (u8, String)> {
             write_calls(Path::new(folder), number(seed)?, number(count)?, fault)
         }
         ["cases", folder, seed, count] => write_cases(Path::new(folder), number(seed)?, number(count)?),
+        ["month", "--join", sites @ ..] if sites.len() % 2 == 0 => joined(sites),
+        ["month", image, journal] => rows(&read(image)?, &read(journal)?),
         ["watchers", image, kind, address] => watchers(&read(image)?, kind, address),
         ["vectors", kind, seed, count] => {
             let rows = cases::vectors(kind, number(seed)?, number(count)? as usize).ok_or_else(usage)?;
@@ -107,6 +117,21 @@ fn run(arguments: &[&str]) -> Result<Vec<u8>, (u8, String)> {
     }
 }
 
+/// What the program writes of these files; `rest` may have a file of additions.
+fn replay(
+    engine: &mut dyn Engine,
+    image: &str,
+    journal: &str,
+    rest: &[&str],
+) -> Result<Vec<u8>, (u8, String)> {
+    let additions = match rest {
+        [] => Vec::new(),
+        [path] => read(path)?,
+        _ => return Err(usage()),
+    };
+    Ok(program::output(engine, &read(image)?, &read(journal)?, &additions))
+}
+
 /// `COUNT HANDLE`, or `none`, or `10` for a text that is not an image. The address is as people write it.
 fn watchers(image: &[u8], kind: &str, address: &str) -> Result<Vec<u8>, (u8, String)> {
     let kind = ["public", "random"].iter().position(|word| *word == kind).ok_or_else(usage)? as u8;
@@ -120,6 +145,38 @@ fn watchers(image: &[u8], kind: &str, address: &str) -> Result<Vec<u8>, (u8, Str
         _ => "none".to_string(),
     };
     Ok((text + "\n").into_bytes())
+}
+
+/// The rows of several sites joined, handle by handle. A site that is refused ends it with its number.
+fn joined(sites: &[&str]) -> Result<Vec<u8>, (u8, String)> {
+    let mut all = [month::Row::default(); 16];
+    for site in sites.chunks(2) {
+        let mut engine = Timers::default();
+        let mut rows = [month::Row::default(); 16];
+        let refused = match engine.restore(&read(site[0])?) {
+            Err(refusal) => Some(refusal),
+            Ok(()) => month::replay(&mut engine, &read(site[1])?, &mut rows, month::Wrong::None),
+        };
+        let sums = rows.iter().zip(&all).map(|(row, sum)| month::join(sum, row, month::WrongJoin::None));
+        let sums: Vec<_> = sums.collect();
+        if let Some(refusal) = refused.or(sums.iter().find_map(|(_, refusal)| *refusal)) {
+            return Ok(format!("{}\n", refusal.number()).into_bytes());
+        }
+        all = std::array::from_fn(|handle| sums[handle].0);
+    }
+    Ok(month::text(&all).into_bytes())
+}
+
+/// The sixteen rows, and the number of the refusal that stopped the journal; `10` for a text that is not an image.
+fn rows(image: &[u8], journal: &[u8]) -> Result<Vec<u8>, (u8, String)> {
+    let mut engine = Timers::default();
+    if let Err(refusal) = engine.restore(image) {
+        return Ok(format!("{}\n", refusal.number()).into_bytes());
+    }
+    let mut rows = [month::Row::default(); 16];
+    let refusal = month::replay(&mut engine, journal, &mut rows, month::Wrong::None);
+    let number = refusal.map_or(String::new(), |refusal| format!("{}\n", refusal.number()));
+    Ok((month::text(&rows) + &number).into_bytes())
 }
 
 fn usage() -> (u8, String) {
@@ -138,11 +195,16 @@ fn write_cases(folder: &Path, seed: u64, count: u64) -> Result<Vec<u8>, (u8, Str
     let failed = |error: io::Error| (3, format!("{}: {error}\n", folder.display()));
     fs::create_dir_all(folder).map_err(failed)?;
     for index in 1..=count {
-        let case = cases::case(seed, index);
-        for (ending, text) in
-            [("image", &case.image), ("journal", &case.journal), ("expected", &case.expected)]
-        {
-            fs::write(folder.join(format!("{index:06}.{ending}")), text).map_err(failed)?;
+        let case = case::case(seed, index);
+        for (ending, text) in [
+            ("image", &case.image),
+            ("journal", &case.journal),
+            ("additions", &case.additions),
+            ("expected", &case.expected),
+        ] {
+            if ending != "additions" || !text.is_empty() {
+                fs::write(folder.join(format!("{index:06}.{ending}")), text).map_err(failed)?;
+            }
         }
     }
     Ok(Vec::new())

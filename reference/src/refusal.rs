@@ -12,10 +12,15 @@ pub enum Refusal {
     Unsound,
     Settings,
     NotAnImage,
+    /// Document 02, T-09: a total would pass 64 bits.
+    Total,
+    ListFull,
+    NotRising,
+    LongPrefix,
 }
 
 impl Refusal {
-    /// The number in document 01's table.
+    /// The number in document 01's table, or in request T-12 of document 02.
     pub fn number(self) -> u8 {
         match self {
             Refusal::Seen => 1,
@@ -27,6 +32,10 @@ impl Refusal {
             Refusal::Unsound => 7,
             Refusal::Settings => 9,
             Refusal::NotAnImage => 10,
+            Refusal::Total => 12,
+            Refusal::ListFull => 13,
+            Refusal::NotRising => 14,
+            Refusal::LongPrefix => 15,
         }
     }
 }

@@ -43,6 +43,11 @@ pub enum Call {
     Adopt(Box<State>),
     /// Which monitors watch this device?
     Ask(Device),
+    /// Add an edition of the prefix.
+    Edition {
+        from: u32,
+        prefix: Vec<u8>,
+    },
 }
 
 /// What can be seen of a call.
@@ -95,6 +100,7 @@ pub fn call(engine: &mut dyn Engine, call: &Call) -> Outcome {
             let written = engine.ask(device).map_or(Vec::new(), |(count, lowest)| vec![count, lowest]);
             Outcome { refusal: 0, written: vec![written], rest_kept: true }
         }
+        Call::Edition { from, prefix } => bare(engine.add_edition(*from, prefix).err().map(|r| r.number())),
         Call::Adopt(state) => {
             engine.adopt(state);
             bare(None)

@@ -1,8 +1,9 @@
-//! The state as document 01's records: what the lines A0, A1, A3 and A5 hold ("The image"), in places of
+//! The state as document 01's records: what the lines A0, A1, A3, A4 and A5 hold ("The image"), in places of
 //! fixed size, so that every unused octet and place can be asked to be 0 ("Sound").
 
+use crate::edition::Edition;
 use crate::index::Entry;
-use crate::limits::{CONDITION, DATA, MONITORS, PAIRS, PREFIX};
+use crate::limits::{CONDITION, DATA, EDITIONS, MONITORS, PAIRS, PREFIX};
 use crate::private::Key;
 
 /// A device is an address type and an address (READINGS 17).
@@ -46,7 +47,8 @@ pub struct Pair {
     pub data: [u8; DATA],
 }
 
-/// The whole state. `monitor_count` and `pair_count` say how many places are used.
+/// The whole state. The counts say how many places are used. `prefix` is that of the edition in force at the position
+/// (document 02, T-12).
 #[derive(Clone, PartialEq, Eq, Debug)]
 pub struct State {
     pub position: u32,
@@ -61,6 +63,8 @@ pub struct State {
     /// Worked out from the pairs; not in the image (document 02, T-02).
     pub index: [Entry; PAIRS],
     pub index_count: u8,
+    pub editions: [Edition; EDITIONS],
+    pub edition_count: u8,
 }
 
 impl Monitor {
@@ -121,23 +125,26 @@ impl Pair {
 }
 
 impl State {
-    /// A fresh state: position 0, filter off, no monitors ("Sizes of the gateway").
+    /// A fresh state: position 0, filter off, no monitors, one edition of the prefix ("Sizes of the gateway").
     pub fn fresh(opcode: u16, prefix: &[u8]) -> State {
-        let mut octets = [0; PREFIX];
-        octets[..prefix.len()].copy_from_slice(prefix);
-        State {
+        let first = Edition::of(0, prefix);
+        let mut state = State {
             position: 0,
             filter: 0,
             opcode,
-            prefix_length: prefix.len() as u8,
-            prefix: octets,
+            prefix_length: first.length,
+            prefix: first.prefix,
             monitor_count: 0,
             monitors: [Monitor::NONE; MONITORS],
             pair_count: 0,
             pairs: [Pair::NONE; PAIRS],
             index: [Entry::default(); PAIRS],
             index_count: 0,
-        }
+            editions: [Edition::default(); EDITIONS],
+            edition_count: 0,
+        };
+        state.hold_editions(&[first]);
+        state
     }
 
     /// The blank state: fresh, opcode 0xFC00, empty prefix ("Refusal numbers").

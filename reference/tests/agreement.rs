@@ -27,9 +27,9 @@ fn remembered_facts_follow_from_the_frames() {
         for call in generate::script(31, index) {
             script::call(&mut history, &call);
         }
-        let (base, frames, facts) = history.remembered();
+        let (base, added, frames, facts) = history.remembered();
         if !frames.is_empty() {
-            assert_eq!(*facts, Facts::of(base, frames));
+            assert_eq!(*facts, Facts::of(base, added, frames));
         }
     }
 }
@@ -77,7 +77,7 @@ fn octets_and_lines() {
 fn cases_for_programs() {
     let mut endings = std::collections::BTreeSet::new();
     for index in 0..600 {
-        let case = reference::cases::case(34, index);
+        let case = reference::case::case(34, index);
         let text = String::from_utf8(case.expected).unwrap();
         endings.insert(text.lines().last().unwrap().chars().take(2).collect::<String>());
     }

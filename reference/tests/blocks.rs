@@ -35,7 +35,7 @@ fn sound_block(octets: &[u8; SIZE]) -> bool {
 /// Document 01's session in full, its block written out by hand from the layout.
 #[test]
 fn the_block_of_the_session_in_full() {
-    let image = b"A002000000001EFC024D53\nA100C4B00300040700060504030201\n\
+    let image = b"A002000000001EFC024D53\nA400000000024D53\nA100C4B00300040700060504030201\n\
         A30000060504030201000000000000000000000000000000C40000\nAF0101\n";
     let mut engine = Timers::default();
     engine.restore(image).unwrap();
@@ -47,6 +47,8 @@ fn the_block_of_the_session_in_full() {
     expected[5224] = 1;
     expected[5225..5234].copy_from_slice(&[0, 6, 5, 4, 3, 2, 1, 1, 0]);
     expected[5801] = 1;
+    expected[5802..5809].copy_from_slice(&[0, 0, 0, 0, 2, 0x4D, 0x53]);
+    expected[6986] = 1;
     assert_eq!(block::of(&engine.state()), Some(expected));
     assert_eq!(block::state(&expected), engine.state());
 }
@@ -62,6 +64,9 @@ fn fields_and_places() {
     s.pairs[1].sum = -2;
     s.pairs[63].data[30] = 9;
     s.prefix[31] = 8;
+    s.editions[31].from = 0x0403_0201;
+    s.editions[31].length = 6;
+    s.editions[31].prefix[31] = 7;
     let octets = block::of(&s).unwrap();
     assert_eq!(octets[..4], [1, 2, 3, 4]);
     assert_eq!(octets[39], 8);
@@ -71,6 +76,9 @@ fn fields_and_places() {
     assert_eq!(octets[row + 15..row + 23], [0xFE, 0xFF, 0xFF, 0xFF, 0xFF, 0xFF, 0xFF, 0xFF]);
     assert_eq!(octets[row + 23] as i8, s.pairs[1].rssi);
     assert_eq!(octets[5223], 9);
+    let row = 5802 + 37 * 31;
+    assert_eq!(octets[row..row + 5], [1, 2, 3, 4, 6]);
+    assert_eq!(octets[6985..], [7, s.edition_count]);
     for m in state.monitors() {
         let row = 40 + 96 * m.handle as usize;
         assert_eq!(
@@ -136,6 +144,11 @@ fn unused(state: &State) -> Vec<usize> {
         places.extend(row + used..row + 57);
     }
     places.extend(5225 + 9 * state.index_count as usize..5801);
+    for place in 0..32 {
+        let row = 5802 + 37 * place;
+        let used = state.editions().get(place).map_or(0, |e| 5 + e.length as usize);
+        places.extend(row + used..row + 37);
+    }
     places
 }
 

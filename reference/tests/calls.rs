@@ -14,13 +14,13 @@ use reference::timers::Timers;
 const SEED: u64 = 31;
 const COUNT: usize = 2000;
 
-/// Every kind of call, every refusal (8 is not used), every size of a piece, texts shown whole.
+/// Every kind of call, every refusal, every size of a piece, texts shown whole.
 #[test]
 fn what_occurs() {
     let census = census::census(&calls::scripts(SEED, COUNT));
     assert!(census.calls.iter().all(|n| *n >= 100), "{census:?}");
     for (number, count) in census.refusals.iter().enumerate() {
-        assert_eq!(*count >= 20, number != 8, "refusal {number}: {count}");
+        assert_eq!(*count >= 20, !census::UNUSED.contains(&number), "refusal {number}: {count}");
     }
     assert!((1..=PIECES).all(|size| census.sizes.contains(&size)), "{census:?}");
     assert!(census.whole >= 100);
@@ -69,6 +69,10 @@ fn input_read_back() {
                     let (last, text) = octets.split_first_chunk().unwrap();
                     Call::ReplayTo { last: u32::from_le_bytes(*last), text: text.to_vec() }
                 }
+                12 => {
+                    let (from, prefix) = octets.split_first_chunk().unwrap();
+                    Call::Edition { from: u32::from_le_bytes(*from), prefix: prefix.to_vec() }
+                }
                 11 => Call::Ask(Device { kind: octets[0], address: octets[1..].try_into().unwrap() }),
                 _ => Call::Adopt(Box::new(reference::block::state(&unpacked(&octets)))),
             };
@@ -93,13 +97,13 @@ fn unpacked(packed: &[u8]) -> [u8; SIZE] {
     octets.try_into().unwrap()
 }
 
-/// A line worked out by hand: a start and the save at the end, an image of two short lines.
+/// A line worked out by hand: a start and the save at the end, an image of three short lines.
 #[test]
 fn a_line_by_hand() {
     let calls = [Call::Start { opcode: 0xFC1E, prefix: vec![0x4D, 0x53] }];
-    let image = b"A000000000001EFC024D53\nAF0000\n";
-    let seen = [&[0, 0, 0, 0, 0, 1][..], image, &[30, 0, 0, 0, 0, 1]].concat();
+    let image = b"A000000000001EFC024D53\nA400000000024D53\nAF0000\n";
+    let seen = [&[0, 0, 0, 0, 0, 1][..], image, &[47, 0, 0, 0, 0, 1]].concat();
     let digest =
         seen.iter().fold(0u128, |value, octet| (value * 257 + *octet as u128 + 1) % ((1 << 54) - 33));
-    assert_eq!(calls::line(&calls::expected(&calls)), format!("{digest:014x} 2 30\n"));
+    assert_eq!(calls::line(&calls::expected(&calls)), format!("{digest:014x} 2 47\n"));
 }

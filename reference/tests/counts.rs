@@ -14,7 +14,8 @@ fn image(position: u32, packets: u32, rssi: i8) -> Vec<u8> {
     pair.extend(packets.to_le_bytes());
     pair.extend((rssi as i64 * packets as i64).to_le_bytes());
     pair.extend([rssi as u8, 0, 0]);
-    [head, monitor, pair, vec![0xAF, 1, 1]].iter().flat_map(|record| line(record)).collect()
+    let edition = octets("A4 00000000 02 4D53");
+    [head, edition, monitor, pair, vec![0xAF, 1, 1]].iter().flat_map(|record| line(record)).collect()
 }
 
 #[test]

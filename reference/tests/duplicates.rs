@@ -116,6 +116,7 @@ fn over_a_failover() {
         let image = host.image();
         let text = String::from_utf8(image.clone()).unwrap();
         let expected = "A005000000011EFC024D53
+            A400000000024D53
             A100C4B00100040700010101010101
             A501C4B001000105 0103010006 E1F3 010203040506 01 09090909090909090909090909090909
             A102C4B00100040700010101010101

@@ -26,7 +26,7 @@ fn settings() {
             assert_eq!(host.engine.state(), expected);
         }
         assert_eq!(host.engine.start(0xFBFF, &[]).unwrap_err().number(), 9);
-        assert_eq!(host.image(), b"A0000000000000FC00\nAF0000\n");
+        assert_eq!(host.image(), b"A0000000000000FC00\nA40000000000\nAF0000\n");
     });
 }
 
@@ -37,8 +37,8 @@ fn lent_outputs() {
         assert_eq!(host.give_lending(&octets("00"), 2879), Err(3), "3 before 4");
         assert_eq!(host.give_lending(&octets("0300000000"), 0), Err(3), "3 before 1");
         assert_eq!(host.give_lending(&octets("0301000000"), 2880), Ok(vec![]));
-        assert_eq!(host.engine.save(&mut [0; 10697]).unwrap_err().number(), 3);
-        assert!(host.engine.save(&mut [0; 10698]).is_ok());
+        assert_eq!(host.engine.save(&mut [0; 13161]).unwrap_err().number(), 3);
+        assert!(host.engine.save(&mut [0; 13162]).is_ok());
     });
     let frame = octets("0301000000");
     assert_eq!(write_line(&frame, &mut [0; 526], Fault::None).unwrap_err().number(), 3);

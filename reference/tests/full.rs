@@ -3,7 +3,7 @@
 mod common;
 
 use common::*;
-use reference::cases::calls_of;
+use reference::case::calls_of;
 use reference::engine::Engine;
 use reference::limits::PAIRS;
 use reference::script;

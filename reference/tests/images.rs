@@ -45,9 +45,9 @@ fn is_image(text: &[u8]) -> bool {
 fn largest_image_and_longest_answer() {
     let state = states::largest(&mut Random::new(1));
     let text = image::text(&state);
-    assert_eq!(text.len(), 10698);
+    assert_eq!(text.len(), 13162);
     let lengths: Vec<usize> = lines::split(&text).map(<[u8]>::len).collect();
-    assert_eq!(lengths, [vec![83], vec![195; 16], vec![117; 64], vec![7]].concat());
+    assert_eq!(lengths, [vec![83], vec![77; 32], vec![195; 16], vec![117; 64], vec![7]].concat());
     for mut engine in engines() {
         engine.restore(&text).unwrap();
         assert_eq!(engine.state(), state);
@@ -76,12 +76,12 @@ fn a_window_in_the_image() {
         host.packet(&DEVICE, &[0xCC], -61);
         let head = "A100C4B00305040700060504030201\n";
         let first = "A3 00 00 060504030201 0000 01 02000000 87FFFFFFFFFFFFFF C3 00 01 CC".replace(' ', "");
-        let expected = format!("A005000000001EFC024D53\n{head}{first}\nAF0101\n");
+        let expected = format!("A005000000001EFC024D53\nA400000000024D53\n{head}{first}\nAF0101\n");
         assert_eq!(String::from_utf8(host.image()).unwrap(), expected);
         host.quiet_ticks(2);
         host.packet(&DEVICE, &[1, 2, 3], -80);
         let then = "A3 00 00 060504030201 0200 03 03000000 37FFFFFFFFFFFFFF B0 00 03 010203".replace(' ', "");
-        let expected = format!("A008000000001EFC024D53\n{head}{then}\nAF0101\n");
+        let expected = format!("A008000000001EFC024D53\nA400000000024D53\n{head}{then}\nAF0101\n");
         assert_eq!(String::from_utf8(host.image()).unwrap(), expected);
     });
 }
@@ -170,10 +170,10 @@ fn damaged_images() {
 
 #[test]
 fn texts_that_are_no_images() {
-    let good = "A002000000001EFC024D53\nA100C4B00300040700060504030201\n\
+    let good = "A002000000001EFC024D53\nA400000000024D53\nA100C4B00300040700060504030201\n\
         A30000060504030201000000000000000000000000000000C40000\nAF0101\n";
     assert!(is_image(good.as_bytes()));
-    let head = "A002000000001EFC024D53\n";
+    let head = "A002000000001EFC024D53\nA400000000024D53\n";
     let monitor = "A100C4B00300040700060504030201\n";
     let pair = "A30000060504030201000000000000000000000000000000C40000\n";
     let pair_with = |rssi: &str| good.replace("C40000\nAF", &format!("{rssi}0000\nAF"));

@@ -7,10 +7,10 @@ use reference::history::History;
 use reference::program;
 use reference::timers::Timers;
 
-const FRESH: &str = "A000000000001EFC024D53\nAF0000\n";
+const FRESH: &str = "A000000000001EFC024D53\nA400000000024D53\nAF0000\n";
 const FRAMES: &str = "01010000001EFC0D03C4B003000400060504030201\n0202000000000006050403020100C4\n";
 const ANSWERS: &str = "0E06011EFC000300\nFF0C4D5302000605040302010001\n3E0C0201000006050403020100C4\n";
-const IMAGE: &str = "A002000000001EFC024D53\nA100C4B00300040700060504030201\n\
+const IMAGE: &str = "A002000000001EFC024D53\nA400000000024D53\nA100C4B00300040700060504030201\n\
     A30000060504030201000000000000000000000000000000C40000\nAF0101\n";
 const STOP: &str = "FF0C4D5302000605040302010000";
 
@@ -19,8 +19,8 @@ fn ticks(first: u32, count: u32) -> String {
 }
 
 fn written(image: &str, journal: &str) -> String {
-    let first = program::output(&mut Timers::default(), image.as_bytes(), journal.as_bytes());
-    let second = program::output(&mut History::default(), image.as_bytes(), journal.as_bytes());
+    let first = program::output(&mut Timers::default(), image.as_bytes(), journal.as_bytes(), &[]);
+    let second = program::output(&mut History::default(), image.as_bytes(), journal.as_bytes(), &[]);
     assert_eq!(first, second);
     String::from_utf8(first).unwrap()
 }
@@ -53,7 +53,7 @@ fn p1_the_session() {
 fn p1_the_program() {
     let after = IMAGE.replace("A002", "A01F").replace("0302010000", "0302011D00");
     assert_eq!(written(IMAGE, &ticks(3, 29)), after);
-    let stopped = "A020000000001EFC024D53\nA100C4B00300040700060504030201\nAF0100\n";
+    let stopped = "A020000000001EFC024D53\nA400000000024D53\nA100C4B00300040700060504030201\nAF0100\n";
     assert_eq!(written(IMAGE, &ticks(3, 30)), format!("{STOP}\n{stopped}"));
     assert_eq!(written(IMAGE, &ticks(4, 1)), format!("{IMAGE}2\n"), "a gap stops replay");
     assert_eq!(written(IMAGE, "03030000\n"), format!("{IMAGE}4\n"));

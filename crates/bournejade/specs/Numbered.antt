@@ -1,6 +1,6 @@
 -- Every refusal number that a call gives is one of document 01's (Refusal numbers), so that the case which a call answers has that very
 -- number. Assumes nothing.
-use Prim.Native.Nat.{ℕ, _+_, _-_}
+use Prim.Native.Nat.{ℕ, suc, _+_, _-_}
 use mathlib.Core.Path.{_≡_, refl, sym, ap, _∙_}
 use mathlib.Core.Bool.{Bool, true, false, cond}
 use mathlib.Core.Option.{Option, none, some}
@@ -16,7 +16,9 @@ use Rattle.sessions.specs.Saved.{cut}
 use Rattle.model.specs.Types.{Model}
 use Rattle.model.specs.Frames.{Body, Typed, command, packet, tick, bad, typed, read}
 use Rattle.model.specs.Step.{act, actTyped, refusalTyped, stepTyped, answerTyped}
-use Rattle.wholes.specs.Engine.{engine, actWhole, onWholes}
+use Rattle.editions.specs.Editions.{Edition, Gateway, withPrefix, prefixFor, beside, actOn, addEdition}
+use Rattle.wholes.specs.Whole.{heldWhole}
+use Rattle.wholes.specs.Engine.{engine, actWhole, onWholes, addWhole}
 use Rattle.model.specs.Block.{held}
 use Rattle.replays.specs.Into.{Reached, begun, reach, lineFrom, linesWhile, replayWhile}
 use Rattle.engine.specs.Calls.{caseOf, caseFrom, cases}
@@ -51,14 +53,29 @@ known-typed m (packet p) = refl
 known-typed m tick = refl
 known-typed m bad = refl
 
-known-blocks : (o : Outcome Model) → known (onWholes o) ≡ known o
+known-blocks : (o : Outcome Gateway) → known (onWholes o) ≡ known o
 unfolding known onWholes
 known-blocks (refused n) = refl
 known-blocks (done m l) = refl
 
+known-beside : (es : List Edition) (o : Outcome Model) → known (beside es o) ≡ known o
+unfolding known beside
+known-beside es (refused n) = refl
+known-beside es (done m l) = refl
+
 known-act : (s : List ℕ) (b : Body) → known (actWhole s b) ≡ true
-unfolding actWhole act
-known-act s b = known-blocks (actTyped (held s) (typed b)) ∙ known-typed (held s) (typed b)
+unfolding actWhole actOn act
+known-act s b =
+    let g : Gateway = heldWhole s in
+    let m : Model = withPrefix (g .core) (prefixFor (suc (g .core .position)) (g .editions)) in
+    known-blocks (beside (g .editions) (actTyped m (typed b))) ∙ known-beside (g .editions) (actTyped m (typed b)) ∙ known-typed m (typed b)
+
+-- an addition
+pub known-add : (s : List ℕ) (e : Edition) → known (addWhole s e) ≡ true
+unfolding addWhole addEdition isNumber caseOf caseFrom cases number pick known
+known-add s e =
+    known-if _ 7 _ refl (known-blocks (addEdition (heldWhole s) e)
+    ∙ known-if _ 7 _ refl (known-if _ 15 _ refl (known-if _ 14 _ refl (known-if _ 13 _ refl refl))))
 
 known-judge : (s : List ℕ) (x : Option (Line Body)) → known (judge engine s x) ≡ true
 unfolding judge known isNumber caseOf caseFrom cases number pick

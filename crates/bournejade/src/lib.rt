@@ -1,5 +1,5 @@
 // The library for firmware in C: the calls of document 01 on numbers and octets, for `rt staticlib bournejade`. The header
-// is include/bournejade.h. The state is the caller's block of 5,802 octets, lent to each call and changed in place; any octets in it are
+// is include/bournejade.h. The state is the caller's block of 6,987 octets, lent to each call and changed in place; any octets in it are
 // met. Each call returns 0 or the refusal's number, and gives the counts of octets through the last parameters.
 mod numbers;
 
@@ -12,28 +12,31 @@ ghost use Rattle.lines.specs.Answers.{writeLine, afterWrite};
 ghost use Rattle.lines.specs.Frame.{lineRoom};
 ghost use Rattle.lines.specs.Hex.{textOf};
 ghost use Rattle.sessions.specs.Machine.{text as asText, octets as asOctets, answerRoom, saveRoom};
-ghost use Rattle.sessions.specs.Session.{answer, image};
+ghost use Rattle.sessions.specs.Session.{answer, image, stateAfter};
 ghost use Rattle.model.specs.Sound.{soundSettings};
-ghost use Rattle.model.specs.Image.{isImage};
+ghost use Rattle.editions.specs.Editions.{isImageOn};
 ghost use Rattle.model.specs.Block.{held};
 ghost use Rattle.model.specs.Types.{device};
-ghost use Rattle.wholes.specs.Engine.{engine, begin};
+ghost use Rattle.wholes.specs.Engine.{engine, begin, addWhole};
 ghost use Rattle.wholes.specs.Index.{maskFor, handlesOf};
 ghost use Rattle.wholes.specs.Layout.{wholeSize};
 ghost use Rattle.index.specs.Asked.{watchOf, countIn as watchCount, lowestIn};
 ghost use Rattle.replays.specs.Into.{replayInto, replayTo};
+ghost use Rattle.walks.specs.Walk.{behind};
 ghost use Rattle.wholes.specs.Engine.{blockIn};
-ghost use Rattle.bournejade.specs.Gives.{numberIn, countIn, Gave, Replayed};
+ghost use Rattle.bournejade.specs.Gives.{numberIn, countIn, numberOf, Gave, Replayed};
 use index::Whole;
 use state::State;
+use totals::Row;
+ghost use Rattle.month.specs.Numbers.{Rowed};
 
-// 1.0.0: major, minor and patch in an octet each.
-const VERSION: u32 = 0x010000;
+// 1.1.0: major, minor and patch in an octet each.
+const VERSION: u32 = 0x010100;
 
 // The library's version.
 #[no_mangle]
 pub extern "C" fn bournejade_version() -> u32
-    ensures { λ r. ⌜ r ≡ 0x010000 ⌝ }
+    ensures { λ r. ⌜ r ≡ 0x010100 ⌝ }
 {
     VERSION
 }
@@ -59,7 +62,7 @@ pub extern "C" fn bournejade_answer_size() -> usize
 pub extern "C" fn bournejade_image_size() -> usize
     ensures { λ r. ⌜ r ≡ saveRoom ⌝ }
 {
-    State::IMAGE
+    Whole::IMAGE
 }
 
 // Octets that the output of a line must have.
@@ -120,6 +123,42 @@ pub extern "C" fn bournejade_submit_line(
     numbers::told(r, wrote)
 }
 
+// Gives a frame as its line and counts it in the caller's sixteen rows of four 64-bit numbers each: packets, reports, ticks, signed RSSI sum.
+// The same result as without rows. Refusals, in this order: 7, 3 (also for a table that is not of sixteen rows), 4, 1, 2, 5, 6, 12; all
+// leave the rows as they came.
+#[no_mangle]
+pub extern "C" fn bournejade_count_line(
+    state: &mut [u8; Whole::SIZE],
+    line: &[u8],
+    out: &mut [u8],
+    wrote: &mut usize,
+    rows: &mut [Row],
+) -> u8
+    ensures { λ r. ⌜ Rowed (length (now (rows .entry))) (now (state .entry)) (now (line .entry)) (now (out .entry)) (now (rows .entry)) r (now (wrote .exit)) (now (rows .exit)) (now (state .exit)) (now (out .exit)) ⌝ }
+{
+    let n = rows.len();
+    let z = totals::no_rows();
+    let t = totals::exchange(rows, z);
+    let a = month::count_number(state, line, out, wrote, n, t);
+    let all = a.rows;
+    totals::exchange(rows, all);
+    a.number
+}
+
+// Adds an edition of the event prefix, which holds from a frame number on: 0, or 7, 15, 14, 13.
+#[no_mangle]
+pub extern "C" fn bournejade_add_edition(
+    state: &mut [u8; Whole::SIZE],
+    number: u32,
+    prefix: &[u8],
+) -> u8
+    ensures { λ r. ⌜ r ≡ numberOf (addWhole (now (state .entry)) (record { from = number; prefix = now (prefix .entry) })) ⌝ }
+    ensures { λ _. ⌜ now (state .exit) ≡ stateAfter (now (state .entry)) (addWhole (now (state .entry)) (record { from = number; prefix = now (prefix .entry) })) ⌝ }
+{
+    let r = engine::add(state, number, prefix);
+    numbers::answer_number(r)
+}
+
 // Writes the line of a frame, for the journal: 0, or 3, 4.
 #[no_mangle]
 pub extern "C" fn bournejade_write_line(frame: &[u8], out: &mut [u8], wrote: &mut usize) -> u8
@@ -147,8 +186,8 @@ pub extern "C" fn bournejade_save(
 // Restores the state of an image's text: 0, or 10 and the blank state.
 #[no_mangle]
 pub extern "C" fn bournejade_restore(state: &mut [u8; Whole::SIZE], image: &[u8]) -> u8
-    ensures { λ r. ⌜ r ≡ pick (isImage (now (image .entry))) 0 10 ⌝ }
-    ensures { λ _. ⌜ now (state .exit) ≡ blockIn (isImage (now (image .entry))) (now (image .entry)) ⌝ }
+    ensures { λ r. ⌜ r ≡ pick (isImageOn (now (image .entry))) 0 10 ⌝ }
+    ensures { λ _. ⌜ now (state .exit) ≡ blockIn (isImageOn (now (image .entry))) (now (image .entry)) ⌝ }
 {
     let restored = engine::load(image);
     let answer = restored.answer;
@@ -188,6 +227,15 @@ pub extern "C" fn bournejade_replay_to(
 {
     let ran = engine::replay_to(state, last, journal, out);
     numbers::read_told(ran, taken, wrote)
+}
+
+// Walks the events of an answer, or of what a replay wrote: the index behind the event that begins at an index, 0 where no whole event
+// begins there.
+#[no_mangle]
+pub extern "C" fn bournejade_event(answer: &[u8], at: usize) -> usize
+    ensures { λ r. ⌜ r ≡ behind (now (answer .entry)) at ⌝ }
+{
+    walks::behind(answer, at)
 }
 
 // Matches a pattern condition, as command 03 gives it, against an advertisement and a scan response, empty where there is none: 1 or 0,

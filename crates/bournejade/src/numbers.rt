@@ -26,6 +26,16 @@ pub(super) fn told(r: Wrote, wrote: &mut usize) -> u8
     }
 }
 
+// What a call that writes nothing answered, as a number.
+pub(super) fn answer_number(r: Wrote) -> u8
+    ensures { λ n. ⌜ n ≡ numberIn r ⌝ }
+{
+    match r {
+        Wrote::Done(_) => 0,
+        Wrote::Refused(x) => refusals::number_of(x),
+    }
+}
+
 // Why a replay ended, as a number.
 fn stopped(s: Stop) -> u8
     ensures { λ n. ⌜ n ≡ stopNumber s ⌝ }

@@ -12,7 +12,6 @@ use index::Whole;
 use libc::STDIN_FILENO;
 use libc::STDOUT_FILENO;
 use seen::Tally;
-use state::State;
 
 // The tags of the calls, and of a script's end.
 const END: u8 = 0;
@@ -39,10 +38,12 @@ const REPLAY_TO: u8 = 10;
 
 const ASK: u8 = 11;
 
-// Octets of an image at most, and of the longest output that is lent.
-const IMAGE: usize = State::IMAGE;
+const ADD: u8 = 12;
 
-const ROOM: usize = State::IMAGE + 30;
+// Octets of an image at most, and of the longest output that is lent.
+const IMAGE: usize = Whole::IMAGE;
+
+const ROOM: usize = Whole::IMAGE + 30;
 
 // The octets before those that a call gives.
 const HEAD: usize = 7;
@@ -131,6 +132,9 @@ fn call(
     }
     if head.tag == ASK {
         return make::ask(block, octets, t);
+    }
+    if head.tag == ADD {
+        return make::add(block, octets, t);
     }
     lend(block, head, octets, out, head.first as usize, t)
 }

@@ -1,5 +1,5 @@
 // Makes the calls of a script but replay, on the script's block: start, give a frame as octets or as its line, save,
-// write a line, restore, fail over, take up a block.
+// write a line, restore, fail over, add an edition of the prefix, take up a block.
 use super::seen;
 use super::seen::Tally;
 use engine::Loaded;
@@ -10,6 +10,9 @@ use state::Start;
 
 // Octets of a block.
 const SIZE: usize = Whole::SIZE;
+
+// Octets of an edition's number.
+const NUMBER: usize = 4;
 
 // The block of a state that a call returned is the next call's.
 fn hold(block: &mut [u8; Whole::SIZE], state: Whole) {
@@ -119,6 +122,19 @@ pub(super) fn ask(block: &[u8; Whole::SIZE], device: &[u8], t: Tally) -> Tally {
             seen::closed(t, seen::took(seen::opened(t), &said, 2), 0)
         }
         Watch::Nobody => seen::bare(t, 0),
+    }
+}
+
+// Adds an edition of the prefix: its number in four octets, then the prefix.
+pub(super) fn add(block: &mut [u8; Whole::SIZE], given: &[u8], t: Tally) -> Tally {
+    if given.len() < NUMBER {
+        return seen::end();
+    }
+    let number = octets::get32(given, 0);
+    let r = engine::add(block, number, &given[NUMBER..]);
+    match r {
+        Wrote::Done(_) => seen::bare(t, 0),
+        Wrote::Refused(x) => seen::bare(t, refusals::number_of(x)),
     }
 }
 

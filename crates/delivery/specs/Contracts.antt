@@ -1,16 +1,18 @@
 -- The contracts of the library, as the toolchain reads them off its functions (`Reads.Learnt`: what a caller learns of a call), give what the
 -- claims take of each call. So a contract that comes to say less is refused here, and the tie is not equal text alone. Document 01, What
 -- the promises owe. Assumes nothing.
-use Prim.Native.Nat.{ℕ}
+use Prim.Native.Nat.{ℕ, _≤_}
 use mathlib.Core.Path.{_≡_}
+use mathlib.Core.Bool.{true}
 use mathlib.Core.List.{List}
 use contract.Lifetimes.{Lfts}
 use denote.Ref.{RefT}
 use lib.ListN.{length}
 use Rattle.laws.specs.Tests.{pick}
-use Rattle.sessions.specs.Machine.{octets, text}
+use Rattle.laws.specs.Loops.{every}
+use Rattle.octets.specs.Little.{isOctet}
+use Rattle.sessions.specs.Machine.{octets, text, lastNumber}
 use Rattle.model.specs.Sound.{soundSettings}
-use Rattle.model.specs.Image.{isImage}
 use Rattle.wholes.specs.Engine.{engine, begin, blockIn}
 use Rattle.replays.specs.Into.{replayInto, replayTo}
 use Rattle.bournejade.specs.Gives.{Replayed}
@@ -21,7 +23,9 @@ use Rattle.bournejade.proofs.bournejade_save.Reads as save-reads
 use Rattle.bournejade.proofs.bournejade_restore.Reads as restore-reads
 use Rattle.bournejade.proofs.bournejade_replay.Reads as replay-reads
 use Rattle.bournejade.proofs.bournejade_replay_to.Reads as replay-to-reads
-use Rattle.delivery.specs.Firmware.{Kept, gave, saved}
+use Rattle.bournejade.proofs.bournejade_add_edition.Reads as add-edition-reads
+use Rattle.delivery.specs.Firmware.{Kept, gave, saved, added, Adds}
+use Rattle.editions.specs.Editions.{isImageOn}
 
 -- the block that a session begins with
 pub begin-says : (κs : Lfts 2) (s p s′ p′ : RefT (List ℕ)) (o o′ r : ℕ)
@@ -45,10 +49,21 @@ pub save-keeps : (κs : Lfts 3) (s o s′ o′ : RefT (List ℕ)) (n n′ : RefT
     → Kept (s .now) (saved (o .now) (o′ .now) (n′ .now) r)
 save-keeps κs s o s′ o′ n n′ r e = e
 
+-- an addition; its number is of 32 bits and its prefix of octets, as the types of C say
+pub add-edition-keeps : (κs : Lfts 2) (s p s′ p′ : RefT (List ℕ)) (n n′ r : ℕ) (f : n ≤ lastNumber) (o : every isOctet (p .now) ≡ true)
+    → add-edition-reads.Learnt κs (s, (n, (p, tt))) r (s′, (n′, (p′, tt)))
+    → Kept (s .now) (added (record { edition = record { from = n; prefix = p .now }; fits = f; octets = o }) (s′ .now) r)
+add-edition-keeps κs s p s′ p′ n n′ r f o e = (e .0, e .1)
+
 -- what a standby calls
+pub add-edition-says : (κs : Lfts 2) (s p s′ p′ : RefT (List ℕ)) (n n′ r : ℕ)
+    → add-edition-reads.Learnt κs (s, (n, (p, tt))) r (s′, (n′, (p′, tt)))
+    → Adds (s .now) (record { from = n; prefix = p .now }) (s′ .now) r
+add-edition-says κs s p s′ p′ n n′ r e = (e .0, e .1)
+
 pub restore-says : (κs : Lfts 2) (s t s′ t′ : RefT (List ℕ)) (r : ℕ)
     → restore-reads.Learnt κs (s, (t, tt)) r (s′, (t′, tt))
-    → (r ≡ pick (isImage (t .now)) 0 10) × (s′ .now ≡ blockIn (isImage (t .now)) (t .now))
+    → (r ≡ pick (isImageOn (t .now)) 0 10) × (s′ .now ≡ blockIn (isImageOn (t .now)) (t .now))
 restore-says κs s t s′ t′ r e = (e .0, e .1)
 
 pub replay-says : (κs : Lfts 5) (s j o s′ j′ o′ : RefT (List ℕ)) (m n m′ n′ : RefT ℕ) (r : ℕ)

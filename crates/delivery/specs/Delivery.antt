@@ -22,27 +22,31 @@ use Rattle.sessions.specs.Saved.{Replayed, SavedAfter, Failover, Enough, frames
 use Rattle.sessions.specs.Cuts.{drop-map}
 use Rattle.sessions.specs.Runs.{Run, runs, walk-append, trace-append}
 use Rattle.sessions.specs.History.{walk-sound}
-use Rattle.model.specs.Types.{Model, fresh}
+use Rattle.model.specs.Types.{fresh}
 use Rattle.model.specs.Frames.{Body, write}
-use Rattle.model.specs.Image.{imageText, isImage, heldIn}
-use Rattle.model.specs.Sound.{soundModel, soundSettings}
+use Rattle.model.specs.Sound.{soundSettings}
 use Rattle.wholes.specs.Whole.{whole}
-use Rattle.model.specs.Engine.{models}
 use Rattle.wholes.specs.Engine.{engine, begin}
 use Rattle.failover.specs.Laid.{onto, onReached}
 use Rattle.model.specs.Radio.{radio}
-use Rattle.images.specs.Restores.{held-image, image-is}
-use Rattle.steps.specs.Keeps.{fresh-sound}
+use Rattle.editions.specs.Images.{held-image}
 use Rattle.replays.specs.Into.{Reached, replayInto}
 use Rattle.replays.specs.Ahead.{Ahead, saidBy}
 use Rattle.replays.specs.Turned.{session-ahead, session-gap}
 use Rattle.replays.specs.Whole.{Same, replay-whole}
 use Rattle.wholes.specs.Engine.{blockIn}
-use Rattle.failover.specs.Demand3.{Demand3, pastFrames, pairsIn}
-use Rattle.failover.specs.Proof.{laws, demand3}
+use Rattle.failover.specs.Demand3.{pairsIn}
+use Rattle.failover.specs.Plainly.{Demand3, pastFrames}
+use Rattle.failover.specs.Proved.{laws}
+use Rattle.failover.specs.Plainly.{demand3}
 use Rattle.failover.specs.Blocks.{image-blocks, walk-blocks, trace-blocks, begin-blocks, encode-blocks}
 use Rattle.failover.specs.Blocks.{replays-blocks}
-use Rattle.delivery.specs.Shown.{runs-through}
+use Rattle.delivery.specs.Through.{runs-through}
+use Rattle.editions.specs.Editions.{Gateway, soundGateway, freshOn, imageOn, isImageOn, heldOn}
+use Rattle.editions.specs.Engine.{gateways}
+use Rattle.wholes.specs.Whole.{heldWhole}
+use Rattle.failover.specs.Proved.{fresh-gateway}
+use Rattle.failover.specs.Plainly.{image-is}
 
 -- What replay into an output of `room` octets reached: a state, octets, and why it ended.
 pub record Ended (x : Reached (List ℕ)) (state wrote : List ℕ) (stop : Option ℕ) : Type 0 where
@@ -59,8 +63,8 @@ pub record Ended (x : Reached (List ℕ)) (state wrote : List ℕ) (stop : Optio
 --   watched: the pairs that the image of the unbroken run's block lists are those that its past frames put under watch, each once, in the order
 --     of their latest starts.
 pub record Delivered (opcode : ℕ) (prefix : List ℕ) (calls : List Call) (k : ℕ) (img at : List ℕ) : Type 0 where
-  pub accepted : isImage img ≡ true
-  pub loaded : blockIn (isImage img) img ≡ at
+  pub accepted : isImageOn img ≡ true
+  pub loaded : blockIn (isImageOn img) img ≡ at
   pub goes-on :
       (j : ℕ) → 1 ≤ j → j ≤ k + 1 → (room : ℕ) → length (flat (drop k (answers engine (begin opcode prefix) calls))) + answerRoom ≤ room
       → Ended (replayInto engine room at (journal engine (begin opcode prefix) calls j)) (walk engine (begin opcode prefix) calls)
@@ -75,68 +79,68 @@ enough : Enough (λ i. answerRoom)
 enough i = omega arith
 
 -- an image saved of a block is saved of the record that it holds
-saved-record : (lent : ℕ) (m : Model) (img : List ℕ) → onto whole (image models lent m) ≡ done (whole m) img → (image models lent m ≡ done m img) × (img ≡ imageText m)
+saved-record : (lent : ℕ) (m : Gateway) (img : List ℕ) → onto whole (image gateways lent m) ≡ done (whole m) img → (image gateways lent m ≡ done m img) × (img ≡ imageOn m)
 unfolding image refuseIf onto
-saved-record lent m img e = go (not (soundModel m)) (ltb lent saveRoom) e
+saved-record lent m img e = go (not (soundGateway m)) (ltb lent saveRoom) e
   where
-    go : (a b : Bool) → onto whole (refuseIf a 7 (refuseIf b 3 (done m (imageText m)))) ≡ done (whole m) img
-        → (refuseIf a 7 (refuseIf b 3 (done m (imageText m))) ≡ done m img) × (img ≡ imageText m)
+    go : (a b : Bool) → onto whole (refuseIf a 7 (refuseIf b 3 (done m (imageOn m)))) ≡ done (whole m) img
+        → (refuseIf a 7 (refuseIf b 3 (done m (imageOn m))) ≡ done m img) × (img ≡ imageOn m)
     go true b q = let z : _≡_ {A = ℕ} 0 1 = cc in absurd (omega arith)
     go false true q = let z : _≡_ {A = ℕ} 0 1 = cc in absurd (omega arith)
-    go false false q = let u : imageText m ≡ img = cc in (ap (done m) u, sym u)
+    go false false q = let u : imageOn m ≡ img = cc in (ap (done m) u, sym u)
 
 module _ (opcode : ℕ) (prefix : List ℕ) (ok : soundSettings opcode prefix ≡ true) (calls : List Call) where
-  abbrev start : Model
-  start = fresh opcode prefix
+  abbrev start : Gateway
+  start = freshOn opcode prefix
 
   abbrev block : List ℕ
   block = begin opcode prefix
 
   -- the session over blocks is the session over records
-  trace-is : (cs : List Call) → trace engine block cs ≡ trace models start cs
-  trace-is cs = ap (λ (s : List ℕ). trace engine s cs) (begin-blocks opcode prefix ok) ∙ trace-blocks start (fresh-sound opcode prefix ok) cs
+  trace-is : (cs : List Call) → trace engine block cs ≡ trace gateways start cs
+  trace-is cs = ap (λ (s : List ℕ). trace engine s cs) (begin-blocks opcode prefix ok) ∙ trace-blocks start (fresh-gateway opcode prefix ok) cs
 
-  walk-is : (cs : List Call) → walk engine block cs ≡ whole (walk models start cs)
-  walk-is cs = ap (λ (s : List ℕ). walk engine s cs) (begin-blocks opcode prefix ok) ∙ walk-blocks start (fresh-sound opcode prefix ok) cs
+  walk-is : (cs : List Call) → walk engine block cs ≡ whole (walk gateways start cs)
+  walk-is cs = ap (λ (s : List ℕ). walk engine s cs) (begin-blocks opcode prefix ok) ∙ walk-blocks start (fresh-gateway opcode prefix ok) cs
 
-  walk-good : (cs : List Call) → soundModel (walk models start cs) ≡ true
-  walk-good cs = walk-sound models laws start (fresh-sound opcode prefix ok) cs
+  walk-good : (cs : List Call) → soundGateway (walk gateways start cs) ≡ true
+  walk-good cs = walk-sound gateways laws start (fresh-gateway opcode prefix ok) cs
 
-  answers-are : answers engine block calls ≡ answers models start calls
+  answers-are : answers engine block calls ≡ answers gateways start calls
   unfolding answers
   answers-are = ap (λ (es : List (Entry Body)). map (λ e. e .wrote) es) (trace-is calls)
 
-  journal-is : (j : ℕ) → journal engine block calls j ≡ journal models start calls j
+  journal-is : (j : ℕ) → journal engine block calls j ≡ journal gateways start calls j
   unfolding journal linesOf executed
   journal-is j = ap (λ (es : List (Entry Body)). flatten (map write (since j (map (λ e. e .line) es)))) (trace-is calls)
 
-  frames-are : (cs : List Call) → frames engine block cs ≡ frames models start cs
+  frames-are : (cs : List Call) → frames engine block cs ≡ frames gateways start cs
   unfolding frames executed
   frames-are cs = ap (λ (es : List (Entry Body)). length (map (λ e. e .line) es)) (trace-is cs)
 
   -- an image saved in it after frame k, of the state `at`
   module _ (k : ℕ) (img at : List ℕ) (sv : SavedAfter engine block calls k img at) where
-    abbrev middle : Model
-    middle = walk models start (sv .before)
+    abbrev middle : Gateway
+    middle = walk gateways start (sv .before)
 
     abbrev rest : List Call
     rest = save (sv .lent) ∷ sv .later
 
     abbrev es : List (Entry Body)
-    es = trace models start (sv .before)
+    es = trace gateways start (sv .before)
 
     abbrev fs : List (Entry Body)
-    fs = trace models middle rest
+    fs = trace gateways middle rest
 
     at-is : at ≡ whole middle
     at-is = sv .state ∙ walk-is (sv .before)
 
-    saved-is : (image models (sv .lent) middle ≡ done middle img) × (img ≡ imageText middle)
+    saved-is : (image gateways (sv .lent) middle ≡ done middle img) × (img ≡ imageOn middle)
     saved-is =
         saved-record (sv .lent) middle img (sym (image-blocks middle (walk-good (sv .before)) (sv .lent))
         ∙ subst (λ (s : List ℕ). image engine (sv .lent) s ≡ done s img) at-is (sv .saved))
 
-    over-records : SavedAfter models start calls k img middle
+    over-records : SavedAfter gateways start calls k img middle
     over-records =
         record {
           before = sv .before;
@@ -148,8 +152,8 @@ module _ (opcode : ℕ) (prefix : List ℕ) (ok : soundSettings opcode prefix �
           saved = saved-is .0;
         }
 
-    split : trace models start calls ≡ es ++ fs
-    split = ap (λ (cs : List Call). trace models start cs) (sv .split) ∙ trace-append models start (sv .before) rest
+    split : trace gateways start calls ≡ es ++ fs
+    split = ap (λ (cs : List Call). trace gateways start cs) (sv .split) ∙ trace-append gateways start (sv .before) rest
 
     counted : k ≡ length es
     unfolding frames executed
@@ -163,40 +167,40 @@ module _ (opcode : ℕ) (prefix : List ℕ) (ok : soundSettings opcode prefix �
         ∙ ap flat (drop-map (λ (e : Entry Body). e .wrote) k (es ++ fs))
         ∙ ap (λ (i : ℕ). saidBy (drop i (es ++ fs))) counted ∙ ap saidBy (drop-append-seam es fs)
 
-    origin : start .position ≡ 0
-    unfolding fresh
+    origin : start .core .position ≡ 0
+    unfolding freshOn fresh
     origin = refl
 
-    replay-is : (room j : ℕ) → replayInto engine room at (journal engine block calls j) ≡ onReached whole (replayInto models room middle (journal models start calls j))
+    replay-is : (room j : ℕ) → replayInto engine room at (journal engine block calls j) ≡ onReached whole (replayInto gateways room middle (journal gateways start calls j))
     replay-is room j =
         ap (λ (s : List ℕ). replayInto engine room s (journal engine block calls j)) at-is
         ∙ ap (replayInto engine room (whole middle)) (journal-is j)
-        ∙ replays-blocks room (λ p. true) middle (walk-good (sv .before)) (journal models start calls j)
+        ∙ replays-blocks room (λ p. true) middle (walk-good (sv .before)) (journal gateways start calls j)
 
     through : (j : ℕ) → 1 ≤ j → j ≤ k + 1 → (room : ℕ) → length (flat (drop k (answers engine block calls))) + answerRoom ≤ room
-        → replayInto models room middle (journal models start calls j) .stop ≡ none
+        → replayInto gateways room middle (journal gateways start calls j) .stop ≡ none
     through zero h i room big = absurd (not-suc-le-zero h)
     through (suc i) h q room big =
-        runs-through room middle (walk models middle rest) (journal models start calls (suc i)) fs
-        (session-ahead models laws start middle (walk models middle rest) calls es fs split (runs models laws start (sv .before))
-        (runs models laws middle rest) origin (walk-good (sv .before)) i (omega (arith, counted)))
+        runs-through room middle (walk gateways middle rest) (journal gateways start calls (suc i)) fs
+        (session-ahead gateways laws start middle (walk gateways middle rest) calls es fs split (runs gateways laws start (sv .before))
+        (runs gateways laws middle rest) origin (walk-good (sv .before)) i (omega (arith, counted)))
         (subst (λ (l : List ℕ). length l + answerRoom ≤ room) left-said big) .0
 
     goes-there : (j : ℕ) → 1 ≤ j → j ≤ k + 1 → (room : ℕ) → length (flat (drop k (answers engine block calls))) + answerRoom ≤ room
         → Ended (replayInto engine room at (journal engine block calls j)) (walk engine block calls) (flat (drop k (answers engine block calls))) none
     unfolding onReached flat
     goes-there j h i room big =
-        let t : List ℕ = journal models start calls j in
-        let f : Failover models start calls k img middle = demand3 opcode prefix ok calls .images k img middle over-records in
+        let t : List ℕ = journal gateways start calls j in
+        let f : Failover gateways start calls k img middle = demand3 opcode prefix ok calls .images k img middle over-records in
         let r = f .goes-on j h i (λ n. answerRoom) enough in
-        let w : Same [] (replayInto models room middle t) (replay models (λ n. answerRoom) middle t) =
-        replay-whole models room middle t (λ n. answerRoom) (λ z. none≢some (sym (through j h i room big) ∙ z)) enough in
+        let w : Same [] (replayInto gateways room middle t) (replay gateways (λ n. answerRoom) middle t) =
+        replay-whole gateways room middle t (λ n. answerRoom) (λ z. none≢some (sym (through j h i room big) ∙ z)) enough in
         let y = replay-is room j in
         record {
-          state-is = ap (λ (x : Reached (List ℕ)). x .state) y ∙ ap whole (w .state ∙ ap (λ (v : Replayed Model). v .state) r) ∙ sym (walk-is calls);
-          wrote-is = ap (λ (x : Reached (List ℕ)). x .wrote) y ∙ w .wrote ∙ ap (λ (v : Replayed Model). flat (v .answers)) r
+          state-is = ap (λ (x : Reached (List ℕ)). x .state) y ∙ ap whole (w .state ∙ ap (λ (v : Replayed Gateway). v .state) r) ∙ sym (walk-is calls);
+          wrote-is = ap (λ (x : Reached (List ℕ)). x .wrote) y ∙ w .wrote ∙ ap (λ (v : Replayed Gateway). flat (v .answers)) r
               ∙ ap (λ (a : List (List ℕ)). flat (drop k a)) (sym answers-are);
-          stop-is = ap (λ (x : Reached (List ℕ)). x .stop) y ∙ w .stop ∙ ap (λ (v : Replayed Model). v .stop) r;
+          stop-is = ap (λ (x : Reached (List ℕ)). x .stop) y ∙ w .stop ∙ ap (λ (v : Replayed Gateway). v .stop) r;
         }
 
     gap-there : (j : ℕ) → k + 1 < j → j ≤ frames engine block calls → (room : ℕ) → answerRoom ≤ room
@@ -205,24 +209,24 @@ module _ (opcode : ℕ) (prefix : List ℕ) (ok : soundSettings opcode prefix �
     gap-there zero h i room big = absurd (not-suc-le-zero h)
     gap-there (suc i) h q room big =
         let n : length (map (λ (e : Entry Body). e .line) (trace engine block calls)) ≡ length es + length fs =
-        frames-are calls ∙ length-map (trace models start calls) (λ e. e .line) ∙ ap length split ∙ length-append es fs in
+        frames-are calls ∙ length-map (trace gateways start calls) (λ e. e .line) ∙ ap length split ∙ length-append es fs in
         replay-is room (suc i)
-        ∙ ap (onReached whole) (session-gap models laws start middle (walk models middle rest) calls es fs split (runs models laws start (sv .before))
-        (runs models laws middle rest) origin (walk-good (sv .before)) i (omega (arith, counted)) (omega (arith, counted, n)) room big)
+        ∙ ap (onReached whole) (session-gap gateways laws start middle (walk gateways middle rest) calls es fs split (runs gateways laws start (sv .before))
+        (runs gateways laws middle rest) origin (walk-good (sv .before)) i (omega (arith, counted)) (omega (arith, counted, n)) room big)
         ∙ ap (λ (s : List ℕ). record { state = s; wrote = []; taken = 0; stop = some 2 }) (sym at-is)
 
     holds : Delivered opcode prefix calls k img at
     unfolding blockIn
     holds =
-        let i : isImage img ≡ true = ap isImage (saved-is .1) ∙ image-is middle (walk-good (sv .before)) in
+        let i : isImageOn img ≡ true = ap isImageOn (saved-is .1) ∙ image-is middle (walk-good (sv .before)) in
         record {
           accepted = i;
-          loaded = ap (λ (b : Bool). blockIn b img) i ∙ ap (λ (t : List ℕ). whole (heldIn t)) (saved-is .1)
+          loaded = ap (λ (b : Bool). blockIn b img) i ∙ ap (λ (t : List ℕ). whole (heldOn t)) (saved-is .1)
               ∙ ap whole (held-image middle (walk-good (sv .before))) ∙ sym at-is;
           goes-on = goes-there;
           gapped = gap-there;
           watched = subst (λ (t : List ℕ). ByHistory radio (pastFrames opcode prefix calls) (pairsIn t))
-              (sym (ap (engine .encode) (walk-is calls) ∙ encode-blocks (walk models start calls) (walk-good calls)))
+              (sym (ap (engine .encode) (walk-is calls) ∙ encode-blocks (walk gateways start calls) (walk-good calls)))
               (demand3 opcode prefix ok calls .by-history);
         }
 

@@ -24,7 +24,8 @@ use Rattle.refusals.specs.declared.Wrote.the-variants.{Done, Refused}
 use Rattle.sessions.specs.Machine.{Outcome, refused, octets, text}
 use Rattle.sessions.specs.Session.{judge}
 use Rattle.model.specs.Frames.{frameOf, readRaw, read}
-use Rattle.model.specs.Engine.{engine}
+use Rattle.wholes.specs.Engine.{withIndex}
+use Rattle.engine.specs.Loose.{indexOn}
 
 -- a part of a slice to its end
 pub tail : (l : List ℕ) (k : ℕ) → take (length l - k) (drop k l) ≡ drop k l
@@ -46,16 +47,16 @@ long-frame raw h = go (isFrame raw) refl
     go true e = let b : length raw ≤ mostFrame = frame-most raw e in absurd (omega arith)
 
 -- a text that does not hold octets enough for a frame, or is none, is refused by 4
-pub line-unread : (s t : List ℕ) (n : ℕ) (x : Refusal) → takeText t n ≡ Refused x → mostFrame ≤ n → judge engine s (read text t) ≡ refused 4
+pub line-unread : (s t : List ℕ) (n : ℕ) (x : Refusal) → takeText t n ≡ Refused x → mostFrame ≤ n → judge (withIndex (indexOn s)) s (read text t) ≡ refused 4
 unfolding takeText read judge
 line-unread s t n x e h = go (isText t) refl (leb (length (octetsIn t)) n) refl e
   where
     go : (a : Bool) → isText t ≡ a → (b : Bool) → leb (length (octetsIn t)) n ≡ b
         → pick (a && b) (Done (length (octetsIn t))) (Refused Rattle.refusals.specs.declared.Refusal.the-variants.NotLine) ≡ Refused x
-        → judge engine s (pick a (readRaw (octetsIn t)) none) ≡ refused 4
-    go false p b q z = ap (judge engine s) (pick-false (readRaw (octetsIn t)) none refl)
+        → judge (withIndex (indexOn s)) s (pick a (readRaw (octetsIn t)) none) ≡ refused 4
+    go false p b q z = ap (judge (withIndex (indexOn s)) s) (pick-false (readRaw (octetsIn t)) none refl)
     go true p false q z =
-        ap (judge engine s) (pick-true (readRaw (octetsIn t)) none refl
+        ap (judge (withIndex (indexOn s)) s) (pick-true (readRaw (octetsIn t)) none refl
         ∙ read-none (octetsIn t) (long-frame (octetsIn t) (let g : n < length (octetsIn t) = leb-false (length (octetsIn t)) n q in omega arith)))
     go true p true q z = let c : _≡_ {A = ℕ} 0 1 = (clash (sym (pick-true (Done (length (octetsIn t))) (Refused Rattle.refusals.specs.declared.Refusal.the-variants.NotLine) refl) ∙ z)) in absurd (omega arith)
       where
@@ -63,6 +64,6 @@ line-unread s t n x e h = go (isText t) refl (leb (length (octetsIn t)) n) refl 
         clash w = cc
 
 -- a text that was read is judged as its octets
-pub line-read : (s t : List ℕ) (n k : ℕ) → takeText t n ≡ Done k → judge engine s (read octets (octetsIn t)) ≡ judge engine s (read text t)
+pub line-read : (s t : List ℕ) (n k : ℕ) → takeText t n ≡ Done k → judge (withIndex (indexOn s)) s (read octets (octetsIn t)) ≡ judge (withIndex (indexOn s)) s (read text t)
 unfolding read
-line-read s t n k e = ap (judge engine s) (sym (pick-true (readRaw (octetsIn t)) none (take-read t n k e .0)))
+line-read s t n k e = ap (judge (withIndex (indexOn s)) s) (sym (pick-true (readRaw (octetsIn t)) none (take-read t n k e .0)))

@@ -1,9 +1,16 @@
--- Demand 3, whole, over records: `Demand3` states it, `Proof` proves it. `Laid` carries what is shown over records to blocks of octets, `Blocks` to whole blocks, `Edges` the rows P1 to P10.
+-- Demand 3, whole, over records: `Demand3` states it of document 01's states, `Proof` proves it; `Claim` states it of states with editions and
+-- sessions with additions (document 02, T-12), `Proved` proves it, `Plainly` has it for sessions without. `Laid` carries what is shown over records
+-- to blocks of octets, `Blocks` to whole blocks. `Awaits` is replay while additions are still to be given again.
 pub mod View
 pub mod Agree
 pub mod Read
 pub mod Demand3
 pub mod Proof
+pub mod Grows
+pub mod Claim
+pub mod Proved
+pub mod Plainly
 pub mod Laid
+pub mod Alone
 pub mod Blocks
-pub mod Edges
+pub mod Awaits

@@ -72,7 +72,7 @@ as-calls M lent s (l ∷ ls) =
     (λ t. as-calls M (λ i. lent (suc i)) t ls) (answer M (lent zero) s text l) refl
 
 -- the bodies of entries, the newest first, before a past
-bodies : {B : Type 0} (es fs : List (Entry B)) (r : List B)
+pub bodies : {B : Type 0} (es fs : List (Entry B)) (r : List B)
     → reverseAux (map (λ x. x .body) (map (λ e. e .line) (es ++ fs))) r
     ≡ reverseAux (map (λ e. e .line .body) fs) (reverseAux (map (λ x. x .body) (map (λ e. e .line) es)) r)
 bodies [] [] r = refl
@@ -80,7 +80,7 @@ bodies [] (f ∷ fs) r = bodies [] fs (f .line .body ∷ r)
 bodies (e ∷ es) fs r = bodies es fs (e .line .body ∷ r)
 
 -- the past after further calls: what they executed, before the past that was
-past-then : (M : Machine) (start : M .S) (before cs : List Call)
+pub past-then : (M : Machine) (start : M .S) (before cs : List Call)
     → past M start (before ++ cs) ≡ reverse (map (λ e. e .line .body) (trace M (walk M start before) cs)) ++ past M start before
 unfolding past executed
 past-then M start before cs =

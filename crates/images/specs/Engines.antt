@@ -7,7 +7,7 @@ use mathlib.Core.List.{List}
 use mathlib.Core.Option.{some}
 use lib.ListN.{length}
 use Rattle.laws.specs.Tests.{and-left, and-right, sames, sames-eq}
-use Rattle.sessions.specs.Machine.{saveRoom}
+use Rattle.sessions.specs.Machine.{coreRoom}
 use Rattle.model.specs.Sound.{soundModel}
 use Rattle.model.specs.Block.{padded, held, sound}
 use Rattle.model.specs.Engine.{blockOf, decode, engine, models}
@@ -33,8 +33,8 @@ engine-restores s e =
     rw (restores (held s) (b .0)) (ap some (b .1))
 
 -- what save writes fits what it is lent at least
-pub models-room : (m : models .S) → models .sound m ≡ true → length (models .encode m) ≤ saveRoom
+pub models-room : (m : models .S) → models .sound m ≡ true → length (models .encode m) ≤ coreRoom
 models-room m e = image-room m e
 
-pub engine-room : (s : engine .S) → engine .sound s ≡ true → length (engine .encode s) ≤ saveRoom
+pub engine-room : (s : engine .S) → engine .sound s ≡ true → length (engine .encode s) ≤ coreRoom
 engine-room s e = image-room (held s) (block-holds s e .0)

@@ -12,7 +12,7 @@ use Rattle.model.specs.Sound.{soundModel}
 use Rattle.model.specs.Image.{imageText}
 use Rattle.images.specs.Sizes.{total, lineLength, headLength, monitorLength, pairLength, endLength, imageLength}
 use Rattle.images.specs.Sizes.{image-length}
-use Rattle.sessions.specs.Machine.{saveRoom}
+use Rattle.sessions.specs.Machine.{coreRoom}
 use Rattle.model.specs.Layout.{irkSize, mostData, mostMonitors, mostPairs, mostPrefix}
 
 -- a monitor with one pattern of 60 octets, of version 2
@@ -89,7 +89,7 @@ unfolding longMonitor longMonitors longPair longPairs longest
 longest-sound = refl
 
 -- The bound is reached.
-pub longest-length : length (imageText longest) ≡ saveRoom
+pub longest-length : length (imageText longest) ≡ coreRoom
 unfolding longMonitor longMonitors longPair longPairs longest
     total lineLength headLength monitorLength pairLength endLength imageLength Rattle.model.specs.Image.extraText
 longest-length = image-length longest longest-sound ∙ refl

@@ -6,7 +6,7 @@ use mathlib.Core.Bool.{true}
 use mathlib.Core.List.{List, [], _∷_, _++_}
 use lib.ListN.{length, replicate}
 use Rattle.octets.specs.Little.{octetsOf}
-use Rattle.sessions.specs.Machine.{saveRoom}
+use Rattle.sessions.specs.Machine.{coreRoom}
 use Rattle.model.specs.Types.{Model, fresh}
 use Rattle.model.specs.Sound.{soundModel}
 use Rattle.model.specs.Image.{imageText}
@@ -39,7 +39,7 @@ unfoldable pub longReached : Model
 longReached = reached models fresh (fresh 0xFC1E (replicate mostPrefix 0x4D)) longFrames
 
 -- it is sound, and its image is as long as lines can be
-measured : (soundModel longReached ≡ true) × (imageLength longReached ≡ saveRoom)
+measured : (soundModel longReached ≡ true) × (imageLength longReached ≡ coreRoom)
 unfolding longAdd longHeard longAdds longFrames longReached
     total lineLength headLength monitorLength pairLength endLength imageLength
     Rattle.model.specs.Rows.replyOf Rattle.model.specs.Rows.same Rattle.model.specs.Rows.imaged
@@ -122,5 +122,5 @@ unfolding longAdd longHeard longAdds longFrames longReached
 measured = (refl, refl)
 
 -- No shorter output would do for its image (and none is longer: Sizes.image-most).
-pub reached-length : (soundModel longReached ≡ true) × (length (imageText longReached) ≡ saveRoom)
+pub reached-length : (soundModel longReached ≡ true) × (length (imageText longReached) ≡ coreRoom)
 reached-length = (measured .0, image-length longReached (measured .0) ∙ measured .1)

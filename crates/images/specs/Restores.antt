@@ -26,35 +26,35 @@ use Rattle.images.specs.Fits.{MonitorFits, Fits, sound-fits, extra-read,
 
 -- lines by their names
 
-rows-append : (n : ℕ) (rs ss : List (List ℕ)) → rowsNamed n (rs ++ ss) ≡ rowsNamed n rs ++ rowsNamed n ss
+pub rows-append : (n : ℕ) (rs ss : List (List ℕ)) → rowsNamed n (rs ++ ss) ≡ rowsNamed n rs ++ rowsNamed n ss
 unfolding rowsNamed
 rows-append n rs ss = rw (keep-append (named n) rs ss) (map-append (drop 1) (keep (named n) rs) (keep (named n) ss))
 
 -- a line of another name is passed over
-rows-other : (n k : ℕ) (r : List ℕ) (rs : List (List ℕ)) → eqb k n ≡ false → rowsNamed n ((k ∷ r) ∷ rs) ≡ rowsNamed n rs
+pub rows-other : (n k : ℕ) (r : List ℕ) (rs : List (List ℕ)) → eqb k n ≡ false → rowsNamed n ((k ∷ r) ∷ rs) ≡ rowsNamed n rs
 unfolding rowsNamed named keep only
 rows-other n k r rs e = rw e
 
 module _ {A : Type 0} (row : A → List ℕ) where
   -- lines of a name are kept, without it
-  rows-own : (n : ℕ) (l : List A) → eqb n n ≡ true → rowsNamed n (map (λ a. n ∷ row a) l) ≡ map row l
+  pub rows-own : (n : ℕ) (l : List A) → eqb n n ≡ true → rowsNamed n (map (λ a. n ∷ row a) l) ≡ map row l
   unfolding rowsNamed named keep only
   rows-own n [] e = refl
   rows-own n (a ∷ l) e = rw e (ap (λ (x : List (List ℕ)). row a ∷ x) (rows-own n l e))
 
   -- lines of another name are not
-  rows-none : (n k : ℕ) (l : List A) → eqb k n ≡ false → rowsNamed n (map (λ a. k ∷ row a) l) ≡ []
+  pub rows-none : (n k : ℕ) (l : List A) → eqb k n ≡ false → rowsNamed n (map (λ a. k ∷ row a) l) ≡ []
   unfolding rowsNamed named keep only
   rows-none n k [] e = refl
   rows-none n k (a ∷ l) e = rw e (rows-none n k l e)
 
   -- nor are they monitors' lines
-  no-monitors : (n : ℕ) (l : List A) → eqb n 0xA1 ≡ false → eqb n 0xA5 ≡ false → keep isMonitor (map (λ a. n ∷ row a) l) ≡ []
+  pub no-monitors : (n : ℕ) (l : List A) → eqb n 0xA1 ≡ false → eqb n 0xA5 ≡ false → keep isMonitor (map (λ a. n ∷ row a) l) ≡ []
   unfolding isMonitor named keep only
   no-monitors n [] e f = refl
   no-monitors n (a ∷ l) e f = rw (e, f) (no-monitors n l e f)
 
-octets-lines : {A : Type 0} (line : A → List ℕ) (P : A → Type 0) (l : List A) → ((a : A) → P a → octets (line a) ≡ true)
+pub octets-lines : {A : Type 0} (line : A → List ℕ) (P : A → Type 0) (l : List A) → ((a : A) → P a → octets (line a) ≡ true)
     → All P l → every octets (map line l) ≡ true
 unfolding every
 octets-lines line P [] f p = refl

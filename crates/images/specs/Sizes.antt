@@ -10,7 +10,7 @@ use lib.ListN.{length, length-append}
 use Rattle.laws.specs.Loops.{each, each-append}
 use Rattle.lines.specs.Hex.{textOf}
 use Rattle.lines.specs.Texts.{length-text}
-use Rattle.sessions.specs.Machine.{saveRoom}
+use Rattle.sessions.specs.Machine.{coreRoom}
 use Rattle.model.specs.Types.{Model, Monitor, Pair}
 use Rattle.model.specs.Sound.{soundModel}
 use Rattle.model.specs.Accepted.{accepted}
@@ -105,7 +105,7 @@ monitor-most x f =
     omega (arith, accepted (x .1) (f .sound .accept) .short, extra-most (x .1 .extra) (f .sound .extra-sound))
 
 -- "image 10,698": the image of a sound state is at most that long.
-pub image-most : (m : Model) → soundModel m ≡ true → length (imageText m) ≤ saveRoom
+pub image-most : (m : Model) → soundModel m ≡ true → length (imageText m) ≤ coreRoom
 unfolding imageLength headLength monitorLength pairLength endLength lineLength
 image-most m e =
     let f : Fits m = sound-fits m e in
@@ -117,5 +117,5 @@ image-most m e =
     omega (arith, f .facts .prefix-most, f .most-mons, f .facts .pairs-most)
 
 -- so it fits what a save is lent
-pub image-room : (m : Model) → soundModel m ≡ true → length (imageText m) ≤ saveRoom
+pub image-room : (m : Model) → soundModel m ≡ true → length (imageText m) ≤ coreRoom
 image-room m e = image-most m e

@@ -8,3 +8,4 @@ pub mod Written
 pub mod Built
 pub mod Renewed
 pub mod Watching
+pub mod Begun

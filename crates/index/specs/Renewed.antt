@@ -1,5 +1,4 @@
--- The index of a block of any octets: whether it is that of the pairs held, and the block with it. And the whole block of a fresh state.
--- Document 02, T-02. Assumes nothing.
+-- The index of a block of any octets: whether it is that of the pairs held, and the block with it. Document 02, T-02. Assumes nothing.
 use Prim.Native.Nat.{ℕ, zero, suc, _+_, _-_, _*_, _≤_, _<_}
 use mathlib.Core.Path.{_≡_, refl, sym, ap, _∙_, subst}
 use mathlib.Core.Bool.{Bool, true, false, _&&_}
@@ -25,15 +24,13 @@ use Rattle.model.specs.Engine.{begin as beginCore}
 use Rattle.model.specs.Layout.{blockSize, countAt, mostPairs, mostPrefix, pairSize, pairsAt, pairsSize}
 use Rattle.wholes.specs.Layout.{entriesSize, entryCountAt, entrySize, indexAt, indexSize, wholeSize}
 use Rattle.wholes.specs.Index.{entryTable, indexBlock, indexOf, maskFor, maskIn, notedAll}
-use Rattle.wholes.specs.Whole.{whole}
 use Rattle.wholes.specs.Kept.{pairEvent}
-use Rattle.wholes.specs.Engine.{begin}
 use Rattle.index.specs.Read.{rows-most, rows-part}
 use Rattle.index.specs.Table.{Tabled}
 
 -- a block of its size, with the index of the pairs that it holds
 unfoldable pub isIndexed : List ℕ → Bool
-isIndexed s = eqb (length s) wholeSize && sames (indexBlock (held s .pairs)) (drop indexAt s)
+isIndexed s = eqb (length s) wholeSize && sames (indexBlock (held s .pairs)) (take indexSize (drop indexAt s))
 
 -- a block with that index; one of another size as it is
 unfoldable pub renewed : List ℕ → List ℕ
@@ -87,13 +84,13 @@ module _ (s : List ℕ) where
   unfolding isIndexed
   indexed-not n = sym (and-not-left (eqb (length s) wholeSize) _ (ne-eqb (length s) wholeSize n))
 
-  pub indexed-is : length s ≡ wholeSize → (x : List ℕ) (k : ℕ) {r : Bool} → x ≡ indexBlock (held s .pairs) → k ≡ length s - indexAt
+  pub indexed-is : length s ≡ wholeSize → (x : List ℕ) (k : ℕ) {r : Bool} → x ≡ indexBlock (held s .pairs) → k ≡ indexSize
       → r ≡ sames x (take k (drop indexAt s)) → r ≡ isIndexed s
   unfolding isIndexed
   indexed-is l x k e n q =
       q ∙ ap (λ (y : List ℕ). sames y (take k (drop indexAt s))) e
-      ∙ ap (sames (indexBlock (held s .pairs))) (take-all k (drop indexAt s) (simp length-drop (omega arith)))
-      ∙ sym (ap (λ (b : Bool). b && sames (indexBlock (held s .pairs)) (drop indexAt s)) (eq-eqb (length s) wholeSize l))
+      ∙ ap (λ (j : ℕ). sames (indexBlock (held s .pairs)) (take j (drop indexAt s))) n
+      ∙ sym (ap (λ (b : Bool). b && sames (indexBlock (held s .pairs)) (take indexSize (drop indexAt s))) (eq-eqb (length s) wholeSize l))
 
   pub renewed-not : (length s ≡ wholeSize → ⊥) → s ≡ renewed s
   unfolding renewed
@@ -105,51 +102,6 @@ module _ (s : List ℕ) where
   renewed-is l x e n p q =
       put-of s indexAt x (length x) (length s) p (omega arith) q ∙ ap (put s indexAt) e
       ∙ sym (pick-true (put s indexAt (indexBlock (held s .pairs))) s (eq-eqb (length s) wholeSize l))
-
--- no pairs: zeros
-pub none-index : indexBlock [] ≡ replicate indexSize 0
-unfolding indexBlock entryTable indexOf notedAll flat
-none-index = refl
-
--- the whole block of a state without pairs
-pub whole-fresh : (m : Model) (c : List ℕ) {r : Bool} {l : List ℕ} → m .pairs ≡ [] → c ≡ padded m → length c ≡ blockSize
-    → r ≡ leb (0 + length c) wholeSize → l ≡ putIf r (replicate wholeSize 0) 0 c → l ≡ whole m
-unfolding whole put
-whole-fresh m c e p n q w =
-    let z : replicate {A = ℕ} wholeSize 0 ≡ replicate blockSize 0 ++ replicate indexSize 0 = sym (replicate-append-replicate blockSize indexSize 0) in
-    put-of (replicate wholeSize 0) 0 c (length c) wholeSize q (omega arith) w
-    ∙ ap (λ (k : ℕ). c ++ drop {A = ℕ} k (replicate wholeSize 0)) (zero-add (length c) ∙ n) ∙ ap (λ (x : List ℕ). c ++ drop blockSize x) z
-    ∙ ap (λ (x : List ℕ). c ++ x) (drop-at (replicate blockSize 0) (replicate indexSize 0) blockSize (length-replicate {A = ℕ} blockSize 0))
-    ∙ ap (λ (x : List ℕ). x ++ replicate indexSize 0) p ∙ ap (λ (x : List ℕ). padded m ++ x) (sym (ap indexBlock e ∙ none-index))
-
--- the length of such a core
-pub fresh-long : (opcode : ℕ) (prefix : List ℕ) → length prefix ≤ mostPrefix → length (padded (fresh opcode prefix)) ≡ blockSize
-unfolding fresh
-fresh-long opcode prefix h =
-    length-padded (fresh opcode prefix)
-    (record { prefix-most = h; short = tt; fit = tt; pairs-most = omega arith })
-
-settings-short : (opcode : ℕ) (prefix : List ℕ) → soundSettings opcode prefix ≡ true → length prefix ≤ mostPrefix
-unfolding soundSettings octetsUpTo
-settings-short opcode prefix e =
-    leb-true (length prefix) mostPrefix (and-left (leb (length prefix) mostPrefix) (every isOctet prefix)
-    (and-right (leb 0xFC00 opcode && leb opcode 0xFFFF) (leb (length prefix) mostPrefix && every isOctet prefix) e))
-
-pub begun-whole : (opcode : ℕ) (prefix c : List ℕ) {r : Bool} {l : List ℕ} → c ≡ beginCore opcode prefix
-    → r ≡ leb (0 + length c) wholeSize → l ≡ putIf r (replicate wholeSize 0) 0 c → l ≡ begin opcode prefix
-unfolding beginCore begin fresh blank
-begun-whole opcode prefix c {r} {l} e q w = go (soundSettings opcode prefix) refl e
-  where
-    go : (b : Bool) → soundSettings opcode prefix ≡ b → c ≡ pick b (padded (fresh opcode prefix)) (padded blank)
-        → l ≡ pick b (whole (fresh opcode prefix)) (whole blank)
-    go true s f =
-        let g : c ≡ padded (fresh opcode prefix) = f ∙ pick-true (padded (fresh opcode prefix)) (padded blank) refl in
-        whole-fresh (fresh opcode prefix) c refl g (ap length g ∙ fresh-long opcode prefix (settings-short opcode prefix s)) q w
-        ∙ sym (pick-true (whole (fresh opcode prefix)) (whole blank) refl)
-    go false s f =
-        let g : c ≡ padded blank = f ∙ pick-false (padded (fresh opcode prefix)) (padded blank) refl in
-        whole-fresh blank c refl g (ap length g ∙ fresh-long 0xFC00 [] (omega arith)) q w
-        ∙ sym (pick-false (whole (fresh opcode prefix)) (whole blank) refl)
 
 -- what a block's index says, from the part that has it
 pub mask-said : (s d : List ℕ) (n k v : ℕ) {r : ℕ} → length s ≡ wholeSize → n ≡ atMost v mostPairs → v ≡ getD s entryCountAt 0 → k ≡ entriesSize

@@ -1,5 +1,5 @@
 // The index by device behind the core of a block (document 02, T-02): worked out from the pairs, asked, compared. And the whole block of a
-// state: its size, and how one is begun. The core is laid out as `State` says.
+// state, with the editions of the prefix (T-12) behind the index: its size, and how one is begun. The core is laid out as `State` says.
 mod table;
 
 use state::Start;
@@ -9,21 +9,22 @@ ghost use mathlib.Core.Path.{_≡_};
 ghost use lib.ListN.{length, replicate};
 ghost use Rattle.octets.specs.Little.{value};
 ghost use Rattle.state.specs.Start.{settingsOf};
-ghost use Rattle.model.specs.Types.{blank as blankModel, device};
+ghost use Rattle.model.specs.Types.{device};
 ghost use Rattle.model.specs.Block.{held};
-ghost use Rattle.model.specs.Layout.{addressSize};
+ghost use Rattle.model.specs.Layout.{addressSize, blockSize};
 ghost use Rattle.wholes.specs.Layout.{indexSize, wholeSize};
 ghost use Rattle.wholes.specs.Index.{indexBlock, maskFor, handlesOf};
 ghost use Rattle.wholes.specs.Whole.{whole};
-ghost use Rattle.wholes.specs.Engine.{begin};
+ghost use Rattle.wholes.specs.Engine.{begin, blankOn};
+ghost use Rattle.index.specs.Begun.{begunWith};
 ghost use Rattle.index.specs.Asked.{watchOf};
 ghost use Rattle.index.specs.Renewed.{isIndexed, isMoved, followed, renewed};
 
 // The octet that opens an event of a pair.
 const EVENT: u8 = 0xFF;
 
-// The whole block of a state: the core, and behind it the index, a row for each device in the order of its first held pair, and the number
-// of entries. What is not in use is 0.
+// The whole block of a state: the core; behind it the index, a row for each device in the order of its first held pair, and the number of
+// entries; behind that the editions of the prefix in rising order and their number. What is not in use is 0.
 pub struct Whole {
     pub block: [u8; Whole::SIZE],
 }
@@ -51,12 +52,26 @@ impl Whole {
     pub const ENTRIES: usize = Whole::ENTRY * State::PAIRS;
 
     pub const INDEX: usize = Whole::ENTRIES + 1;
-    // The whole block: the core, the index.
+    // Editions of the prefix, at most. An edition's row: number (4), prefix length, prefix.
+    pub const EDITIONS: usize = 32;
+
+    pub const EDITION: usize = 5 + State::PREFIX;
+    // The whole block: the core, the index, the editions' rows, their number.
     pub const INDEX_AT: usize = State::SIZE;
 
     pub const COUNT_AT: usize = Whole::INDEX_AT + Whole::ENTRIES;
 
-    pub const SIZE: usize = Whole::INDEX_AT + Whole::INDEX;
+    pub const EDITIONS_AT: usize = Whole::INDEX_AT + Whole::INDEX;
+
+    pub const EDITION_COUNT_AT: usize = Whole::EDITIONS_AT + Whole::EDITION * Whole::EDITIONS;
+
+    pub const SIZE: usize = Whole::EDITION_COUNT_AT + 1;
+    // The prefix of the first edition, with its length.
+    pub const FIRST_AT: usize = Whole::EDITIONS_AT + 4;
+    // An edition's line in an image, and the longest image.
+    pub const EDITION_LINE: usize = 2 * (1 + Whole::EDITION) + 1;
+
+    pub const IMAGE: usize = State::IMAGE + Whole::EDITION_LINE * Whole::EDITIONS;
 
     // The fresh state with these settings; the blank one and refusal 9 where they are out of range.
     pub fn fresh(opcode: u16, prefix: &[u8]) -> Opened
@@ -66,8 +81,7 @@ impl Whole {
         let answer = begun.answer;
         let fresh = begun.state;
         let core = fresh.block;
-        let mut block = [0u8; Whole::SIZE];
-        parts::copy(&mut block, 0, &core);
+        let block = open_block(&core);
         Opened {
             answer: answer,
             state: Whole { block },
@@ -76,14 +90,29 @@ impl Whole {
 
     // The blank state: fresh, opcode 0xFC00, empty prefix.
     pub fn blank() -> Whole
-        ensures { λ r. ⌜ r .block ≡ whole blankModel ⌝ }
+        ensures { λ r. ⌜ r .block ≡ whole blankOn ⌝ }
     {
         let fresh = State::blank();
         let core = fresh.block;
-        let mut block = [0u8; Whole::SIZE];
-        parts::copy(&mut block, 0, &core);
+        let block = open_block(&core);
         Whole { block }
     }
+}
+
+// A core without pairs as a whole block: no entry, and its prefix is the edition from 0 on.
+fn open_block(core: &[u8]) -> [u8; Whole::SIZE]
+    requires { ⌜ length (now core) ≡ blockSize ⌝ }
+    ensures { λ r. ⌜ r ≡ begunWith (now (core .entry)) ⌝ }
+{
+    let mut block = [0u8; Whole::SIZE];
+    parts::copy(&mut block, 0, core);
+    parts::copy(
+        &mut block,
+        Whole::FIRST_AT,
+        &core[State::PREFIX_LENGTH_AT..State::HEAD],
+    );
+    block[Whole::EDITION_COUNT_AT] = 1;
+    block
 }
 
 // What a mask says: how many handles it has and the lowest, or that there is none.
@@ -150,7 +179,7 @@ pub fn is_indexed(s: &[u8]) -> bool
     }
     let mut index = [0u8; Whole::INDEX];
     work_out(s, &mut index);
-    parts::same(&index, &s[Whole::INDEX_AT..])
+    parts::same(&index, &s[Whole::INDEX_AT..Whole::EDITIONS_AT])
 }
 
 // The index of a block worked out afresh; a block of another size is left as it is.

@@ -3,7 +3,7 @@
 use Prim.Native.Nat.{ℕ, _+_}
 use mathlib.Core.Path.{_≡_, refl, ap, _∙_}
 use mathlib.Core.Bool.{Bool, true, false, false≢true}
-use mathlib.Core.List.{List, [], _∷_, _++_}
+use mathlib.Core.List.{List, [], _∷_, _++_, map}
 use mathlib.Core.Option.{none}
 use lib.ListN.{length, replicate}
 use Rattle.laws.specs.Loops.{every}
@@ -19,7 +19,7 @@ use Rattle.model.specs.Rows.{Row, Reply, wrote, replyOf, same, answered, reache
 use Rattle.model.specs.Requests.{addKey, aa, bb}
 use Rattle.model.specs.Second.{addSecond, ofAa, second}
 use Rattle.model.specs.Sound.{soundSettings, octetsUpTo}
-use Rattle.failover.specs.Edges.{inRange, rows-blocks}
+use Rattle.edges.specs.Edges.{inRange, opensFull, withEdition, rows-so}
 
 -- a packet of kind 02 with no data: number, address type, address, RSSI; the event of a start and the report of such a packet, with the
 -- address received
@@ -266,9 +266,9 @@ unfolding keyed every
 keyed-hold = rw (image-holds, watch-holds, not-holds, second-holds)
 
 in-range : every inRange keyed ≡ true
-unfolding every inRange keyed session t03image t03watch t03not t13key soundSettings octetsUpTo
+unfolding every inRange opensFull keyed session t03image t03watch t03not t13key soundSettings octetsUpTo
 in-range = refl
 
--- and of the engine over blocks
-pub engine-keyed : every (right engine begin) keyed ≡ true
-engine-keyed = rows-blocks keyed in-range ∙ keyed-hold
+-- and of the engine over blocks, with the A4 line in images
+pub engine-keyed : every (right engine begin) (map withEdition keyed) ≡ true
+engine-keyed = rows-so keyed in-range keyed-hold

@@ -1,8 +1,8 @@
-// The refusals of every call with their numbers (document 01, Refusal numbers), and what a call that writes answers.
+// The refusals of every call with their numbers (document 01, Refusal numbers; document 02, T-12), and what a call that writes answers.
 ghost use mathlib.Core.Path.{_≡_};
 ghost use Rattle.refusals.specs.Numbers.{number};
 
-// Why a call was refused. Document 01's numbers stand in number_of.
+// Why a call was refused. The documents' numbers stand in number_of.
 pub enum Refusal {
     // The frame number is at most the position.
     Seen,
@@ -22,6 +22,12 @@ pub enum Refusal {
     BadSettings,
     // Not an image of a sound state.
     NotImage,
+    // As many editions as there may be.
+    Full,
+    // An edition's number is not above the last one's, or not above the position.
+    NotRising,
+    // An edition's prefix is too long.
+    LongPrefix,
 }
 
 // What writing or reading a line answers: how many octets were written, or why none were.
@@ -30,7 +36,7 @@ pub enum Wrote {
     Refused(Refusal),
 }
 
-// The number that document 01 gives a refusal.
+// The number that the documents give a refusal.
 pub fn number_of(r: Refusal) -> u8
     ensures { λ n. ⌜ n ≡ number r ⌝ }
 {
@@ -44,5 +50,8 @@ pub fn number_of(r: Refusal) -> u8
         Refusal::Unsound => 7,
         Refusal::BadSettings => 9,
         Refusal::NotImage => 10,
+        Refusal::Full => 13,
+        Refusal::NotRising => 14,
+        Refusal::LongPrefix => 15,
     }
 }

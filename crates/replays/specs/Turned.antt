@@ -92,7 +92,7 @@ turned M 𝓛 goes room s end shown hidden es a =
 
 module _ (M : Machine) (𝓛 : Laws M) where
   -- the lines of a run up to a position were seen there
-  run-seen : (p : ℕ) (s u : M .S) (es : List (Entry (M .Body))) → Run M s es u → M .pos u ≤ p → SeenLines M p (map (lineOf M) es)
+  pub run-seen : (p : ℕ) (s u : M .S) (es : List (Entry (M .Body))) → Run M s es u → M .pos u ≤ p → SeenLines M p (map (lineOf M) es)
   run-seen p s u [] r h = tt
   run-seen p s u (e ∷ es) r h =
       let x = r .1 in
@@ -111,12 +111,12 @@ module _ (M : Machine) (𝓛 : Laws M) where
       ∙ ap (λ (l : List (List ℕ)). cut (flatten l)) (map-lines M es)
       ∙ cut-lines (map (lineOf M) es) (run-lines M 𝓛 (d .0) (walk M s cs) es (d .1))
 
-  map-join : (es fs : List (Entry (M .Body))) → map (lineOf M) (es ++ fs) ≡ map (lineOf M) es ++ map (lineOf M) fs
+  pub map-join : (es fs : List (Entry (M .Body))) → map (lineOf M) (es ++ fs) ≡ map (lineOf M) es ++ map (lineOf M) fs
   map-join [] fs = refl
   map-join (e ∷ es) fs = ap (λ (l : List (List ℕ)). lineOf M e ∷ l) (map-join es fs)
 
   -- a run that begins past the next frame is refused at its first line
-  run-gap : (at s u : M .S) (gs : List (Entry (M .Body))) (room : ℕ) → M .sound at ≡ true → Run M s gs u → M .pos at < M .pos s → 0 < length gs
+  pub run-gap : (at s u : M .S) (gs : List (Entry (M .Body))) (room : ℕ) → M .sound at ≡ true → Run M s gs u → M .pos at < M .pos s → 0 < length gs
       → answerRoom ≤ room → linesWhile M (λ p. true) room (begun at) (map (lineOf M) gs) ≡ record { state = at; wrote = []; taken = 0; stop = some 2 }
   unfolding linesWhile lineFrom reach begun
   run-gap at s u [] room good r h z big = absurd (not-suc-le-zero z)

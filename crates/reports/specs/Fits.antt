@@ -4,7 +4,7 @@ use mathlib.Core.Path.{_≡_, refl, sym, ap, _∙_}
 use mathlib.Core.Bool.{Bool, true, false, not, _&&_}
 use mathlib.Core.List.{List, [], _∷_, _++_}
 use native.Mathlib.Omega.{arith}
-use borrow.Author.Tests.{lt-ltb, le-ltb}
+use borrow.Author.Tests.{lt-ltb, le-ltb, eq-eqb, ne-eqb}
 use lib.Dec.{ltb, eqb}
 use lib.ListN.{length, take, length-append}
 use Rattle.laws.specs.Tests.{pick, pick-true, pick-false}
@@ -17,7 +17,7 @@ use Rattle.turns.specs.Swap.{longLine}
 use Rattle.takeover.specs.declared.Next.{Next}
 use Rattle.takeover.specs.declared.Next.the-variants.{Stopped}
 use Rattle.takeover.specs.declared.Flow.{Flow}
-use Rattle.reports.specs.Texts.{room, next, reasonOf, reasonText, gapText, stopText, isEnded, sizeText, pieceText, countsText, refusedOf, summaryOf, warns, warningOf, progressOf, every}
+use Rattle.reports.specs.Texts.{room, next, additionReason, reasonOf, restOf, reasonText, gapText, stopText, isEnded, sizeText, pieceText, countsText, refusedOf, summaryOf, warns, warningOf, progressOf, every}
 use Rattle.model.specs.Quoted.{codes}
 use Rattle.reports.specs.Joined.{joined, whole}
 
@@ -31,13 +31,17 @@ unfolding pick
 either true xs ys n h k = h
 either false xs ys n h k = k
 
-reason-most : (n : ℕ) → length (reasonOf n) ≤ 33
+addition-most : (n : ℕ) → length (additionReason n) ≤ 50
+unfolding additionReason codes
+addition-most n = either (eqb n 13) _ _ 50 (omega arith) (either (eqb n 14) _ _ 50 (omega arith) (either (eqb n 15) _ _ 50 (omega arith) (omega arith)))
+
+reason-most : (n : ℕ) → length (reasonOf n) ≤ 50
 unfolding reasonOf codes
 reason-most n =
-    either (eqb n 2) _ _ 33 (omega arith) (either (eqb n 4) _ _ 33 (omega arith) (either (eqb n 5) _ _ 33 (omega arith) (
-    either (eqb n 6) _ _ 33 (omega arith) (either (eqb n 7) _ _ 33 (omega arith) (either (eqb n 10) _ _ 33 (omega arith) (omega arith))))))
+    either (eqb n 2) _ _ 50 (omega arith) (either (eqb n 4) _ _ 50 (omega arith) (either (eqb n 5) _ _ 50 (omega arith) (
+    either (eqb n 6) _ _ 50 (omega arith) (either (eqb n 7) _ _ 50 (omega arith) (either (eqb n 10) _ _ 50 (omega arith) (addition-most n))))))
 
-text-most : (n : ℕ) → length (reasonText n) ≤ 66
+text-most : (n : ℕ) → length (reasonText n) ≤ 83
 unfolding reasonText codes
 text-most n = simp length-append (omega (arith, digits n, reason-most n))
 
@@ -71,6 +75,16 @@ refused-whole x n i o e q =
     whole (reasonText (number x) ++ codes "\n")
     (joined (reasonText (number x)) (codes "\n") (e ∙ ap (λ (l : List ℕ). take room (l ++ reasonText n)) o ∙ ap (λ (j : ℕ). take room (reasonText j)) i) q)
     (simp length-append (omega (arith, text-most (number x))))
+
+pub rest-none : (n : ℕ) {r : List ℕ} → n ≡ 0 → r ≡ [] → r ≡ restOf n
+unfolding restOf
+rest-none n e o = o ∙ sym (pick-true [] (codes ": a last piece without LF not read\n") (eq-eqb n 0 e))
+
+pub rest-some : (n : ℕ) {s r : List ℕ} → (n ≡ 0 → ⊥) → s ≡ [] → r ≡ take room (s ++ codes ": a last piece without LF not read\n") → r ≡ restOf n
+unfolding restOf codes
+rest-some n e o q =
+    q ∙ ap (λ (l : List ℕ). take room (l ++ codes ": a last piece without LF not read\n")) o
+    ∙ sym (pick-false [] (codes ": a last piece without LF not read\n") (ne-eqb n 0 e))
 
 pub summary-whole : (f : Flow) (p : ℕ) {a b r : List ℕ} → a ≡ take room (countsText (f .lines) (f .executed) p) → b ≡ take room (a ++ pieceText (f .next) (f .held))
     → r ≡ take room (b ++ codes "\n") → r ≡ summaryOf f p

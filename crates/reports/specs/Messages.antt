@@ -19,7 +19,7 @@ use Rattle.turns.specs.Swap.{longLine}
 use Rattle.takeover.specs.declared.Next.{Next}
 use Rattle.takeover.specs.declared.Next.the-variants.{Read, Again, Ended, Stopped}
 use Rattle.takeover.specs.declared.Flow.{Flow}
-use Rattle.reports.specs.Texts.{room, next, reasonOf, reasonText, gapText, stopText, foundIn, isEnded, sizeText, pieceText, countsText, summaryOf, warns, warningOf, progressOf, every}
+use Rattle.reports.specs.Texts.{room, next, additionReason, reasonOf, reasonText, gapText, stopText, foundIn, isEnded, sizeText, pieceText, countsText, summaryOf, warns, warningOf, progressOf, every}
 use Rattle.model.specs.Quoted.{codes}
 use Rattle.reports.specs.Joined.{joined, whole}
 
@@ -27,10 +27,15 @@ use Rattle.reports.specs.Joined.{joined, whole}
 recut : (xs ys : List ℕ) {r : List ℕ} → r ≡ take room xs → xs ≡ ys → r ≡ take room ys
 recut xs ys e q = e ∙ ap (λ (l : List ℕ). take room l) q
 
--- a refusal without words
-pub reason-none : (n : ℕ) → (n ≡ 2 → ⊥) → (n ≡ 4 → ⊥) → (n ≡ 5 → ⊥) → (n ≡ 6 → ⊥) → (n ≡ 7 → ⊥) → (n ≡ 10 → ⊥) → [] ≡ reasonOf n
+-- a refusal with other words
+pub reason-none : (n : ℕ) → (n ≡ 2 → ⊥) → (n ≡ 4 → ⊥) → (n ≡ 5 → ⊥) → (n ≡ 6 → ⊥) → (n ≡ 7 → ⊥) → (n ≡ 10 → ⊥) → additionReason n ≡ reasonOf n
 unfolding reasonOf pick
 reason-none n a b c d e f = rw (ne-eqb n 2 a, ne-eqb n 4 b, ne-eqb n 5 c, ne-eqb n 6 d, ne-eqb n 7 e, ne-eqb n 10 f) refl
+
+-- an addition's refusal without words
+pub addition-none : (n : ℕ) → (n ≡ 13 → ⊥) → (n ≡ 14 → ⊥) → (n ≡ 15 → ⊥) → [] ≡ additionReason n
+unfolding additionReason pick
+addition-none n a b c = rw (ne-eqb n 13 a, ne-eqb n 14 b, ne-eqb n 15 c) refl
 
 module _ (t : List ℕ) {r : List ℕ} where
   pub refused-so : (n : ℕ) {s : List ℕ} → s ≡ take room (t ++ (codes ": refused by " ++ decimal n)) → r ≡ take room (s ++ reasonOf n)

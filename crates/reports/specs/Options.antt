@@ -39,9 +39,13 @@ behindOf i there = pick there (i + 1) i
 unfoldable pub firstName : Asked → ℕ
 firstName a = behindOf (behindOf (behindOf (behindOf 1 (a .numbered)) (a .progress)) (a .given)) (a .given)
 
--- whether so many words are good options and two file names
+-- whether so many words are good options and two file names, or three
 unfoldable pub fitsOf : Asked → ℕ → Bool
-fitsOf a words = a .good && eqb words (firstName a + 2)
+fitsOf a words = a .good && (leb (firstName a + 2) words && leb words (firstName a + 3))
+
+-- whether the third is there, the name of the additions' file
+unfoldable pub addsOf : Asked → ℕ → Bool
+addsOf a words = eqb words (firstName a + 3)
 
 -- a word that begins as an option does, and standard input
 unfoldable pub isOption : List ℕ → Bool
@@ -53,3 +57,8 @@ isDash word = sames word (codes "-")
 -- whether two words may be the names of an image and a journal: not both standard input, and the first no option
 unfoldable pub namesOf : List ℕ → List ℕ → Bool
 namesOf image journal = not (isDash image && isDash journal) && not (isOption image)
+
+-- with a third of additions: no two of the three standard input
+unfoldable pub threeOf : List ℕ → List ℕ → List ℕ → Bool
+threeOf image journal additions =
+    not (isDash image && isDash additions) && (not (isDash journal && isDash additions) && namesOf image journal)

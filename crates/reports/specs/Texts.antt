@@ -13,6 +13,8 @@ use Rattle.refusals.specs.Numbers.{number}
 use Rattle.model.specs.Quoted.{codes}
 use Rattle.reader.specs.Pairs.{leading}
 use Rattle.turns.specs.Swap.{longLine}
+use Rattle.engine.specs.declared.Stop.{Stop}
+use Rattle.engine.specs.declared.Stop.the-variants.{End, Refused as Halted}
 use Rattle.takeover.specs.declared.Next.{Next}
 use Rattle.takeover.specs.declared.Next.the-variants.{Read, Again, Ended, Stopped}
 use Rattle.takeover.specs.declared.Flow.{Flow}
@@ -30,12 +32,18 @@ told t = take (t .count) (t .octets)
 unfoldable pub next : ℕ → ℕ
 next n = min (n + 1) top
 
+-- the number of a refused addition in words (document 02, T-12)
+unfoldable pub additionReason : ℕ → List ℕ
+additionReason n =
+    pick (eqb n 13) (codes " (list of editions full)") (pick (eqb n 14) (codes " (number not rising or not above the position)") (
+    pick (eqb n 15) (codes " (prefix too long)") []))
+
 -- a refusal's number in words
 unfoldable pub reasonOf : ℕ → List ℕ
 reasonOf n =
     pick (eqb n 2) (codes " (gap)") (pick (eqb n 4) (codes " (not a line)") (pick (eqb n 5) (codes " (payload not of its kind's form)") (
     pick (eqb n 6) (codes " (another opcode)") (pick (eqb n 7) (codes " (the state is not sound)") (
-    pick (eqb n 10) (codes " (not an image of a sound state)") [])))))
+    pick (eqb n 10) (codes " (not an image of a sound state)") (additionReason n))))))
 
 -- a refusal
 unfoldable pub reasonText : ℕ → List ℕ
@@ -63,6 +71,15 @@ stopBy (Stopped x) lines position found = stopText lines (number x) position fou
 
 unfoldable pub stopOf : Flow → ℕ → List ℕ → List ℕ
 stopOf f position text = stopBy (f .next) (f .lines) position (foundIn text)
+
+-- what is said of additions of which one was refused, by the lines accepted before it, behind their file's name
+unfoldable pub additionBy : Stop → ℕ → List ℕ
+additionBy End lines = []
+additionBy (Halted x) lines = stopText lines (number x) 0 0
+
+-- of a last piece of their file that was not read, behind its name
+unfoldable pub restOf : ℕ → List ℕ
+restOf size = pick (eqb size 0) [] (codes ": a last piece without LF not read\n")
 
 -- a refused image, behind its name
 unfoldable pub refusedOf : Refusal → List ℕ

@@ -3,11 +3,12 @@
 ghost use mathlib.Core.Path.{_≡_};
 ghost use Prim.Native.Nat.{_≤_};
 ghost use Rattle.reports.specs.Choices.{Loads};
-ghost use Rattle.reports.specs.Options.{plainAsked, optionOf, firstName, fitsOf, isDash as isDashOf, namesOf};
-ghost use Rattle.reports.specs.Texts.{told, stopOf, refusedOf, summaryOf, warningOf, progressOf};
+ghost use Rattle.reports.specs.Options.{plainAsked, optionOf, firstName, fitsOf, addsOf, isDash as isDashOf, namesOf, threeOf};
+ghost use Rattle.reports.specs.Texts.{told, stopOf, additionBy, restOf, refusedOf, summaryOf, warningOf, progressOf};
 use engine::Restored;
+use engine::Stop;
+use index::Whole;
 use refusals::Refusal;
-use state::State;
 use takeover::Flow;
 use takeover::Next;
 
@@ -19,7 +20,7 @@ pub mod words;
 pub const ROOM: usize = 256;
 
 // One octet more than the longest image has: a file that fills it is no image.
-pub const IMAGE_ROOM: usize = State::IMAGE + 1;
+pub const IMAGE_ROOM: usize = Whole::IMAGE + 1;
 
 // A text: its characters stand at the start.
 pub struct Text {
@@ -57,6 +58,26 @@ pub fn stop(flow: Flow, position: u32, text: &[u8]) -> Text
             messages::found_in(text),
         ),
     }
+}
+
+// What is said of additions of which one was refused, behind their file's name: the line's number and why. Nothing where none was.
+pub fn addition(lines: u64, halt: Stop) -> Text
+    ensures { λ r. ⌜ told r ≡ additionBy halt lines ⌝ }
+{
+    match halt {
+        Stop::End => words::blank(),
+        Stop::Refused(x) => messages::stopped(lines, refusals::number_of(x), 0, 0),
+    }
+}
+
+// What is said, behind its name, of a file of additions that ends with so many octets without LF.
+pub fn rest(held: usize) -> Text
+    ensures { λ r. ⌜ told r ≡ restOf held ⌝ }
+{
+    if held == 0 {
+        return words::blank();
+    }
+    words::with(words::blank(), b": a last piece without LF not read\n")
 }
 
 // What is said of a refused image, behind its name.
@@ -128,15 +149,25 @@ pub fn first_name(asked: Asked) -> usize
     options::first_name(asked)
 }
 
-// Whether so many words are good options and two file names.
+// Whether so many words are good options and two file names, or three.
 pub fn fits(asked: Asked, words: usize) -> bool
     ensures { λ r. ⌜ r ≡ fitsOf asked words ⌝ }
 {
     let first = options::first_name(asked);
     if asked.good {
-        return words == first + 2;
+        if words < first + 2 {
+            return false;
+        }
+        return words <= first + 3;
     }
     false
+}
+
+// Whether a third file name is among so many words: that of the additions.
+pub fn adds(asked: Asked, words: usize) -> bool
+    ensures { λ r. ⌜ r ≡ addsOf asked words ⌝ }
+{
+    words == options::first_name(asked) + 3
 }
 
 // Whether a word stands for standard input.
@@ -154,6 +185,19 @@ pub fn are_names(image: &[u8], journal: &[u8]) -> bool
         return false;
     }
     !options::is_option(image)
+}
+
+// Whether a third word may be the name of the additions' file beside them.
+pub fn are_three(image: &[u8], journal: &[u8], additions: &[u8]) -> bool
+    ensures { λ r. ⌜ r ≡ threeOf (now (image .entry)) (now (journal .entry)) (now (additions .entry)) ⌝ }
+{
+    if options::both_dashes(image, additions) {
+        return false;
+    }
+    if options::both_dashes(journal, additions) {
+        return false;
+    }
+    are_names(image, journal)
 }
 
 // The state of an image's file, of which so many octets were read: all that it has, or as many as the room takes.

@@ -5,7 +5,7 @@ ghost use mathlib.Core.Bool.{_&&_, not};
 ghost use Prim.Native.Nat.{_-_, _≤_};
 ghost use lib.ListN.{length, take};
 ghost use lib.Dec.{eqb};
-ghost use Rattle.reports.specs.Texts.{room, told, next as nextOf, reasonOf, reasonText, gapText, stopText, foundIn, isEnded, sizeText, pieceText, warns as warnsOf, countsText};
+ghost use Rattle.reports.specs.Texts.{room, told, next as nextOf, additionReason, reasonOf, reasonText, gapText, stopText, foundIn, isEnded, sizeText, pieceText, warns as warnsOf, countsText};
 use super::Text;
 use crate::words::blank;
 use crate::words::said;
@@ -32,6 +32,22 @@ fn next(n: u64) -> u64
     n
 }
 
+// The number of a refused addition in words, behind a text.
+fn added(t: Text, number: u8) -> Text
+    ensures { λ r. ⌜ told r ≡ take room (told t ++ additionReason number) ⌝ }
+{
+    if number == 13 {
+        return with(t, b" (list of editions full)");
+    }
+    if number == 14 {
+        return with(t, b" (number not rising or not above the position)");
+    }
+    if number == 15 {
+        return with(t, b" (prefix too long)");
+    }
+    with(t, b"")
+}
+
 // A refusal's number in words, behind a text.
 fn reasoned(t: Text, number: u8) -> Text
     ensures { λ r. ⌜ told r ≡ take room (told t ++ reasonOf number) ⌝ }
@@ -54,7 +70,7 @@ fn reasoned(t: Text, number: u8) -> Text
     if number == 10 {
         return with(t, b" (not an image of a sound state)");
     }
-    with(t, b"")
+    added(t, number)
 }
 
 // A refusal behind a text.

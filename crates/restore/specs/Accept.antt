@@ -20,7 +20,7 @@ use Rattle.images.specs.Exactly.{image-exactly}
 use Rattle.images.specs.Sizes.{image-most}
 use Rattle.save.specs.Text.{savedText}
 use Rattle.save.specs.Image.{saved-image}
-use Rattle.sessions.specs.Machine.{saveRoom}
+use Rattle.sessions.specs.Machine.{coreRoom}
 use Rattle.model.specs.Layout.{blockSize}
 
 -- what an image holds is sound, and the image is its text
@@ -45,7 +45,7 @@ both-ways false true f g = g refl
 both-ways false false f g = refl
 
 -- "image 10,698": a longer text is none
-pub image-long : (t : List ℕ) → saveRoom < length t → isImage t ≡ false
+pub image-long : (t : List ℕ) → coreRoom < length t → isImage t ≡ false
 image-long t h =
     not-so (isImage t) (λ i.
     let n : length t ≡ length (imageText (heldIn t)) = ap (λ (x : List ℕ). length x) (image-text t i) in

@@ -8,7 +8,7 @@ use Rattle.laws.specs.Tests.{pick}
 use Rattle.laws.specs.Put.{put, putIf, take-put, length-put}
 use Rattle.save.specs.Text.{savedText, saves, length-savedText}
 use Rattle.save.specs.Steps.{saves-done}
-use Rattle.sessions.specs.Machine.{saveRoom}
+use Rattle.sessions.specs.Machine.{coreRoom}
 use Rattle.model.specs.Layout.{blockSize}
 
 -- what save wrote into enough room: the block's text, from the start
@@ -20,11 +20,11 @@ pub record Written (s after : List ℕ) (n : ℕ) : Type 0 where
 pub written : (s out : List ℕ) {after : List ℕ} {n : ℕ}
     → (n ≡ pick (saves s (length out)) (length (savedText s)) 0)
     × (after ≡ putIf (saves s (length out)) out 0 (savedText s))
-    → length s ≡ blockSize → saveRoom ≤ length out → Written s after n
+    → length s ≡ blockSize → coreRoom ≤ length out → Written s after n
 unfolding pick putIf
 written s out {after} {n} p h k =
     let q : (n ≡ length (savedText s)) × (after ≡ put out 0 (savedText s)) = rw (saves-done s (length out) h k) at p in
-    let b : length (savedText s) ≤ saveRoom = length-savedText s in
+    let b : length (savedText s) ≤ coreRoom = length-savedText s in
     let l : length (put out 0 (savedText s)) ≡ length out = length-put out 0 (savedText s) (omega arith) in
     record {
       count = q .0;
@@ -34,10 +34,10 @@ written s out {after} {n} p h k =
 
 -- the same of 10,698 octets of 0
 pub written-zeros : (s : List ℕ) {after : List ℕ} {n : ℕ} → length s ≡ blockSize
-    → (n ≡ pick (saves s (length {A = ℕ} (replicate saveRoom 0))) (length (savedText s)) 0)
-    × (after ≡ putIf (saves s (length {A = ℕ} (replicate saveRoom 0))) (replicate saveRoom 0) 0 (savedText s))
+    → (n ≡ pick (saves s (length {A = ℕ} (replicate coreRoom 0))) (length (savedText s)) 0)
+    × (after ≡ putIf (saves s (length {A = ℕ} (replicate coreRoom 0))) (replicate coreRoom 0) 0 (savedText s))
     → Written s after n
 written-zeros s h p =
-    let z : List ℕ = replicate saveRoom 0 in
-    let e : length z ≡ saveRoom = length-replicate {A = ℕ} saveRoom 0 in
+    let z : List ℕ = replicate coreRoom 0 in
+    let e : length z ≡ coreRoom = length-replicate {A = ℕ} coreRoom 0 in
     written s z p h (omega arith)

@@ -1,4 +1,4 @@
-// Runs texts through restore and save (document 01, The image; refusal 10). Standard input holds texts, each with a
+// Runs texts through restore and save of whole blocks (document 01, The image; refusal 10; document 02, T-12). Standard input holds texts, each with a
 // letter before it and '=' behind it. For each a line is written: 0 where it is refused, else a digest of the
 // restored block and of the text that save writes of it. S adds three digests, of the answers to every text that is
 // one character of it off, one octet's digits off, and cut at every length; L, for the largest image, changes two
@@ -6,7 +6,7 @@
 // implementation.
 ghost use Prim.Native.Nat.{_+_, _≤_, _<_};
 ghost use lib.ListN.{length};
-use state::State;
+use index::Whole;
 
 fn mix(d: u64, x: u64) -> u64
     ensures { λ r. ⌜ r < 1000003 ⌝ }
@@ -30,9 +30,9 @@ fn digest(s: &[u8]) -> u64
 fn again(s: &[u8]) -> u64
     ensures { λ r. ⌜ r < 1000003 ⌝ }
 {
-    let mut out = [0u8; State::IMAGE];
-    let n = save::save_image(s, &mut out);
-    if n <= State::IMAGE {
+    let mut out = [0u8; Whole::IMAGE];
+    let n = snapshots::save_image(s, &mut out);
+    if n <= Whole::IMAGE {
         return digest(&out[..n]);
     }
     0
@@ -40,8 +40,8 @@ fn again(s: &[u8]) -> u64
 
 // 0 where a text is refused, else a digest of the block and of its text.
 fn answer(text: &[u8]) -> u64 {
-    let mut s = [165u8; State::SIZE];
-    if restore::read_image(text, &mut s) {
+    let mut s = [165u8; Whole::SIZE];
+    if snapshots::read_image(text, &mut s) {
         return 1 + mix(digest(&s), again(&s));
     }
     0

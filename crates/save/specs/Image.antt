@@ -20,7 +20,7 @@ use Rattle.lines.specs.Hex.{textOf}
 use Rattle.rule.specs.Base.{All}
 use Rattle.rule.specs.Engine.{find}
 use Rattle.rule.specs.Finds.{find-above}
-use Rattle.sessions.specs.Machine.{saveRoom}
+use Rattle.sessions.specs.Machine.{coreRoom}
 use Rattle.model.specs.Types.{Model, Monitor, Pair}
 use Rattle.model.specs.Sound.{soundModel}
 use Rattle.model.specs.Image.{headRow, monitorRow, extraText, nameOf, monitorText as recordOf, pairRow, endRow, records}
@@ -277,7 +277,7 @@ saved-image m e =
 
 -- What save leaves where the block is that of a sound state and there is room.
 pub saves-model : (m : Model) (s out : List ℕ) {after : List ℕ} {n : ℕ} → soundModel m ≡ true → s ≡ padded m
-    → saveRoom ≤ length out
+    → coreRoom ≤ length out
     → n ≡ pick (saves s (length out)) (length (savedText s)) 0
     → after ≡ putIf (saves s (length out)) out 0 (savedText s)
     → (n ≡ length (imageText m)) × (after ≡ put out 0 (imageText m))
@@ -285,7 +285,7 @@ unfolding saves putIf pick
 saves-model m s out {after} {n} h e r p q =
     let t : (eqb (length s) blockSize) ≡ true = eq-eqb (length s) blockSize
     (ap (λ (l : List ℕ). length l) e ∙ padded-length m h) in
-    let u : leb saveRoom (length out) ≡ true = le-leb saveRoom (length out) r in
+    let u : leb coreRoom (length out) ≡ true = le-leb coreRoom (length out) r in
     let v : savedText s ≡ imageText m = ap savedText e ∙ saved-image m h in
     (rw (t, u, v) at p, rw (t, u, v) at q)
 
@@ -294,7 +294,7 @@ abbrev pub Answered : List ℕ → List ℕ → List ℕ → ℕ → Type 0
 Answered s out after n =
     ((n ≡ pick (saves s (length out)) (length (savedText s)) 0)
     × (after ≡ putIf (saves s (length out)) out 0 (savedText s)))
-    × ((m : Model) → soundModel m ≡ true → s ≡ padded m → saveRoom ≤ length out
+    × ((m : Model) → soundModel m ≡ true → s ≡ padded m → coreRoom ≤ length out
     → (n ≡ length (imageText m)) × (after ≡ put out 0 (imageText m)))
 
 pub save-whole : (s out : List ℕ) {after : List ℕ} {n : ℕ} → n ≡ pick (saves s (length out)) (length (savedText s)) 0

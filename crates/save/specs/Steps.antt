@@ -22,7 +22,7 @@ use Rattle.octets.specs.Numbers.{atMost, at-most}
 use Rattle.save.specs.Text.{fieldsOf, lineOf, monitorText, monitorAt, pairAt, pairText}
 use Rattle.save.specs.Text.{liveBelow, monitorsText, pairsText, headText, endText}
 use Rattle.save.specs.Text.{savedText, saves, pairsIn}
-use Rattle.sessions.specs.Machine.{saveRoom}
+use Rattle.sessions.specs.Machine.{coreRoom}
 use Rattle.model.specs.Layout.{blockSize, conditionAt, conditionLengthAt, countAt, dataAt, extraAt, extraSize, headSize, intervalAt, lengthAt, monitorLine, monitorSize, monitorsAt, mostCondition, mostData, mostMonitors, mostPairs, mostPrefix, pairSize, pairsAt, prefixLengthAt}
 
 -- what is put over a shorter part that was put there stands alone
@@ -242,10 +242,10 @@ module _ (s : List ℕ) (room : ℕ) where
   unfolding saves
   saves-not-block h = rw (ne-eqb (length s) blockSize h)
 
-  pub saves-short : room < saveRoom → saves s room ≡ false
+  pub saves-short : room < coreRoom → saves s room ≡ false
   unfolding saves
-  saves-short h = and-not-right (eqb (length s) blockSize) (leb saveRoom room) (lt-leb saveRoom room h)
+  saves-short h = and-not-right (eqb (length s) blockSize) (leb coreRoom room) (lt-leb coreRoom room h)
 
-  pub saves-done : length s ≡ blockSize → saveRoom ≤ room → saves s room ≡ true
+  pub saves-done : length s ≡ blockSize → coreRoom ≤ room → saves s room ≡ true
   unfolding saves
-  saves-done h k = rw (eq-eqb (length s) blockSize h, le-leb saveRoom room k)
+  saves-done h k = rw (eq-eqb (length s) blockSize h, le-leb coreRoom room k)

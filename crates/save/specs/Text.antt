@@ -19,7 +19,7 @@ use Rattle.lines.specs.Texts.{length-text}
 use Rattle.model.specs.Block.{inUse}
 use Rattle.blocks.specs.Added.{addedIn}
 use Rattle.model.specs.Layout.{headLine, monitorLine, pairLine}
-use Rattle.sessions.specs.Machine.{saveRoom}
+use Rattle.sessions.specs.Machine.{coreRoom}
 use Rattle.model.specs.Layout.{blockSize, conditionAt, conditionLengthAt, countAt, dataAt, extraAt, extraSize, headSize, lengthAt, monitorSize, monitorsAt, mostCondition, mostData, mostMonitors, mostPairs, mostPrefix, pairSize, pairsAt, prefixAt, prefixLengthAt}
 
 -- "A0 line: position (4), filter, opcode (2), prefix length, prefix", from the start of the block
@@ -74,7 +74,7 @@ savedText s =
 
 -- whether save writes: the block has its size, and 10,698 octets are lent
 unfoldable pub saves : List ℕ → ℕ → Bool
-saves s room = eqb (length s) blockSize && leb saveRoom room
+saves s room = eqb (length s) blockSize && leb coreRoom room
 
 -- lengths
 
@@ -138,7 +138,7 @@ unfolding pairsIn
 pairs-most s = at-most (getD s countAt 0) mostPairs
 
 -- "image 10,698": no block has a longer text
-pub length-savedText : (s : List ℕ) → length (savedText s) ≤ saveRoom
+pub length-savedText : (s : List ℕ) → length (savedText s) ≤ coreRoom
 unfolding savedText
 length-savedText s =
     let e = length-endText (length (liveBelow s mostMonitors)) (pairsIn s) in

@@ -12,7 +12,7 @@ ghost use lib.Dec.{eqb};
 ghost use Rattle.laws.specs.Put.{put, putIf};
 ghost use Rattle.laws.specs.Tests.{pick};
 ghost use Rattle.lines.specs.Hex.{textOf};
-ghost use Rattle.sessions.specs.Machine.{saveRoom};
+ghost use Rattle.sessions.specs.Machine.{coreRoom};
 ghost use Rattle.model.specs.Types.{Model};
 ghost use Rattle.model.specs.Sound.{soundModel};
 ghost use Rattle.model.specs.Image.{imageText};
@@ -134,7 +134,7 @@ fn put_end(out: &mut [u8], at: usize, mons: usize, pairs: usize) -> usize
 }
 
 fn put_image(s: &[u8], out: &mut [u8]) -> usize
-    requires { ⌜ (length (now s) ≡ blockSize) × (saveRoom ≤ length (now out)) ⌝ }
+    requires { ⌜ (length (now s) ≡ blockSize) × (coreRoom ≤ length (now out)) ⌝ }
     ensures { λ r. ⌜ (r ≡ length (savedText (now (s .entry)))) × (now (out .exit) ≡ put (now (out .entry)) 0 (savedText (now (s .entry)))) ⌝ }
 {
     let n = octets::at_most(s[State::COUNT_AT], State::PAIRS);
@@ -150,7 +150,7 @@ fn put_image(s: &[u8], out: &mut [u8]) -> usize
 // other block it is savedText, the lines of what stands in its rows.
 pub fn save_image(s: &[u8], out: &mut [u8]) -> usize
     ensures { λ r. ⌜ (r ≡ pick (saves (now (s .entry)) (length (now (out .entry)))) (length (savedText (now (s .entry)))) 0) × (now (out .exit) ≡ putIf (saves (now (s .entry)) (length (now (out .entry)))) (now (out .entry)) 0 (savedText (now (s .entry)))) ⌝ }
-    ensures { λ r. ⌜ ((m : Model) → soundModel m ≡ true → now (s .entry) ≡ padded m → saveRoom ≤ length (now (out .entry)) → (r ≡ length (imageText m)) × (now (out .exit) ≡ put (now (out .entry)) 0 (imageText m))) ⌝ }
+    ensures { λ r. ⌜ ((m : Model) → soundModel m ≡ true → now (s .entry) ≡ padded m → coreRoom ≤ length (now (out .entry)) → (r ≡ length (imageText m)) × (now (out .exit) ≡ put (now (out .entry)) 0 (imageText m))) ⌝ }
 {
     if s.len() != State::SIZE {
         return 0;

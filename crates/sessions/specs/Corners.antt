@@ -21,7 +21,7 @@ use Rattle.sessions.specs.Replay.{failover, map-lines}
 use Rattle.sessions.specs.History.{walk-sound}
 
 module _ (M : Machine) (𝓛 : Laws M) (fresh : M .S) (origin : M .pos fresh ≡ 0) (good : M .sound fresh ≡ true) where
-  -- Images can be had everywhere: a save that stands anywhere in a session and is lent 10,698 octets is not refused.
+  -- Images can be had everywhere: a save that stands anywhere in a session and is lent 13,162 octets is not refused.
   pub saved-anywhere :
       (before later : List Call) (lent : ℕ) → saveRoom ≤ lent
       → SavedAfter M fresh (before ++ (save lent ∷ later)) (frames M fresh before) (M .encode (walk M fresh before))

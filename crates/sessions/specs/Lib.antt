@@ -6,11 +6,15 @@
 pub mod Machine
 pub mod Session
 pub mod Saved
+pub mod Additions
 pub mod Past
 pub mod Cuts
 pub mod Refusals
 pub mod Runs
 pub mod Replay
+pub mod Woven
+pub mod Given
+pub mod Plain
 pub mod History
 pub mod Corners
 pub mod Toy

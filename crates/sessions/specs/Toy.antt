@@ -123,8 +123,8 @@ toyCalls =
     give 2880 octets (1 ∷ 5 ∷ [])
     ∷ give 2880 octets (1 ∷ 5 ∷ [])
     ∷ give 2879 octets (2 ∷ 7 ∷ [])
-    ∷ save 10698
-    ∷ save 10698
+    ∷ save 13162
+    ∷ save 13162
     ∷ give 2880 octets (3 ∷ 7 ∷ [])
     ∷ give 2880 text (13 ∷ 18 ∷ 10 ∷ [])
     ∷ give 2880 octets (3 ∷ 0 ∷ [])
@@ -143,9 +143,9 @@ toy-saved =
           give 2880 octets (1 ∷ 5 ∷ [])
           ∷ give 2880 octets (1 ∷ 5 ∷ [])
           ∷ give 2879 octets (2 ∷ 7 ∷ [])
-          ∷ save 10698
+          ∷ save 13162
           ∷ [];
-      lent = 10698;
+      lent = 13162;
       later =
           give 2880 octets (3 ∷ 7 ∷ [])
           ∷ give 2880 text (13 ∷ 18 ∷ 10 ∷ [])

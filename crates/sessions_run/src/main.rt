@@ -12,7 +12,6 @@ use index::Whole;
 use libc::STDIN_FILENO;
 use libc::STDOUT_FILENO;
 use refusals::Wrote;
-use state::State;
 
 // The largest prime below 2^54: the digest is a polynomial's value modulo it.
 const PRIME: u64 = 18014398509481951;
@@ -21,7 +20,7 @@ const PRIME: u64 = 18014398509481951;
 const COUNTED: u64 = 1000000000;
 
 // One more octet than the longest image has.
-const IMAGE_ROOM: usize = State::IMAGE + 1;
+const IMAGE_ROOM: usize = Whole::IMAGE + 1;
 
 // The output of one call of replay: two of the longest answers fit, so that a long session needs several calls.
 const ANSWER_ROOM: usize = 6000;

@@ -26,6 +26,6 @@ pub(super) fn say_of(name: &[u8], text: Text) {
 
 pub(super) fn usage() {
     say(
-        b"usage: standby [--after N] [--numbered] [--progress] IMAGE JOURNAL (one of them may be -)\n",
+        b"usage: standby [--after N] [--numbered] [--progress] IMAGE JOURNAL [ADDITIONS] (one of them may be -)\n",
     );
 }

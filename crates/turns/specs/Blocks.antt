@@ -7,52 +7,54 @@ use native.Mathlib.Omega.{arith}
 use Rattle.sessions.specs.Machine.{Laws, Executes, Line, Outcome, refused, done}
 use Rattle.model.specs.Types.{Model}
 use Rattle.model.specs.Frames.{Body}
-use Rattle.model.specs.Step.{act}
-use Rattle.model.specs.Sound.{soundModel}
 use Rattle.model.specs.Block.{held}
-use Rattle.wholes.specs.Whole.{whole, soundWhole}
-use Rattle.wholes.specs.Laid.{held-whole, sound-whole, whole-good}
+use Rattle.editions.specs.Editions.{Gateway, soundGateway, actOn}
+use Rattle.editions.specs.Engine.{gateways}
+use Rattle.wholes.specs.Whole.{heldWhole, whole, soundWhole}
+use Rattle.wholes.specs.Laid.{held-whole, core-whole, sound-whole, whole-good, whole-held}
 use Rattle.wholes.specs.Restores.{engine-restores}
 use Rattle.wholes.specs.Engine.{engine, actWhole, onWholes}
-use Rattle.steps.specs.Executed.{position-suc}
-use Rattle.steps.specs.Keeps.{keeps}
-use Rattle.failover.specs.Read.{fits, reads, one-line, body-octets}
+use Rattle.failover.specs.Read.{fits, reads, one-line}
+use Rattle.failover.specs.Grows.{Went, went}
 
 -- an executed frame on blocks is one on records
-pub record OnModel (s : List ℕ) (b : Body) (t wrote : List ℕ) : Type 0 where
-  pub model : Model
-  pub acts : act (held s) b ≡ done model wrote
-  pub block : whole model ≡ t
+pub record OnGateway (s : List ℕ) (b : Body) (t wrote : List ℕ) : Type 0 where
+  pub state : Gateway
+  pub acts : actOn (heldWhole s) b ≡ done state wrote
+  pub block : whole state ≡ t
 
-pub on-model : (s : List ℕ) (b : Body) (t wrote : List ℕ) → actWhole s b ≡ done t wrote → OnModel s b t wrote
+pub on-gateway : (s : List ℕ) (b : Body) (t wrote : List ℕ) → actWhole s b ≡ done t wrote → OnGateway s b t wrote
 unfolding actWhole onWholes
-on-model s b t wrote e = go (act (held s) b) refl e
+on-gateway s b t wrote e = go (actOn (heldWhole s) b) refl e
   where
-    go : (o : Outcome Model) → act (held s) b ≡ o → onWholes o ≡ done t wrote → OnModel s b t wrote
+    go : (o : Outcome Gateway) → actOn (heldWhole s) b ≡ o → onWholes o ≡ done t wrote → OnGateway s b t wrote
     go (refused n) p q = let z : _≡_ {A = ℕ} 0 1 = cc in absurd (omega arith)
-    go (done n l) p q = let u : l ≡ wrote = cc in record { model = n; acts = p ∙ ap (done n) u; block = cc }
+    go (done n l) p q = let u : l ≡ wrote = cc in record { state = n; acts = p ∙ ap (done n) u; block = cc }
 
--- what an executed frame leaves: a sound state, of which the block is held
-record Left (s : List ℕ) (b : Body) (t wrote : List ℕ) : Type 0 where
-  pub on : OnModel s b t wrote
-  pub good : soundModel (on .model) ≡ true
-  pub holds : held t ≡ on .model
+-- what an executed frame leaves
+pub record Left (s : List ℕ) (x : Line Body) (t wrote : List ℕ) : Type 0 where
+  pub on : OnGateway s (x .body) t wrote
+  pub executes : Executes gateways (heldWhole s) x (on .state) wrote
+  pub went-so : Went (heldWhole s) (on .state) x wrote
 
-left : (s t : List ℕ) (x : Line Body) (a : List ℕ) → Executes engine s x t a → Left s (x .body) t a
+pub left : (s t : List ℕ) (x : Line Body) (a : List ℕ) → Executes engine s x t a → Left s x t a
+unfolding heldWhole
 left s t x a e =
-    let o : OnModel s (x .body) t a = on-model s (x .body) t a (e .acts) in
-    let g : soundModel (o .model) ≡ true =
-    keeps (held s) (o .model) (x .body) a (whole-good s (e .before)) (e .room) (body-octets (e .form) (e .raw) x (e .given)) (o .acts) in
-    record { on = o; good = g; holds = ap held (sym (o .block)) ∙ held-whole (o .model) g }
+    let o : OnGateway s (x .body) t a = on-gateway s (x .body) t a (e .acts) in
+    let ex : Executes gateways (heldWhole s) x (o .state) a =
+    record { form = e .form; raw = e .raw; given = e .given; before = whole-good s (e .before); next = e .next; room = e .room; acts = o .acts } in
+    record { on = o; executes = ex; went-so = went (heldWhole s) (o .state) x a ex }
 
 -- the laws of the engine
 pub laws : Laws engine
+unfolding heldWhole
 laws =
     record {
-      advance = λ s t x a e. let l : Left s (x .body) t a = left s t x a e in
-          ap (λ (m : Model). m .position) (l .holds) ∙ position-suc (held s) (l .on .model) (x .body) a (l .on .acts);
-      keeps = λ s t x a e. let l : Left s (x .body) t a = left s t x a e in
-          subst (λ (u : List ℕ). soundWhole u ≡ true) (l .on .block) (sound-whole (l .on .model) (l .good));
+      advance = λ s t x a e. let l : Left s x t a = left s t x a e in
+          ap (λ (u : List ℕ). held u .position) (sym (l .on .block))
+          ∙ ap (λ (m : Model). m .position) (core-whole (l .on .state) (l .went-so .sound)) ∙ l .went-so .position;
+      keeps = λ s t x a e. let l : Left s x t a = left s t x a e in
+          subst (λ (u : List ℕ). soundWhole u ≡ true) (l .on .block) (sound-whole (l .on .state) (l .went-so .sound));
       restores = engine-restores;
       fits = fits;
       reads = reads;

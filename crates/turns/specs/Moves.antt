@@ -18,7 +18,8 @@ use Rattle.model.specs.Types.{Model}
 use Rattle.model.specs.Frames.{Body, Typed, command, packet, tick, bad, typed}
 use Rattle.model.specs.Step.{act, actTyped, refusalTyped, stepTyped, answerTyped}
 use Rattle.model.specs.Block.{held}
-use Rattle.wholes.specs.Whole.{whole}
+use Rattle.editions.specs.Editions.{Gateway, withPrefix, prefixFor, beside, actOn}
+use Rattle.wholes.specs.Whole.{heldWhole, whole}
 use Rattle.wholes.specs.Engine.{engine, actWhole, onWholes}
 use Rattle.replays.specs.Into.{Reached, begun, reach, lineFrom, linesWhile}
 use Rattle.turns.specs.Takeover.{Next, reads, again, ended, stopped, nextOf, acts}
@@ -189,9 +190,13 @@ typed-rooms m f e = go (eqb (refusalTyped m f) 0) e
     go false q = not-three m f (refused-inj (refusalTyped m f) 3 q)
 
 pub engine-rooms : Rooms engine
-unfolding actWhole onWholes act
-engine-rooms = record { acts = λ s b e. go s b (act (held s) b) refl e }
+unfolding actWhole onWholes actOn beside act
+engine-rooms =
+    record {
+      acts = λ s b e. let g : Gateway = heldWhole s in
+          go s b (withPrefix (g .core) (prefixFor (suc (g .core .position)) (g .editions))) (act (withPrefix (g .core) (prefixFor (suc (g .core .position)) (g .editions))) b) refl e;
+    }
   where
-    go : (s : List ℕ) (b : Body) (o : Outcome Model) → act (held s) b ≡ o → onWholes o ≡ refused 3 → ⊥
-    go s b (done m a) p q = done≢refused (whole m) a 3 q
-    go s b (refused k) p q = typed-rooms (held s) (typed b) (p ∙ ap refused (refused-inj k 3 q))
+    go : (s : List ℕ) (b : Body) (m : Model) (o : Outcome Model) → act m b ≡ o → onWholes (beside (heldWhole s .editions) o) ≡ refused 3 → ⊥
+    go s b m (done t a) p q = done≢refused (whole (record { core = t; editions = heldWhole s .editions })) a 3 q
+    go s b m (refused k) p q = typed-rooms m (typed b) (p ∙ ap refused (refused-inj k 3 q))

@@ -38,7 +38,10 @@ use Rattle.steps.specs.Executed.{Executed, executed}
 use Rattle.steps.specs.Named.{Named, held-named, named-moved, turns-named, stop-named, starts-named}
 use Rattle.failover.specs.Read.{body-octets}
 use Rattle.wholes.specs.Laid.{whole-good}
-use Rattle.turns.specs.Blocks.{laws, OnModel, on-model}
+use Rattle.wholes.specs.Whole.{heldWhole}
+use Rattle.editions.specs.Editions.{Gateway, withPrefix, prefixFor}
+use Rattle.editions.specs.Facts.{Parts, parts-of, prefix-fits, prefixed-sound}
+use Rattle.turns.specs.Blocks.{laws, Left, left}
 use Rattle.turns.specs.Events.{Whole, nothing, whole-one, whole-append}
 use Rattle.model.specs.Layout.{mostMonitors}
 
@@ -211,8 +214,13 @@ engine-tells =
       below = λ lent s t l a q. ran engine laws lent s t l a q .executes .room;
       whole = λ lent s t l a q. let r : Ran engine s t a = ran engine laws lent s t l a q in
           let e : Executes engine s (r .line) t a = r .executes in
-          let o : OnModel s (r .line .body) t a = on-model s (r .line .body) t a (e .acts) in
-          act-whole (held s) (o .model) (r .line .body) a (whole-good s (e .before)) (body-octets (e .form) (e .raw) (r .line) (e .given)) (o .acts);
+          let l : Left s (r .line) t a = left s t (r .line) a e in
+          let g : Gateway = heldWhole s in
+          let p : Parts g = parts-of g (whole-good s (e .before)) in
+          let m : Model = withPrefix (g .core) (prefixFor (suc (g .core .position)) (g .editions)) in
+          act-whole m (l .on .state .core) (r .line .body) a
+          (prefixed-sound (g .core) (prefixFor (suc (g .core .position)) (g .editions)) (p .core) (prefix-fits (suc (g .core .position)) (g .editions) (p .editions)))
+          (body-octets (e .form) (e .raw) (r .line) (e .given)) (l .went-so .core);
       keeps = λ lent s t l a q. let r : Ran engine s t a = ran engine laws lent s t l a q in laws .keeps s t (r .line) a (r .executes);
       long = long-unread;
     }

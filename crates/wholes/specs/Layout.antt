@@ -1,7 +1,8 @@
--- What stands behind the core of a block: the places of the index by device (document 02, T-02). `Whole` in the crate index has the same
--- numbers for the code. All of these unfold everywhere: arithmetic sees the numbers.
+-- What stands behind the core of a block: the places of the index by device (document 02, T-02) and of the editions of the prefix (T-12).
+-- `Whole` in the crate index has the same numbers for the code. All of these unfold everywhere: arithmetic sees the numbers.
 use Prim.Native.Nat.{ℕ, _+_, _*_}
 use Rattle.model.specs.Layout.{blockSize, addressSize, mostPairs}
+use Rattle.editions.specs.Block.{editionCountAt, editionsSize}
 
 -- An entry's row: address type, address, mask (2).
 abbrev pub deviceSize : ℕ
@@ -20,12 +21,18 @@ entriesSize = entrySize * mostPairs
 abbrev pub indexSize : ℕ
 indexSize = entriesSize + 1
 
--- The whole block: the core, the index.
+-- The whole block: the core, the index, the editions and their number.
 abbrev pub indexAt : ℕ
 indexAt = blockSize
 
 abbrev pub entryCountAt : ℕ
 entryCountAt = indexAt + entriesSize
 
+abbrev pub editionsAt : ℕ
+editionsAt = indexAt + indexSize
+
+abbrev pub editionsCountAt : ℕ
+editionsCountAt = editionsAt + editionCountAt
+
 abbrev pub wholeSize : ℕ
-wholeSize = indexAt + indexSize
+wholeSize = editionsAt + editionsSize

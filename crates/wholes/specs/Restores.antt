@@ -5,12 +5,11 @@ use mathlib.Core.Path.{_≡_, ap}
 use mathlib.Core.Bool.{true}
 use mathlib.Core.List.{List}
 use mathlib.Core.Option.{some}
-use Rattle.model.specs.Block.{held}
-use Rattle.images.specs.Engines.{models-restore}
-use Rattle.wholes.specs.Whole.{soundWhole}
+use Rattle.editions.specs.Images.{restores}
+use Rattle.wholes.specs.Whole.{heldWhole, soundWhole}
 use Rattle.wholes.specs.Laid.{whole-good, whole-held}
 use Rattle.wholes.specs.Engine.{engine, decode, wholeOf}
 
 pub engine-restores : (s : List ℕ) → soundWhole s ≡ true → engine .decode (engine .encode s) ≡ some s
 unfolding decode wholeOf
-engine-restores s e = rw (models-restore (held s) (whole-good s e)) (ap some (whole-held s e))
+engine-restores s e = rw (restores (heldWhole s) (whole-good s e)) (ap some (whole-held s e))

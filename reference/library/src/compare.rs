@@ -55,7 +55,7 @@ pub fn first_difference(seed: u64, index: u64, fault: Fault, counts: &mut Counts
 }
 
 /// A call of the library; a line is written by its own function.
-fn given(library: &mut Library, call: &Call) -> Outcome {
+pub fn given(library: &mut Library, call: &Call) -> Outcome {
     match call {
         Call::WriteLine { octets, lent } => script::lending(*lent, |out| line(octets, out)),
         _ => script::call(library, call),
@@ -63,6 +63,6 @@ fn given(library: &mut Library, call: &Call) -> Outcome {
 }
 
 /// An outcome with its octets in one.
-fn one(outcome: Outcome) -> Outcome {
+pub fn one(outcome: Outcome) -> Outcome {
     Outcome { written: vec![outcome.written.concat()], ..outcome }
 }

@@ -23,8 +23,8 @@ impl Default for Library {
 pub fn refusal(number: u8) -> Refusal {
     use Refusal::*;
     let all =
-        [Seen, Gap, ShortOutput, NotALine, Payload, OtherOpcode, Unsound, Settings, NotAnImage];
-    all.into_iter().find(|r| r.number() == number).expect("the library gives numbers of document 01")
+        [Seen, Gap, ShortOutput, NotALine, Payload, OtherOpcode, Unsound, Settings, NotAnImage, ListFull, NotRising, LongPrefix];
+    all.into_iter().find(|r| r.number() == number).expect("the library gives numbers of documents 01 and 02")
 }
 
 fn told<T>(answer: Result<T, u8>) -> Result<T, Refusal> {
@@ -77,6 +77,10 @@ impl Engine for Library {
         let (state, number) = State::begin(opcode, prefix);
         self.state = state;
         bare(number)
+    }
+
+    fn add_edition(&mut self, from: u32, prefix: &[u8]) -> Result<(), Refusal> {
+        bare(self.state.add_edition(from, prefix))
     }
 
     fn give(&mut self, given: Option<&[u8]>, out: &mut [u8]) -> Result<usize, Refusal> {

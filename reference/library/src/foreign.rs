@@ -1,7 +1,8 @@
 //! The declarations of `include/bournejade.h` and of the system's clock, and a safe function over each. The only unsafe code but for
-//! `limit`: a slice is valid for its length and never null, a block has 5,802 octets, and what is lent mutably overlaps nothing.
+//! `limit`: a slice is valid for its length and never null, a block has 6,987 octets, and what is lent mutably overlaps nothing.
 
 use crate::{Ran, Refused, STATE};
+use reference::month::Row;
 
 extern "C" {
     fn bournejade_version() -> u32;
@@ -11,6 +12,7 @@ extern "C" {
     fn bournejade_line_size() -> usize;
     fn bournejade_begin(state: *mut u8, opcode: u16, prefix: *const u8, prefix_size: usize) -> u8;
     fn bournejade_position(state: *const u8) -> u32;
+    fn bournejade_add_edition(state: *mut u8, from: u32, prefix: *const u8, prefix_size: usize) -> u8;
     fn bournejade_submit(
         state: *mut u8,
         frame: *const u8,
@@ -26,6 +28,16 @@ extern "C" {
         out: *mut u8,
         out_size: usize,
         wrote: *mut usize,
+    ) -> u8;
+    fn bournejade_count_line(
+        state: *mut u8,
+        line: *const u8,
+        line_size: usize,
+        out: *mut u8,
+        out_size: usize,
+        wrote: *mut usize,
+        rows: *mut Lent,
+        rows_count: usize,
     ) -> u8;
     fn bournejade_write_line(
         frame: *const u8,
@@ -55,6 +67,16 @@ extern "C" {
         scan_size: usize,
         comparisons: *mut usize,
     ) -> u8;
+}
+
+/// A row as the header lays it out.
+#[repr(C)]
+#[derive(Clone, Copy)]
+struct Lent {
+    packets: u64,
+    reports: u64,
+    ticks: u64,
+    sum: i64,
 }
 
 /// A time as the system has it (`struct timespec` of 64-bit Linux).
@@ -108,6 +130,10 @@ pub fn position(block: &Block) -> u32 {
     unsafe { bournejade_position(block.as_ptr()) }
 }
 
+pub fn add_edition(block: &mut Block, from: u32, prefix: &[u8]) -> Refused {
+    unsafe { bournejade_add_edition(block.as_mut_ptr(), from, prefix.as_ptr(), prefix.len()) }
+}
+
 pub fn submit(block: &mut Block, frame: &[u8], out: &mut [u8]) -> Result<usize, Refused> {
     let (state, room) = (block.as_mut_ptr(), out.len());
     let mut wrote = 0;
@@ -126,6 +152,36 @@ pub fn submit_line(block: &mut Block, line: &[u8], out: &mut [u8]) -> Result<usi
         },
         wrote,
     )
+}
+
+pub fn count_line(
+    block: &mut Block,
+    line: &[u8],
+    out: &mut [u8],
+    rows: &mut [Row],
+) -> Result<usize, Refused> {
+    let lent =
+        |row: &Row| Lent { packets: row.packets, reports: row.reports, ticks: row.ticks, sum: row.sum };
+    let mut lent: Vec<Lent> = rows.iter().map(lent).collect();
+    let (state, text, size, room) = (block.as_mut_ptr(), line.as_ptr(), line.len(), out.len());
+    let mut wrote = usize::MAX;
+    let refusal = unsafe {
+        bournejade_count_line(
+            state,
+            text,
+            size,
+            out.as_mut_ptr(),
+            room,
+            &mut wrote,
+            lent.as_mut_ptr(),
+            lent.len(),
+        )
+    };
+    assert!(refusal == 0 || wrote == 0, "a refusal writes nothing");
+    for (row, new) in rows.iter_mut().zip(&lent) {
+        *row = Row { packets: new.packets, reports: new.reports, ticks: new.ticks, sum: new.sum };
+    }
+    told(refusal, wrote)
 }
 
 pub fn write_line(frame: &[u8], out: &mut [u8]) -> Result<usize, Refused> {

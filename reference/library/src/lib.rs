@@ -5,12 +5,15 @@ pub mod compare;
 pub mod engine;
 mod foreign;
 pub mod limit;
+pub mod rows;
 pub mod timing;
 
+use reference::month::Row;
+
 /// Octets of a state, and of the outputs that a frame's answer, an image and a line need.
-pub const STATE: usize = 5802;
+pub const STATE: usize = 6987;
 pub const ANSWER: usize = 2880;
-pub const IMAGE: usize = 10698;
+pub const IMAGE: usize = 13162;
 pub const LINE: usize = 527;
 
 /// The number of a refusal.
@@ -69,12 +72,22 @@ impl State {
         foreign::watchers(&self.block, kind, address)
     }
 
+    /// Add an edition of the prefix: the refusal's number, 0 if it is added.
+    pub fn add_edition(&mut self, from: u32, prefix: &[u8]) -> Refused {
+        foreign::add_edition(&mut self.block, from, prefix)
+    }
+
     pub fn submit(&mut self, frame: &[u8], out: &mut [u8]) -> Result<usize, Refused> {
         foreign::submit(&mut self.block, frame, out)
     }
 
     pub fn submit_line(&mut self, line: &[u8], out: &mut [u8]) -> Result<usize, Refused> {
         foreign::submit_line(&mut self.block, line, out)
+    }
+
+    /// A frame as its line, counted in lent rows.
+    pub fn count_line(&mut self, line: &[u8], out: &mut [u8], rows: &mut [Row]) -> Result<usize, Refused> {
+        foreign::count_line(&mut self.block, line, out, rows)
     }
 
     pub fn save(&self, out: &mut [u8]) -> Result<usize, Refused> {

@@ -1,14 +1,23 @@
 //! The library beside the independent implementation.
 
 use library::compare::{self, Counts};
+use library::engine::Library;
+use library::rows;
 use library::timing;
+use reference::chain::{chain, Met};
 use reference::fault::{Fault, FAULTS};
+use reference::month::{Wrong, WRONG};
 use std::process::ExitCode;
 use std::{env, fs};
+
+/// The header, which says the version.
+const HEADER: &str = include_str!("../../../include/bournejade.h");
 
 const USAGE: &str = "\
 library compare COUNT SEED            COUNT random sessions and scripts through both
 library costs COUNT SEED              COUNT pattern conditions against texts: matches or not, and the comparisons
+library rows COUNT SEED               their frames counted in lent rows, and how many notice each wrong count
+library chains COUNT SEED             COUNT chains of up to ten failovers, beside the unbroken session
 library faults COUNT SEED             how many of them notice each wrong build of the independent implementation
 library time IMAGE JOURNAL TIMES      replay in memory by the library, the independent implementation, the rival, and reading
                                       the hexadecimal alone: nanoseconds a line, the shortest of TIMES runs
@@ -34,6 +43,8 @@ fn run(words: &[&str]) -> Result<String, String> {
     match words {
         ["compare", count, seed] => compared(number(count)?, number(seed)?),
         ["costs", count, seed] => costs(number(count)?, number(seed)?),
+        ["rows", count, seed] => counted(number(count)?, number(seed)?),
+        ["chains", count, seed] => chained(number(count)?, number(seed)?),
         ["faults", count, seed] => Ok(faults(number(count)?, number(seed)?)),
         ["time", image, journal, times] => time(&read(image)?, &read(journal)?, number(times)? as usize),
         ["run", who, image, journal] => {
@@ -60,7 +71,9 @@ fn read(path: &str) -> Result<Vec<u8>, String> {
 }
 
 fn compared(count: u64, seed: u64) -> Result<String, String> {
-    if library::sizes() != (0x010000, [library::STATE, library::ANSWER, library::IMAGE, library::LINE]) {
+    let (version, sizes) = library::sizes();
+    let says = format!("#define BOURNEJADE_VERSION 0x{version:06X}\n");
+    if sizes != [library::STATE, library::ANSWER, library::IMAGE, library::LINE] || !HEADER.contains(&says) {
         return Err("the library's version and sizes are others".to_string());
     }
     let mut counts = Counts::default();
@@ -84,6 +97,49 @@ fn costs(count: u64, seed: u64) -> Result<String, String> {
         }
     }
     Ok(format!("{} matches with their costs: no difference", rows.len()))
+}
+
+fn counted(count: u64, seed: u64) -> Result<String, String> {
+    let mut counts = rows::Counts::default();
+    for index in 0..count {
+        if let Some(place) = rows::first_difference(seed, index, Wrong::None, &mut counts) {
+            return Err(format!("seed {seed}, script {index}: the rows of call {place} differ"));
+        }
+    }
+    let few = count.min(200);
+    let noticed = |wrong: Wrong| {
+        (0..few)
+            .filter(|i| rows::first_difference(seed, *i, wrong, &mut rows::Counts::default()).is_some())
+            .count()
+    };
+    let wrong: Vec<String> = WRONG.iter().map(|(wrong, _)| noticed(*wrong).to_string()).collect();
+    let rows::Counts { scripts, lines, counted, passes } = counts;
+    let wrong = wrong.join(" ");
+    Ok(format!(
+        "{scripts} scripts, {lines} lines with rows, {counted} with totals, {passes} refused with 12: no difference; \
+         the wrong counts differ in {wrong} of {few}"
+    ))
+}
+
+fn chained(count: u64, seed: u64) -> Result<String, String> {
+    let mut met = Met::default();
+    for index in 0..count {
+        let mut library = Library {
+            piece: 1 + (index as usize) % 700,
+            lent: 2880 + (index as usize) % 3200,
+            ..Library::default()
+        };
+        let (one, found) = chain(&mut library, seed, index);
+        if !found.is_empty() {
+            return Err(format!("seed {seed}, chain {index}: {found:?}"));
+        }
+        met = met.and(one);
+    }
+    let Met { failovers, frames, replayed, additions, starts, stops, displaced } = met;
+    Ok(format!(
+        "{count} chains, {failovers} failovers, {frames} frames, {replayed} replayed, {additions} additions, \
+         {starts} starts, {stops} stops at ticks, {displaced} by a full table: no difference"
+    ))
 }
 
 /// The octets of a text of digits; `-` is none.

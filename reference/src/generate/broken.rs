@@ -1,6 +1,7 @@
 //! States that are not sound: one clause of "Sound" broken.
 
 use crate::condition::{form, Form};
+use crate::edition::Edition;
 use crate::index::Entry;
 use crate::limits::{Seconds, CONDITION, PAIRS};
 use crate::options;
@@ -8,7 +9,7 @@ use crate::random::Random;
 use crate::state::{Monitor, Pair, State};
 
 /// How many ways of breaking a state `broken` knows.
-pub const WAYS: usize = 58;
+pub const WAYS: usize = 70;
 
 /// A sound state with one clause of "Sound" broken in way `way`, if the state has the place for it.
 pub fn broken(random: &mut Random, sound: &State, way: usize) -> Option<State> {
@@ -27,6 +28,8 @@ pub fn broken(random: &mut Random, sound: &State, way: usize) -> Option<State> {
     let second = s.monitors[m].second();
     let entries = s.index_count as usize;
     let i = random.below(entries.max(1));
+    let editions = s.edition_count as usize;
+    let e = 2 + random.below(editions.saturating_sub(2).max(1));
     match way {
         0 => s.opcode = random.pick(&[0xFBFF, 0]),
         1 => s.filter = random.pick(&[2, 255]),
@@ -105,6 +108,26 @@ pub fn broken(random: &mut Random, sound: &State, way: usize) -> Option<State> {
         }
         56 => s.index_count = random.pick(&[65, 255]),
         57 if entries < PAIRS => s.index[63].mask = 1,
+        58 => s.edition_count = 0,
+        59 => s.edition_count = random.pick(&[33, 255]),
+        60 => s.editions[0].from = 1,
+        61 if editions > 1 => s.editions.swap(0, editions - 1),
+        62 if editions > 2 => s.editions[e].from = s.editions[e - 1].from,
+        63 if editions > 2 => s.editions[e].from = s.editions[e - 1].from.saturating_sub(1),
+        64 => s.editions[random.below(editions)].length = random.pick(&[33, 255]),
+        65 if s.editions[editions - 1].length < 32 => s.editions[editions - 1].prefix[31] = 1,
+        66 if editions < 32 => s.editions[31].from = 1,
+        67 if s.prefix_length > 0 => s.prefix[0] ^= 1,
+        68 => {
+            // A0 with the first edition, or with the last.
+            let edition = s.editions[random.pick(&[0, editions - 1])];
+            s.hold_prefix(&edition);
+        }
+        69 if editions < 32 && s.editions[editions - 1].from < s.position && s.prefix() != [0] => {
+            // A later edition at the position, A0 as before.
+            s.editions[editions] = Edition::of(s.position, &[0]);
+            s.edition_count += 1;
+        }
         41 => {
             let handles: Vec<u8> = s.monitors().iter().map(|m| m.handle).collect();
             s.pairs[p].handle = (0..16).find(|h| !handles.contains(h))?;

@@ -3,12 +3,14 @@
 
 mod broken;
 pub mod conditions;
+mod editions;
 pub mod frames;
 mod lines;
 mod second;
 pub mod states;
 pub mod texts;
 mod watching;
+mod weights;
 
 use crate::coverage;
 use crate::engine::Engine;
@@ -28,6 +30,7 @@ enum Theme {
     Limits,
     Full,
     Second,
+    Editions,
     Windows,
     LongTicks,
     Lines,
@@ -53,6 +56,7 @@ enum Action {
     Seen,
     Gap,
     ShortOutput,
+    Edition,
     // Not in a session of document 01:
     WriteLine,
     Failover,
@@ -84,8 +88,9 @@ pub struct Generator {
 pub fn session(seed: u64, index: u64, most_calls: usize) -> Vec<Call> {
     use Theme::*;
     let mut random = Random::of(seed, index);
-    let theme =
-        random.pick(&[Mixed, Mixed, Commands, Conditions, Limits, Full, Second, Windows, Windows, Lines]);
+    let theme = random.pick(&[
+        Mixed, Mixed, Commands, Conditions, Limits, Full, Second, Editions, Editions, Windows, Windows, Lines,
+    ]);
     let least = if theme == Full { most_calls / 2 } else { 0 };
     let calls = random.between(least as i64, most_calls as i64) as usize;
     Generator::begin(random, theme).make(calls, false)
@@ -139,9 +144,10 @@ pub fn script(seed: u64, index: u64) -> Vec<Call> {
     let mut random = Random::of(seed, index);
     let theme = match random.below(100) {
         0..=9 => Mixed,
-        10..=19 => Second,
-        20..=29 => Commands,
-        30..=44 => Conditions,
+        10..=20 => Second,
+        21..=29 => Commands,
+        30..=35 => Editions,
+        36..=44 => Conditions,
         45..=51 => Limits,
         52..=59 => Full,
         60..=69 => Windows,
@@ -205,6 +211,9 @@ impl Generator {
         if matches!(self.theme, Theme::Images) && any_call {
             self.restore_sound();
         }
+        if matches!(self.theme, Theme::Editions) {
+            self.fill_editions();
+        }
         if matches!(self.theme, Theme::LongTicks) {
             self.add_slow();
         }
@@ -215,62 +224,6 @@ impl Generator {
         self.calls.truncate(most.max(1));
         coverage::take();
         self.calls
-    }
-
-    /// The next step, by the theme's weights.
-    fn action(&mut self, any_call: bool) -> Action {
-        use Action::*;
-        // The weights of: Add, AddEdge, Cancel, Filter, OtherCommand, Packet, NewDevice, Ticks, Save,
-        // BadLine, BadPayload, OtherOpcode, Seen, Gap, ShortOutput,
-        // WriteLine, Failover, Restore, RestoreDamaged, Unsound, Replay, StartAgain, Ask.
-        let actions = [
-            Add,
-            AddEdge,
-            Cancel,
-            Filter,
-            OtherCommand,
-            Packet,
-            NewDevice,
-            Ticks,
-            Save,
-            BadLine,
-            BadPayload,
-            OtherOpcode,
-            Seen,
-            Gap,
-            ShortOutput,
-            WriteLine,
-            Failover,
-            Restore,
-            RestoreDamaged,
-            Unsound,
-            Replay,
-            StartAgain,
-            Ask,
-        ];
-        let weights: [usize; 23] = match self.theme {
-            Theme::Mixed => [9, 2, 2, 5, 2, 40, 3, 14, 3, 1, 1, 1, 1, 1, 1, 1, 2, 0, 0, 0, 1, 0, 3],
-            Theme::Commands => [30, 40, 14, 14, 14, 8, 1, 3, 2, 1, 1, 1, 1, 1, 1, 0, 1, 0, 0, 0, 0, 0, 1],
-            Theme::Conditions => [12, 4, 3, 2, 0, 70, 3, 3, 1, 0, 0, 0, 0, 0, 0, 0, 0, 0, 0, 0, 0, 0, 2],
-            Theme::Limits => [4, 2, 3, 4, 0, 30, 20, 10, 2, 0, 0, 0, 1, 1, 0, 0, 1, 0, 0, 0, 0, 0, 6],
-            Theme::Full => [1, 0, 1, 2, 0, 40, 30, 4, 2, 0, 0, 0, 1, 0, 0, 0, 3, 0, 0, 0, 2, 0, 8],
-            Theme::Second => [9, 3, 1, 4, 0, 70, 1, 10, 2, 0, 0, 0, 1, 0, 0, 0, 4, 0, 0, 0, 2, 0, 2],
-            Theme::Windows => [4, 0, 1, 4, 0, 50, 2, 34, 2, 0, 0, 0, 0, 0, 0, 0, 2, 0, 0, 0, 1, 0, 2],
-            Theme::LongTicks => [1, 0, 0, 1, 0, 6, 1, 60, 1, 0, 0, 0, 0, 0, 0, 0, 1, 0, 0, 0, 0, 0, 1],
-            Theme::Lines => [6, 2, 1, 3, 2, 12, 1, 8, 6, 20, 24, 6, 10, 8, 8, 6, 1, 0, 0, 0, 2, 2, 1],
-            Theme::Images => [6, 1, 2, 4, 1, 24, 2, 20, 4, 0, 1, 0, 2, 1, 1, 0, 4, 10, 12, 6, 2, 1, 6],
-            Theme::Failover => [8, 1, 2, 4, 1, 34, 2, 14, 3, 1, 1, 0, 2, 1, 0, 0, 8, 1, 1, 0, 20, 0, 4],
-        };
-        let offered = if any_call { weights.len() } else { 15 };
-        let total: usize = weights[..offered].iter().sum();
-        let mut drawn = self.random.below(total);
-        for (action, weight) in actions.into_iter().zip(weights) {
-            if drawn < weight {
-                return action;
-            }
-            drawn -= weight;
-        }
-        Packet
     }
 
     fn act(&mut self, action: Action) {
@@ -290,6 +243,7 @@ impl Generator {
             Action::Seen => self.seen(),
             Action::Gap => self.gap(),
             Action::ShortOutput => self.short_output(),
+            Action::Edition => self.edition(),
             Action::WriteLine => self.write_line(),
             Action::Failover => self.make_call(Call::Failover),
             Action::Restore => self.restore_sound(),

@@ -2,7 +2,7 @@
 
 pub use super::broken::{broken, WAYS};
 
-use super::{conditions, second};
+use super::{conditions, editions, second};
 use crate::limits::{Seconds, CONDITION, DATA, MONITORS, PAIRS, PREFIX};
 use crate::options;
 use crate::private::{self, Key};
@@ -130,6 +130,7 @@ pub fn sound(random: &mut Random, known: &[Device]) -> State {
         _ => random.below(3000) as u32,
     };
     state.filter = random.below(2) as u8;
+    editions::hold(random, &mut state);
     let share = random.pick(&[10, 30, 60, 100]);
     for handle in 0..MONITORS as u8 {
         if random.percent(share) {
@@ -159,6 +160,7 @@ pub fn largest(random: &mut Random) -> State {
     let mut state = State::fresh(0xFC1E, &prefix);
     state.filter = 1;
     state.position = 1000;
+    editions::hold_most(random, &mut state);
     for handle in 0..MONITORS {
         let octets = conditions::longest(random).try_into().unwrap();
         state.monitors[handle] = Monitor {

@@ -46,6 +46,11 @@ pub fn damage(random: &mut Random, text: &[u8]) -> Vec<u8> {
     damaged
 }
 
+/// The image as it was before editions: no A4 lines.
+fn before_editions(text: &[u8]) -> Vec<u8> {
+    lines::split(text).filter(|line| !line.starts_with(b"A4")).flatten().copied().collect()
+}
+
 impl Generator {
     pub(super) fn restore_sound(&mut self) {
         let state = match self.random.below(12) {
@@ -67,6 +72,7 @@ impl Generator {
         };
         let way = self.way();
         let text = match (self.random.percent(50), states::broken(&mut self.random, &sound, way)) {
+            _ if self.random.percent(6) => before_editions(&image::text(&sound)),
             (true, Some(state)) => image::text(&state),
             _ => damage(&mut self.random, &image::text(&sound)),
         };
@@ -97,11 +103,13 @@ impl Generator {
         self.make_call(Call::Adopt(Box::new(sound)));
     }
 
-    /// A way of breaking a state; one packet more than the position among them more often than others.
+    /// A way of breaking a state; one packet more than the position, and a device twice in the index, more often than
+    /// others.
     fn way(&mut self) -> usize {
-        match self.random.percent(12) {
-            true => 33,
-            false => self.random.below(states::WAYS),
+        match self.random.below(100) {
+            0..=11 => 33,
+            12..=17 => 55,
+            _ => self.random.below(states::WAYS),
         }
     }
 

@@ -44,12 +44,15 @@ impl Generator {
         self.random.pick(&self.devices)
     }
 
-    /// Ask for a device: one under watch, its address with the other type, or another.
+    /// Ask for a device: one under watch, the last of the index more often, its address with the other type, or another.
     pub(super) fn ask(&mut self) {
         let mut device = self.random.pick(&self.devices);
         let entries = &self.state.index[..(self.state.index_count as usize).min(PAIRS)];
         if !entries.is_empty() && self.random.percent(80) {
             device = self.random.pick(entries).device;
+            if self.random.percent(30) {
+                device = entries[entries.len() - 1].device;
+            }
         }
         if self.random.percent(10) {
             device.kind = 1 - device.kind.min(1);

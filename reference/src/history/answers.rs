@@ -1,6 +1,6 @@
 //! The answer to the last frame and the image, by the history rule.
 
-use super::facts::filter_after;
+use super::facts::{edition_at, filter_after, Start};
 use super::rule::{Past, Window};
 use super::History;
 use crate::event;
@@ -8,6 +8,7 @@ use crate::fault::Fault;
 use crate::frame::{Packet, Payload};
 use crate::index::Entry;
 use crate::limits::DATA;
+use crate::month::Done;
 use crate::options;
 use crate::state::{Device, Pair, State};
 
@@ -25,6 +26,11 @@ impl History {
         }
     }
 
+    /// The prefix of the last frame's events.
+    fn prefix(&self) -> &[u8] {
+        edition_at(&self.base, &self.added, self.frames.len()).prefix()
+    }
+
     /// "Packet, handles ascending: a start event for each start. Then one report .."
     fn answer_to_packet(&self, packet: &Packet) -> Vec<u8> {
         let past = self.past();
@@ -34,9 +40,9 @@ impl History {
         for start in &starts {
             if let Some(gone) = start.displaces.map(|place| &self.facts.starts[place]) {
                 let handle = past.monitor(gone).handle;
-                answer.extend(event::device(self.base.prefix(), &gone.device, handle, false));
+                answer.extend(event::device(self.prefix(), &gone.device, handle, false));
             }
-            answer.extend(event::device(self.base.prefix(), &start.device, past.monitor(start).handle, true));
+            answer.extend(event::device(self.prefix(), &start.device, past.monitor(start).handle, true));
         }
         let filter_off = filter_after(&self.base, &self.frames) == 0;
         let reason = self.facts.starts.iter().any(|start| {
@@ -62,12 +68,7 @@ impl History {
         let mut answer = Vec::new();
         for start in past.under_watch(now - 1).into_iter().map(|s| &self.facts.starts[s]) {
             if !past.watched_since(start, now) {
-                answer.extend(event::device(
-                    self.base.prefix(),
-                    &start.device,
-                    past.monitor(start).handle,
-                    false,
-                ));
+                answer.extend(event::device(self.prefix(), &start.device, past.monitor(start).handle, false));
             } else if let Some(window) = past.closed_window(start, now) {
                 let fits = options::reported(past.monitor(start), window.event_type, Fault::None);
                 if filter_on && window.count > 0 && fits {
@@ -76,6 +77,46 @@ impl History {
             }
         }
         answer
+    }
+
+    /// What the last frame did, by the history rule (T-09).
+    pub(super) fn done_by_last(&self) -> Done {
+        let past = self.past();
+        let now = self.frames.len();
+        let mut done = Done::default();
+        let Some(last) = now.checked_sub(1) else { return done };
+        let starts = |upto| past.under_watch(upto).into_iter().map(|s| &self.facts.starts[s]);
+        let handle = |start: &Start| past.monitor(start).handle as usize;
+        done.before = starts(last).filter(|s| past.watched_since(s, last)).fold(0, |m, s| m | 1 << handle(s));
+        done.after = starts(now).fold(0, |mask, start| mask | 1 << handle(start));
+        // A command may have ended a monitor's life: what it watched before was watched.
+        let filter_on = filter_after(&self.base, &self.frames) == 1;
+        match &self.frames[last] {
+            Payload::Packet(packet) => {
+                done.matching = self.facts.matching[now];
+                (done.rssi, done.off) = (packet.rssi, !filter_on);
+                done.each = if packet.scan.is_some() { 2 } else { 1 };
+                for start in starts(now).filter(|start| start.device == packet.device) {
+                    done.own |= 1 << handle(start);
+                    if past.reasons(start, now).last() == Some(&now) {
+                        done.reasons |= 1 << handle(start);
+                    }
+                }
+            }
+            Payload::Tick => {
+                done.tick = true;
+                for start in starts(now).filter(|_| filter_on) {
+                    let fits = |window: &Window| {
+                        let asked = options::reported(past.monitor(start), window.event_type, Fault::None);
+                        window.count > 0 && asked
+                    };
+                    done.windows[handle(start)] +=
+                        past.closed_window(start, now).is_some_and(|w| fits(&w)) as u64;
+                }
+            }
+            Payload::Command { .. } => (),
+        }
+        done
     }
 
     /// The handles that have a device under watch.
@@ -89,7 +130,9 @@ impl History {
     pub(super) fn image_state(&self) -> State {
         let past = self.past();
         let now = self.frames.len();
-        let mut state = State::fresh(self.base.opcode, self.base.prefix());
+        let mut state = State::fresh(self.base.opcode, self.prefix());
+        let editions: Vec<_> = self.base.editions().iter().chain(&self.added).copied().collect();
+        state.hold_editions(&editions);
         state.position = self.position();
         state.filter = filter_after(&self.base, &self.frames);
         for (place, life) in self.facts.live().into_iter().enumerate() {

@@ -4,6 +4,7 @@
 
 use super::rule::Past;
 use crate::command::{self, Change, View};
+use crate::edition::Edition;
 use crate::fault::Fault;
 use crate::frame::{Packet, Payload};
 use crate::limits::PAIRS;
@@ -46,7 +47,7 @@ pub struct Facts {
 
 impl Facts {
     /// The facts of a base and frames, from the beginning.
-    pub fn of(base: &State, frames: &[Payload]) -> Facts {
+    pub fn of(base: &State, added: &[Edition], frames: &[Payload]) -> Facts {
         let mut facts = Facts { ticks: vec![0], matching: vec![0], ..Facts::default() };
         for monitor in base.monitors() {
             facts.lives.push(Life { monitor: *monitor, until: None });
@@ -64,13 +65,13 @@ impl Facts {
             });
         }
         for count in 1..=frames.len() {
-            facts.learn(base, &frames[..count]);
+            facts.learn(base, added, &frames[..count]);
         }
         facts
     }
 
     /// Learn of the last of these frames.
-    pub fn learn(&mut self, base: &State, frames: &[Payload]) {
+    pub fn learn(&mut self, base: &State, added: &[Edition], frames: &[Payload]) {
         let now = frames.len();
         let last = &frames[now - 1];
         self.returns.clear();
@@ -83,7 +84,7 @@ impl Facts {
             _ => 0,
         });
         match last {
-            Payload::Command { parameters, .. } => self.command(base, frames, parameters),
+            Payload::Command { parameters, .. } => self.command(base, added, frames, parameters),
             Payload::Packet(packet) => self.starts_of(base, frames, packet),
             Payload::Tick => (),
         }
@@ -107,10 +108,11 @@ impl Facts {
         mask
     }
 
-    fn command(&mut self, base: &State, frames: &[Payload], parameters: &[u8]) {
+    fn command(&mut self, base: &State, added: &[Edition], frames: &[Payload], parameters: &[u8]) {
         let now = frames.len();
         let live = self.live().iter().fold(0, |mask, l| mask | 1 << self.lives[*l].monitor.handle);
-        let view = View { filter: filter_after(base, &frames[..now - 1]), live, prefix: base.prefix() };
+        let edition = edition_at(base, added, now);
+        let view = View { filter: filter_after(base, &frames[..now - 1]), live, prefix: edition.prefix() };
         let answer = command::answer(&view, parameters, Fault::None);
         match answer.change {
             Change::Add(monitor) => self.lives.push(Life { monitor, until: None }),
@@ -169,6 +171,14 @@ impl Facts {
             });
         }
     }
+}
+
+/// "A frame uses the edition with the greatest starting number not above its own" (T-12): the frame at this place after
+/// the base; 0 is the base itself.
+pub fn edition_at<'a>(base: &'a State, added: &'a [Edition], frame: usize) -> &'a Edition {
+    let number = base.position as usize + frame;
+    let not_above = base.editions().iter().chain(added).filter(|edition| edition.from as usize <= number);
+    not_above.max_by_key(|edition| edition.from).expect("the first starts from 0")
 }
 
 /// The filter after these frames: what the last 05 with a valid enable asked for. (One that asks for the

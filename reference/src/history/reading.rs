@@ -1,20 +1,30 @@
 //! Records from a text, read as loosely as can be: each line by its first octet, whatever its place.
 //! Whether the text is an image is decided by writing the records again and comparing.
 
+use crate::edition::Edition;
 use crate::fault::Fault;
-use crate::limits::{MONITORS, PAIRS};
+use crate::limits::{EDITIONS, MONITORS, PAIRS};
 use crate::lines;
 use crate::state::{Device, Monitor, Pair, State};
 
 /// The state that the lines of a text speak of, if every line has its fields.
 pub fn records(text: &[u8]) -> Option<State> {
     let mut state = State::blank();
+    state.edition_count = 0;
     for line in lines::split(text) {
         let octets = lines::read(line, Fault::None)?;
         // Fields are read where they stand; a place past the end of the line is 0.
         let at = |place: usize| octets.get(place).copied().unwrap_or(0);
         match at(0) {
             0xA0 => head(&mut state, at),
+            0xA4 => {
+                let place = state.edition_count as usize;
+                if place == EDITIONS {
+                    return None;
+                }
+                state.editions[place] = edition(at);
+                state.edition_count += 1;
+            }
             record @ (0xA1 | 0xA5) => {
                 let place = state.monitor_count as usize;
                 if place == MONITORS {
@@ -54,6 +64,10 @@ fn head(state: &mut State, at: impl Fn(usize) -> u8 + Copy) {
     state.opcode = number(at, 6, 2) as u16;
     state.prefix_length = at(8);
     state.prefix = octets(at, 9, at(8));
+}
+
+fn edition(at: impl Fn(usize) -> u8 + Copy) -> Edition {
+    Edition { from: number(at, 1, 4) as u32, length: at(5), prefix: octets(at, 6, at(5)) }
 }
 
 fn monitor(at: impl Fn(usize) -> u8 + Copy, second: bool) -> Monitor {

@@ -12,14 +12,28 @@ use std::collections::BTreeSet;
 pub fn sound(state: &State) -> bool {
     state.monitor_count <= 16
         && state.pair_count <= 64
+        && (1..=32).contains(&state.edition_count)
         && reading::records(&image::text(state)).as_ref() == Some(state)
         && (0xFC00..=0xFFFF).contains(&state.opcode)
         && state.prefix_length <= 32
+        && editions_rise(state)
         && [0, 1].contains(&state.filter)
         && handles_rise(state)
         && state.monitors().iter().all(accepted)
         && state.pairs().iter().all(|pair| in_ranges(state, pair))
         && distinct(state)
+}
+
+/// Editions of at most 32 octets, the first from 0, each number above all before it; no edition not above the position
+/// but later than the one whose prefix A0 has.
+fn editions_rise(state: &State) -> bool {
+    let numbers: Vec<u32> = state.editions().iter().map(|edition| edition.from).collect();
+    let distinct: BTreeSet<u32> = numbers.iter().copied().collect();
+    let passed = state.editions().iter().filter(|edition| edition.from <= state.position);
+    numbers.first() == Some(&0)
+        && distinct.into_iter().collect::<Vec<_>>() == numbers
+        && state.editions().iter().all(|edition| edition.length <= 32)
+        && passed.last().map(|edition| edition.prefix()) == Some(state.prefix())
 }
 
 /// Handles 0 to 15 in rising order: those live, taken in order of number, are the ones held.

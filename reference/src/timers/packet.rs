@@ -37,6 +37,10 @@ impl Timers {
         self.pass_by(packet, &matching);
         let filter_off = self.state.filter == 0;
         let held_before = self.state.pair_count as usize;
+        self.done.matching = matching.iter().fold(0, |mask, m| mask | 1 << m.handle);
+        self.done.rssi = packet.rssi;
+        self.done.each = 1 + packet.scan.is_some() as u64;
+        self.done.off = filter_off;
         let mut answer = Vec::new();
         let mut tally = Tally { reasons: filter_off as usize, ..Tally::default() };
         // For a wrong build: what the device's pairs kept before this packet.
@@ -55,8 +59,9 @@ impl Timers {
                 let same_rssi = kept_before.contains(&(monitor.handle, packet.rssi));
                 self.keep(monitor, packet);
                 self.take(place, monitor, packet);
-                tally.reasons +=
-                    self.reported_under_watch(place, monitor, packet, same_rssi, &mut tally) as usize;
+                let reason = self.reported_under_watch(place, monitor, packet, same_rssi, &mut tally);
+                tally.reasons += reason as usize;
+                self.done.reasons |= (reason as u16) << monitor.handle;
             } else if self.strong(monitor, packet) {
                 let mut stop = Vec::new();
                 if !self.has_room(held_before) {
@@ -83,9 +88,13 @@ impl Timers {
                 }
                 tally.starts += 1;
                 tally.quiet_starts += (monitor.sampling == 0xFF) as usize;
-                tally.reasons += self.reported_at_start(monitor, packet) as usize;
+                let reason = self.reported_at_start(monitor, packet);
+                tally.reasons += reason as usize;
+                self.done.reasons |= (reason as u16) << monitor.handle;
             }
         }
+        let own = self.state.pairs().iter().filter(|pair| pair.device == packet.device);
+        self.done.own = own.fold(0, |mask, pair| mask | 1 << pair.handle);
         if tally.displaced > 0 && self.fault == Fault::IndexKeepsDisplaced {
             self.index_started(packet);
         } else if tally.starts > 0 {
@@ -246,6 +255,9 @@ impl Timers {
 
     pub(super) fn device_event(&self, device: &Device, handle: u8, watched: bool) -> Vec<u8> {
         let prefix = if self.fault == Fault::EventWithoutPrefix { &[] } else { self.state.prefix() };
+        if self.state.editions().get(1).is_some_and(|second| second.from <= self.state.position) {
+            hit(Rule::EventLater);
+        }
         event::device(prefix, device, handle, watched)
     }
 

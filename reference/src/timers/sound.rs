@@ -1,17 +1,19 @@
 //! Document 01, "The image", the paragraph "Sound", clause by clause over the places of the state.
 
 use crate::condition::{form, Form};
+use crate::edition::Edition;
 use crate::fault::Fault;
 use crate::index::{self, Entry};
 use crate::limits::{
-    rssi_in_range, Seconds, CONDITION, DATA, INTERVAL_LEAST, INTERVAL_MOST, MONITORS, OPCODE_LEAST, PAIRS,
-    PREFIX,
+    rssi_in_range, Seconds, CONDITION, DATA, EDITIONS, INTERVAL_LEAST, INTERVAL_MOST, MONITORS, OPCODE_LEAST,
+    PAIRS, PREFIX,
 };
 use crate::options;
 use crate::state::{Device, Monitor, Pair, State};
 
 pub fn sound(state: &State, fault: Fault) -> bool {
     settings_in_range(state)
+        && editions_sound(state, fault)
         && state.filter <= 1
         && monitors_sound(state, fault)
         && state.pair_count as usize <= PAIRS
@@ -39,6 +41,42 @@ fn settings_in_range(state: &State) -> bool {
     state.opcode >= OPCODE_LEAST
         && state.prefix_length as usize <= PREFIX
         && zeros(&state.prefix[state.prefix_length as usize..])
+}
+
+/// Up to 32 editions of the prefix, the first from 0, strictly rising; the prefix held is that of the edition in
+/// force at the position (T-12). Whether an edition is in force already is not asked.
+fn editions_sound(state: &State, fault: Fault) -> bool {
+    let count = state.edition_count as usize;
+    let held = |edition: &Edition| {
+        edition.length as usize <= PREFIX && zeros(&edition.prefix[edition.length as usize..])
+    };
+    let rising = || state.editions().windows(2).all(|two| two[0].from < two[1].from);
+    (1..=EDITIONS).contains(&count)
+        && state.editions[0].from == 0
+        && (rising() || fault == Fault::EditionOrderNotChecked)
+        && state.editions().iter().all(held)
+        && state.editions[count..].iter().all(|place| *place == Edition::default())
+        && (in_force_held(state) || another_held(fault))
+}
+
+/// Is the prefix that of the edition in force at the position?
+fn in_force_held(state: &State) -> bool {
+    let in_force = state.editions().iter().rev().find(|edition| edition.from <= state.position);
+    in_force.is_some_and(|edition| (edition.length, edition.prefix) == (state.prefix_length, state.prefix))
+}
+
+/// Wrong builds that hold another edition's prefix.
+fn another_held(fault: Fault) -> bool {
+    use Fault::*;
+    matches!(
+        fault,
+        NewestAtOnce
+            | EditionOfReplayEnd
+            | EditionOneLate
+            | FirstInHead
+            | RefusedAdditionUsed
+            | InForceNotChecked
+    )
 }
 
 fn zeros(octets: &[u8]) -> bool {

@@ -11,6 +11,7 @@ use crate::state::{Monitor, Pair};
 impl Timers {
     /// Pairs in the order they started: a stop event if the watch ends, else what the window writes.
     pub(super) fn tick(&mut self) -> Vec<u8> {
+        self.done.tick = true;
         let mut answer = Vec::new();
         let mut kept = Vec::new();
         let mut pairs = self.state.pairs().to_vec();
@@ -24,7 +25,9 @@ impl Timers {
                 pair.quiet += 1;
             }
             if pair.quiet < self.run(&monitor) {
-                answer.extend(self.window(&mut pair, &monitor));
+                let report = self.window(&mut pair, &monitor);
+                self.done.windows[pair.handle as usize] += !report.is_empty() as u64;
+                answer.extend(report);
                 kept.push(pair);
                 continue;
             }

@@ -114,6 +114,11 @@ impl Host {
         }
     }
 
+    /// Add an edition of the prefix: the refusal's number, 0 if it is added.
+    pub fn edition(&mut self, from: u32, prefix: &[u8]) -> u8 {
+        self.engine.add_edition(from, prefix).err().map_or(0, |refusal| refusal.number())
+    }
+
     pub fn image(&self) -> Vec<u8> {
         let mut out = vec![0; IMAGE];
         let length = self.engine.save(&mut out).expect("a sound state");
@@ -124,8 +129,14 @@ impl Host {
 
 /// A device event with document 01's prefix.
 pub fn event(device: &Device, handle: u8, watched: u8) -> Vec<u8> {
-    let mut event = octets("FF0C4D5302");
-    event.push(device.kind);
+    event_with(&PREFIX, device, handle, watched)
+}
+
+/// A device event with any prefix.
+pub fn event_with(prefix: &[u8], device: &Device, handle: u8, watched: u8) -> Vec<u8> {
+    let mut event = vec![0xFF, 10 + prefix.len() as u8];
+    event.extend(prefix);
+    event.extend([0x02, device.kind]);
     event.extend(device.address);
     event.extend([handle, watched]);
     event
@@ -148,4 +159,20 @@ pub fn report_of(event_type: u8, device: &Device, data: &[u8], rssi: i8) -> Vec<
 
 pub fn line(octets: &[u8]) -> Vec<u8> {
     lines::write(octets)
+}
+
+/// The A4 line of document 01's prefix.
+pub const FIRST: &str = "A400000000024D53\n";
+
+/// What 00 returns with a prefix: features 0x040C.
+pub fn features(prefix: &[u8]) -> Vec<u8> {
+    [&octets("0000 0C04000000000000")[..], &[prefix.len() as u8], prefix].concat()
+}
+
+/// An addition that is refused with this number and changes nothing.
+pub fn refused(host: &mut Host, from: u32, prefix: &[u8], number: u8) {
+    let (state, image) = (host.engine.state(), host.image());
+    assert_eq!(host.edition(from, prefix), number, "{from}, {} octets", prefix.len());
+    assert_eq!(host.engine.state(), state);
+    assert_eq!(host.image(), image);
 }

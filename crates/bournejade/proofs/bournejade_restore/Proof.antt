@@ -1,6 +1,6 @@
 use mathlib.Core.Path.{_≡_, refl, sym, ap, _∙_}
 use Rattle.bournejade.specs.Gives.{loadNumber, number-loaded}
-use Rattle.model.specs.Image.{isImage}
+use Rattle.editions.specs.Editions.{isImageOn}
 use borrow.Author.Needs.{needs}
 use Rattle.bournejade.proofs.bournejade_restore.Statement.{statement}
 use Rattle.bournejade.proofs.bournejade_restore.Tie as tie
@@ -19,7 +19,7 @@ load-number-requires c κs = search needs
 
 -- src/lib.rt:173:1
 returns : tie.Need-returns
-returns c = let a = c .before .before .before .before .before .args in let f = c .before .before .before .load .ensures in (c .load-number .ensures ∙ ap loadNumber (f .0) ∙ number-loaded (isImage (a .image .now)), f .1)
+returns c = let a = c .before .before .before .before .before .args in let f = c .before .before .before .load .ensures in (c .load-number .ensures ∙ ap loadNumber (f .0) ∙ number-loaded (isImageOn (a .image .now)), f .1)
 
 pub bournejade-restore-spec : {M : Type 1} → statement M
 bournejade-restore-spec = tie.close (tie.spec load-requires load-number-requires returns)

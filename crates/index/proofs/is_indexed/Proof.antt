@@ -1,4 +1,4 @@
-use Rattle.wholes.specs.Layout.{indexAt}
+use Rattle.wholes.specs.Layout.{indexSize}
 use Prim.Native.Nat.{_-_}
 use mathlib.Core.Path.{refl}
 use lib.ListN.{length}
@@ -46,7 +46,7 @@ same-requires c κs = search needs
 
 -- src/lib.rt:142:1
 returns-2 : tie.Need-returns-2
-returns-2 c = let a = c .before .before .before .before .before .before .before .before in indexed-is (a .args .s .now) (omega arith) _ (length (a .args .s .now) - indexAt) (c .before .before .before .before .work-out .ensures) refl (c .same .ensures)
+returns-2 c = let a = c .before .before .before .before .before .before .before .before in indexed-is (a .args .s .now) (omega arith) _ indexSize (c .before .before .before .before .work-out .ensures) refl (c .same .ensures)
 
 pub is-indexed-spec : {M : Type 1} → statement M
 is-indexed-spec =

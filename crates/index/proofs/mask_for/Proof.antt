@@ -2,6 +2,7 @@ use native.Mathlib.Omega.{arith}
 use mathlib.Core.Path.{refl}
 use Rattle.state.specs.Start.{octets-known}
 use Rattle.model.specs.Types.{device}
+use Rattle.wholes.specs.Layout.{entriesSize}
 use Rattle.index.specs.Read.{device-seven}
 use Rattle.index.specs.Renewed.{mask-said}
 use borrow.Author.Needs.{needs}
@@ -44,7 +45,7 @@ mask-of-requires c κs = search needs
 -- src/lib.rt:110:1
 returns : tie.Need-returns
 returns c = let a = c .before .before .before .before .before .before .before in let d = device (a .args .kind) (a .args .address .now) in
-    mask-said (a .args .s .now) d _ 576 _ (a .pre .0) (c .before .before .before .at-most .ensures .0) refl (omega arith)
+    mask-said (a .args .s .now) d _ entriesSize _ (a .pre .0) (c .before .before .before .at-most .ensures .0) refl (omega arith)
     (c .mask-of .ensures d (device-seven (a .args .kind) (a .args .address .now) (omega arith) (a .pre .1) (octets-known (a .args .address .now) (λ i. omega (arith, c .before .before .before .before .before .shared-slice-known2 .given i)))) (c .before .before .device-number .ensures))
 
 pub mask-for-spec : {M : Type 1} → statement M

@@ -6,7 +6,7 @@ use Rattle.restore_run.proofs.again.Tie as tie
 use Rattle.restore_run.proofs.again.Reads as reads
 use Rattle.restore_run.proofs.again.Lts as lts
 use Rattle.restore_run.proofs.digest.Reads as digest-reads
-use Rattle.save.proofs.save_image.Reads as save-image-reads
+use Rattle.snapshots.proofs.save_image.Reads as save-image-reads
 
 -- src/main.rt:33:33
 slice-aggregate-save-image : tie.Need-slice-aggregate-save-image

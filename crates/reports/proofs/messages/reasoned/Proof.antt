@@ -91,17 +91,11 @@ returns-6 : tie.Need-returns-6
 unfolding reasonOf codes Rattle.laws.specs.Tests.pick
 returns-6 c = c .with6 .ensures ∙ ap (λ n. take room (told (c .before .before .before .before .before .before .before .before .args .t) ++ reasonOf n)) (sym (c .before .before .if6 .taken))
 
--- src/messages.rt:57:13
-slice-aggregate-with-7 : tie.Need-slice-aggregate-with-7
-slice-aggregate-with-7 c = search needs
+added-requires : tie.Need-added-requires
+added-requires c κs = search needs
 
--- src/messages.rt:57:5
-with-requires-7 : tie.Need-with-requires-7
-with-requires-7 c κs = search needs
-
--- src/messages.rt:36:1
 returns-7 : tie.Need-returns-7
-returns-7 c = c .with7 .ensures ∙ ap (λ l. take room (told (c .before .before .before .before .before .before .before .before .args .t) ++ l)) (reason-none (c .before .before .before .before .before .before .before .before .args .number) (c .before .before .before .before .before .before .before .if1 .left) (c .before .before .before .before .before .before .if2 .left) (c .before .before .before .before .before .if3 .left) (c .before .before .before .before .if4 .left) (c .before .before .before .if5 .left) (c .before .before .if6 .left))
+returns-7 c = let a = c .before .before .before .before .before .before .before .args in c .added .ensures ∙ ap (λ l. take room (told (a .t) ++ l)) (reason-none (a .number) (c .before .before .before .before .before .before .if1 .left) (c .before .before .before .before .before .if2 .left) (c .before .before .before .before .if3 .left) (c .before .before .before .if4 .left) (c .before .before .if5 .left) (c .before .if6 .left))
 
 pub reasoned-spec : {M : Type 1} → statement M
 reasoned-spec =
@@ -125,6 +119,5 @@ reasoned-spec =
     slice-aggregate-with-6
     with-requires-6
     returns-6
-    slice-aggregate-with-7
-    with-requires-7
+    added-requires
     returns-7)

@@ -1,0 +1,1 @@
+// Theorems restated, and nothing else: what is shown, on one page.

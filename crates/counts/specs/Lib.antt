@@ -1,0 +1,8 @@
+pub mod Room
+pub mod Causes
+pub mod Given
+pub mod Search
+pub mod Signed
+pub mod Ticks
+pub mod Turns
+pub mod Frames

@@ -1,0 +1,5 @@
+pub mod Bounds
+pub mod Journal
+pub mod Cut
+pub mod Joins
+pub mod Calls

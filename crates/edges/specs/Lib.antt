@@ -1,0 +1,4 @@
+-- The rows of document 01 (P1 to P10) and of requests, over the engine as blocks.
+pub mod Edges
+pub mod InFull
+pub mod Additions

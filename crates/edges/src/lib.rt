@@ -1,0 +1,1 @@
+// The rows are specifications alone: see specs.

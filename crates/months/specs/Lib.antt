@@ -1,0 +1,6 @@
+pub mod Counts
+pub mod Month
+pub mod Tables
+pub mod Counted
+pub mod Claims
+pub mod Edges

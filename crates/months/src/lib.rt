@@ -1,0 +1,1 @@
+// What a journal counts for each handle: definitions and claims alone (specs).

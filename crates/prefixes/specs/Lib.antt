@@ -1,0 +1,5 @@
+-- The editions of a block: read one by one (`Held`), in force (`Force`), sound (`Sound`), one more (`More`).
+pub mod Held
+pub mod Force
+pub mod Sound
+pub mod More

@@ -1,0 +1,208 @@
+-- When a whole block is sound, and which texts are images with editions, told by the block that their lines were stored in: exactly those that
+-- save writes. Document 01, The image; Refusal numbers, 10; document 02, T-12. Assumes nothing.
+use Prim.Native.Nat.{ℕ, zero, suc, _+_, _-_, _*_, _≤_, _<_}
+use mathlib.Core.Path.{_≡_, refl, sym, ap, _∙_, subst}
+use mathlib.Core.Bool.{Bool, true, false, _&&_, false≢true}
+use mathlib.Core.List.{List, [], _∷_, _++_}
+use native.Mathlib.Omega.{arith}
+use borrow.Author.Tests.{eq-eqb, ne-eqb, le-leb, lt-leb}
+use lib.Dec.{leb, eqb}
+use lib.ListN.{length, take, drop, getD, replicate, length-replicate}
+use Rattle.laws.specs.Put.{put, putIf, put-of, put-if-true, put-if-false, take-put, length-put}
+use Rattle.laws.specs.Rows.{put-whole}
+use Rattle.laws.specs.Tests.{pick, pick-true, pick-false, and-both, and-left, and-right, and-not-left, and-not-right, sames, sames-eq, eq-sames, sames-refl}
+use Rattle.lines.specs.Hex.{textOf}
+use Rattle.laws.specs.Loops.{each, every}
+use Rattle.rule.specs.Base.{All}
+use Rattle.sessions.specs.Machine.{coreRoom, saveRoom, lastNumber}
+use Rattle.model.specs.Block.{held, sound}
+use Rattle.model.specs.Layout.{blockSize, prefixLengthAt}
+use Rattle.restore.specs.Rows.{Row}
+use Rattle.save.specs.Text.{savedText, saves, length-savedText, headText}
+use Rattle.model.specs.Types.{fresh}
+use Rattle.model.specs.Sound.{soundSettings, octetsUpTo}
+use Rattle.steps.specs.Keeps.{fresh-sound}
+use Rattle.editions.specs.Editions.{freshOn, soundEdition, soundEditions, rising, prefixFor, inForce, Gateway, soundGateway, imageOn, heldOn, isImageOn, recordsOn, mostEditions}
+use Rattle.editions.specs.Images.{held-image}
+use Rattle.editions.specs.Exactly.{image-most-on}
+use Rattle.wholes.specs.Layout.{indexAt, indexSize, wholeSize}
+use Rattle.wholes.specs.Index.{indexBlock}
+use Rattle.wholes.specs.Whole.{heldWhole, laidWith, whole, soundWhole}
+use Rattle.wholes.specs.Laid.{soundPrefixes, sound-both, unsound-core, unsound-index, unsound-prefixes, sound-size, sound-whole, whole-good, whole-held, whole-length}
+use Rattle.wholes.specs.Engine.{blockIn, blankOn}
+use Rattle.index.specs.Renewed.{isIndexed, renewed}
+use Rattle.prefixes.specs.Sound.{isPrefixed, prefixed-sound}
+use Rattle.snapshots.specs.Saved.{savedOn, savesOn, linesText, length-savedOn, length-lines, lineAt, saved-whole}
+use Rattle.snapshots.specs.Stored.{storedAllOn}
+use Rattle.snapshots.specs.Filled.{bare, rows-fit, editions-filled, core-placed, renewed-laid}
+
+not-so : (b : Bool) → (b ≡ true → ⊥) → b ≡ false
+not-so true h = absurd (h refl)
+not-so false h = refl
+
+both-ways : (a b : Bool) → (a ≡ true → b ≡ true) → (b ≡ true → a ≡ true) → a ≡ b
+both-ways true b f g = sym (f refl)
+both-ways false true f g = g refl
+both-ways false false f g = refl
+
+-- a block is sound where its core is, its index is that of the pairs held, and its editions are
+pub whole-short : (s : List ℕ) → (length s ≡ wholeSize → ⊥) → false ≡ soundWhole s
+whole-short s h = sym (not-so (soundWhole s) (λ e. h (sound-size s e)))
+
+module _ (s : List ℕ) (l : length s ≡ wholeSize) (o : getD s prefixLengthAt 0 < 256) where
+  pub whole-unsound : sound (take blockSize s) ≡ false → false ≡ soundWhole s
+  whole-unsound e = sym (unsound-core s l o e)
+
+  pub whole-unprefixed : {r : Bool} → r ≡ isPrefixed s → r ≡ false → false ≡ soundWhole s
+  whole-unprefixed q z = sym (unsound-prefixes s l o (sym (prefixed-sound s l q) ∙ z))
+
+  pub whole-sound : {r p : Bool} → sound (take blockSize s) ≡ true → p ≡ isPrefixed s → p ≡ true → r ≡ isIndexed s → r ≡ soundWhole s
+  unfolding isIndexed
+  whole-sound {r} {p} e f z q = q ∙ go (sames (indexBlock (held s .pairs)) (take indexSize (drop indexAt s))) refl
+    where
+      go : (b : Bool) → sames (indexBlock (held s .pairs)) (take indexSize (drop indexAt s)) ≡ b
+          → (eqb (length s) wholeSize && sames (indexBlock (held s .pairs)) (take indexSize (drop indexAt s))) ≡ soundWhole s
+      go true b = rw (eq-eqb (length s) wholeSize l, b) (sym (sound-both s l o e b (sym (prefixed-sound s l f) ∙ z)))
+      go false b = rw (eq-eqb (length s) wholeSize l, b) (sym (unsound-index s l o b))
+
+-- what save wrote
+pub saves-not : (s out : List ℕ) → savesOn s (length out) ≡ false → (0 ≡ pick (savesOn s (length out)) (length (savedOn s)) 0) × (out ≡ putIf (savesOn s (length out)) out 0 (savedOn s))
+saves-not s out e = (sym (pick-false (length (savedOn s)) 0 e), put-if-false out 0 (savedOn s) e)
+
+pub saves-sized : (s : List ℕ) (room : ℕ) → (length s ≡ wholeSize → ⊥) → savesOn s room ≡ false
+unfolding savesOn
+saves-sized s room h = and-not-left (eqb (length s) wholeSize) (leb saveRoom room) (ne-eqb (length s) wholeSize h)
+
+pub saves-short : (s : List ℕ) (room : ℕ) → room < saveRoom → savesOn s room ≡ false
+unfolding savesOn
+saves-short s room h = and-not-right (eqb (length s) wholeSize) (leb saveRoom room) (lt-leb saveRoom room h)
+
+pub saves-so : (s out : List ℕ) {r : ℕ} {t : List ℕ} → length s ≡ wholeSize → saveRoom ≤ length out → r ≡ length (savedOn s) → t ≡ put out 0 (savedOn s)
+    → (r ≡ pick (savesOn s (length out)) (length (savedOn s)) 0) × (t ≡ putIf (savesOn s (length out)) out 0 (savedOn s))
+unfolding savesOn
+saves-so s out l h p q =
+    let e : (eqb (length s) wholeSize && leb saveRoom (length out)) ≡ true = and-both (eq-eqb (length s) wholeSize l) (le-leb saveRoom (length out) h) in
+    (p ∙ sym (pick-true (length (savedOn s)) 0 e), q ∙ put-if-true out 0 (savedOn s) e)
+
+pub saved-most : (s : List ℕ) → Rattle.prefixes.specs.Held.countIn s ≤ mostEditions → length (savedOn s) ≤ saveRoom
+unfolding linesText
+saved-most s h =
+    let a = length-savedOn s in
+    let b = length-savedText (take blockSize s) in
+    let c = length-lines s (Rattle.prefixes.specs.Held.countIn s) in
+    omega arith
+
+pub saved-read : (s : List ℕ) {r : ℕ} {t : List ℕ} → length s ≡ wholeSize → length (savedOn s) ≤ saveRoom
+    → r ≡ pick (savesOn s (length {A = ℕ} (replicate saveRoom 0))) (length (savedOn s)) 0
+    → t ≡ putIf (savesOn s (length {A = ℕ} (replicate saveRoom 0))) (replicate saveRoom 0) 0 (savedOn s)
+    → (r ≤ length t) × (take r t ≡ savedOn s)
+unfolding savesOn putIf
+saved-read s {r} {t} l b p q =
+    let z : length (replicate {A = ℕ} saveRoom 0) ≡ saveRoom = length-replicate {A = ℕ} saveRoom 0 in
+    let e : (eqb (length s) wholeSize && leb saveRoom (length {A = ℕ} (replicate saveRoom 0))) ≡ true =
+    and-both (eq-eqb (length s) wholeSize l) (le-leb saveRoom (length {A = ℕ} (replicate saveRoom 0)) (omega arith)) in
+    let n : r ≡ length (savedOn s) = p ∙ pick-true (length (savedOn s)) 0 e in
+    let u : t ≡ put (replicate saveRoom 0) 0 (savedOn s) = q ∙ sym (put-if-true (replicate saveRoom 0) 0 (savedOn s) e) in
+    let k : length t ≡ saveRoom = ap length u ∙ length-put (replicate saveRoom 0) 0 (savedOn s) (omega arith) ∙ z in
+    (omega arith, ap (λ (j : ℕ). take j t) n ∙ ap (take (length (savedOn s))) u ∙ take-put (replicate saveRoom 0) 0 (savedOn s) (omega arith))
+
+-- which texts are images
+pub image-on : (t : List ℕ) (g : Gateway) → soundGateway g ≡ true → t ≡ imageOn g → (isImageOn t ≡ true) × (heldOn t ≡ g)
+unfolding isImageOn
+image-on t g ok e =
+    let h : heldOn t ≡ g = ap heldOn e ∙ held-image g ok in
+    (rw h (and-both ok (eq-sames (imageOn g) t (sym e))), h)
+
+held-sound : (t : List ℕ) → isImageOn t ≡ true → (soundGateway (heldOn t) ≡ true) × (t ≡ imageOn (heldOn t))
+unfolding isImageOn
+held-sound t e =
+    let s = soundGateway (heldOn t) in
+    let b = sames (imageOn (heldOn t)) t in
+    (and-left s b e, sym (sames-eq (imageOn (heldOn t)) t (and-right s b e)))
+
+pub image-long : (t : List ℕ) → saveRoom < length t → isImageOn t ≡ false
+image-long t h =
+    not-so (isImageOn t) (λ i. let w = held-sound t i in let b = image-most-on (heldOn t) (w .0) in
+    let n : length t ≡ length (imageOn (heldOn t)) = ap length (w .1) in omega arith)
+
+abbrev pub ReadOn : List ℕ → List ℕ → Bool → Type 0
+ReadOn t after r = (r ≡ isImageOn t) × (isImageOn t ≡ true → after ≡ whole (heldOn t))
+
+pub read-refused : (t : List ℕ) {after : List ℕ} → isImageOn t ≡ false → ReadOn t after false
+read-refused t h = (sym h, λ i. absurd (false≢true (sym h ∙ i)))
+
+module _ (t s : List ℕ) (q : (g : Gateway) → soundGateway g ≡ true → t ≡ imageOn g → s ≡ whole g) where
+  block-of : isImageOn t ≡ true → s ≡ whole (heldOn t)
+  block-of i = let w = held-sound t i in q (heldOn t) (w .0) (w .1)
+
+  pub read-unsound : soundWhole s ≡ false → ReadOn t s false
+  read-unsound u =
+      read-refused t (not-so (isImageOn t) (λ i. false≢true (sym u ∙ ap soundWhole (block-of i) ∙ sound-whole (heldOn t) (held-sound t i .0))))
+
+  pub read-done : {r : Bool} → soundWhole s ≡ true → r ≡ sames (savedOn s) t → ReadOn t s r
+  read-done u e = (
+    e ∙ both-ways (sames (savedOn s) t) (isImageOn t)
+        (λ b. image-on t (heldWhole s) (whole-good s u) (sym (sames-eq (savedOn s) t b) ∙ again) .0)
+        (λ i. let w = held-sound t i in eq-sames (savedOn s) t (ap savedOn (block-of i) ∙ saved-whole (heldOn t) (w .0) ∙ sym (w .1))),
+    block-of,
+  )
+    where
+      again : savedOn s ≡ imageOn (heldWhole s)
+      again = ap savedOn (sym (whole-held s u)) ∙ saved-whole (heldWhole s) (whole-good s u)
+
+settings : soundSettings 0xFC00 [] ≡ true
+unfolding soundSettings octetsUpTo every
+settings = refl
+
+-- the blank state is sound
+pub blank-good : soundGateway blankOn ≡ true
+unfolding blankOn freshOn fresh soundGateway soundEditions soundEdition rising every prefixFor inForce pick sames octetsUpTo lastNumber
+blank-good = and-both (and-both (fresh-sound 0xFC00 [] settings) refl) refl
+
+-- what restore answers and leaves
+unfoldable pub restoresOn : List ℕ → ℕ → Bool
+restoresOn t n = eqb n wholeSize && isImageOn t
+
+unfoldable pub restoredOn : List ℕ → List ℕ → List ℕ
+restoredOn t s = pick (eqb (length s) wholeSize) (blockIn (isImageOn t) t) s
+
+module _ (t s : List ℕ) where
+  pub restored-not : (length s ≡ wholeSize → ⊥) → (false ≡ restoresOn t (length s)) × (s ≡ restoredOn t s)
+  unfolding restoresOn restoredOn
+  restored-not h =
+      let e : eqb (length s) wholeSize ≡ false = ne-eqb (length s) wholeSize h in
+      (sym (and-not-left _ (isImageOn t) e), sym (pick-false (blockIn (isImageOn t) t) s e))
+
+  module _ (h : length s ≡ wholeSize) {r : Bool} {mid : List ℕ} (w : ReadOn t mid r) where
+    is : r ≡ restoresOn t (length s)
+    unfolding restoresOn
+    is = w .0 ∙ sym (ap (λ (b : Bool). b && isImageOn t) (eq-eqb (length s) wholeSize h))
+
+    there : (b : Bool) → isImageOn t ≡ b → blockIn b t ≡ restoredOn t s
+    unfolding restoredOn
+    there b e = ap (λ (x : Bool). blockIn x t) (sym e) ∙ sym (pick-true (blockIn (isImageOn t) t) s (eq-eqb (length s) wholeSize h))
+
+    pub restored-in : r ≡ true → (r ≡ restoresOn t (length s)) × (mid ≡ restoredOn t s)
+    unfolding blockIn
+    restored-in e = (is, w .1 (sym (w .0) ∙ e) ∙ there true (sym (w .0) ∙ e))
+
+    pub restored-blank : {after z : List ℕ} {b : Bool} → r ≡ false → length mid ≡ wholeSize → length z ≡ wholeSize → z ≡ whole blankOn
+        → b ≡ leb (0 + length z) (length mid) → after ≡ putIf b mid 0 z
+        → (r ≡ restoresOn t (length s)) × (after ≡ restoredOn t s)
+    unfolding blockIn
+    restored-blank {after} {z} {b} e l n q x y =
+        (is, put-of mid 0 z (length z) (length mid) x (omega arith) y ∙ put-whole mid z (l ∙ sym n) ∙ q ∙ there false (sym (w .0) ∙ e))
+
+-- the lines of an image in an empty block, then the core, then the index
+pub filled : (t s : List ℕ) {z u v w : List ℕ} {b : Bool} → length s ≡ wholeSize → b ≡ leb (0 + wholeSize) (length s) → z ≡ putIf b s 0 (replicate wholeSize 0)
+    → ((rs : List (List ℕ)) → All Row rs → t ≡ each textOf rs → u ≡ storedAllOn z rs)
+    → ((g : Gateway) → soundGateway g ≡ true → t ≡ imageOn g → u ≡ bare (g .editions) → v ≡ laidWith (replicate indexSize 0) g)
+    → w ≡ renewed v
+    → (g : Gateway) → soundGateway g ≡ true → t ≡ imageOn g → w ≡ whole g
+unfolding imageOn
+filled t s {z} {u} {v} {w} {b} l p q stores core renew g ok e =
+    let lz : length (replicate {A = ℕ} wholeSize 0) ≡ wholeSize = length-replicate {A = ℕ} wholeSize 0 in
+    let z1 : z ≡ replicate wholeSize 0 =
+    put-of s 0 (replicate wholeSize 0) wholeSize (length s) p (omega arith) q ∙ put-whole s (replicate wholeSize 0) (l ∙ sym lz) in
+    let u1 : u ≡ bare (g .editions) = stores (recordsOn g) (rows-fit g ok) e ∙ ap (λ (x : List ℕ). storedAllOn x (recordsOn g)) z1 ∙ editions-filled g ok in
+    renew ∙ ap renewed (core g ok e u1) ∙ renewed-laid g ok (replicate indexSize 0) (length-replicate {A = ℕ} indexSize 0)

@@ -1,0 +1,3 @@
+-- The rows of the service record in text, and the time of day at the first tick.
+pub mod Rows
+pub mod Clocks

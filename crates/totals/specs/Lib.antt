@@ -1,0 +1,4 @@
+pub mod Sums
+pub mod Two
+pub mod Table
+pub mod Join

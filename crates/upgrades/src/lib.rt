@@ -1,0 +1,1 @@
+// Definitions and laws alone: images of earlier formats, and what they become.

@@ -1,0 +1,2 @@
+-- The book of visits.
+pub mod Book

@@ -1,0 +1,3 @@
+-- Where an event ends, and that a walk over whole events meets each of them.
+pub mod Walk
+pub mod Walked
