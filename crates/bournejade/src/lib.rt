@@ -79,11 +79,7 @@ pub extern "C" fn bournejade_begin(state: &mut [u8; Whole::SIZE], opcode: u16, p
     ensures { λ r. ⌜ r ≡ pick (soundSettings opcode (now (prefix .entry))) 0 9 ⌝ }
     ensures { λ _. ⌜ now (state .exit) ≡ begin opcode (now (prefix .entry)) ⌝ }
 {
-    let begun = Whole::fresh(opcode, prefix);
-    let answer = begun.answer;
-    let fresh = begun.state;
-    let block = fresh.block;
-    *state = block;
+    let answer = index::put_fresh(state, opcode, prefix);
     numbers::start_number(answer)
 }
 
@@ -189,11 +185,7 @@ pub extern "C" fn bournejade_restore(state: &mut [u8; Whole::SIZE], image: &[u8]
     ensures { λ r. ⌜ r ≡ pick (isImageOn (now (image .entry))) 0 10 ⌝ }
     ensures { λ _. ⌜ now (state .exit) ≡ blockIn (isImageOn (now (image .entry))) (now (image .entry)) ⌝ }
 {
-    let restored = engine::load(image);
-    let answer = restored.answer;
-    let held = restored.state;
-    let block = held.block;
-    *state = block;
+    let answer = engine::restore(state, image);
     numbers::load_number(answer)
 }
 

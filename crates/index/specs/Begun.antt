@@ -6,8 +6,8 @@ use mathlib.Core.Bool.{Bool, true, false, _&&_}
 use mathlib.Core.List.{List, [], _∷_, _++_, map, append-nil, append-assoc}
 use native.Mathlib.Nat.{zero-add}
 use native.Mathlib.Omega.{arith}
-use borrow.Author.Tests.{leb-true}
-use lib.Dec.{leb}
+use borrow.Author.Tests.{leb-true, eq-eqb, ne-eqb}
+use lib.Dec.{leb, eqb}
 use lib.ListN.{length, take, drop, set, replicate, length-append, length-replicate, replicate-append-replicate}
 use Rattle.laws.specs.Put.{put, putIf, put-of, put-left, put-right, set-put, length-put}
 use Rattle.laws.specs.Tests.{pick, pick-true, pick-false, and-left, and-right}
@@ -19,6 +19,7 @@ use Rattle.model.specs.Types.{Model, Pair, fresh, blank}
 use Rattle.model.specs.Sound.{soundSettings, octetsUpTo}
 use Rattle.model.specs.Block.{padded, padTo}
 use Rattle.model.specs.Engine.{begin as beginCore}
+use Rattle.state.specs.Start.{freshIn, fresh-is, blankIn as coreBlank, blank-is as core-blank}
 use Rattle.model.specs.Layout.{blockSize, headSize, mostPrefix, prefixLengthAt}
 use Rattle.editions.specs.Editions.{Edition, Gateway, freshOn, editionRow, mostEditions}
 use Rattle.editions.specs.Block.{editionSize, editionCountAt, editionsSize, editionBlock}
@@ -120,6 +121,10 @@ settings-short opcode prefix e =
     leb-true (length prefix) mostPrefix (and-left (leb (length prefix) mostPrefix) (every isOctet prefix)
     (and-right (leb 0xFC00 opcode && leb opcode 0xFFFF) (leb (length prefix) mostPrefix && every isOctet prefix) e))
 
+blank-long : length (padded blank) ≡ blockSize
+unfolding blank
+blank-long = fresh-long 0xFC00 [] (omega arith)
+
 pub blank-whole : (c : List ℕ) → c ≡ padded blank → begunWith c ≡ whole blankOn
 unfolding blank blankOn freshOn fresh
 blank-whole c e =
@@ -139,21 +144,91 @@ begun-whole opcode prefix c e = go (soundSettings opcode prefix) refl e
     go false s f =
         blank-whole c (f ∙ pick-false (padded (fresh opcode prefix)) (padded blank) refl) ∙ sym (pick-false (whole (freshOn opcode prefix)) (whole blankOn) refl)
 
--- the lent blocks: a core, its part, the count
-pub opened-is : (c : List ℕ) (k : ℕ) {r v : Bool} {a b : List ℕ} → length c ≡ blockSize → k ≡ prefixSize
-    → r ≡ leb (0 + length c) wholeSize → a ≡ putIf r (replicate wholeSize 0) 0 c
-    → v ≡ leb (editionsAt + 4 + length (take k (drop prefixLengthAt c))) (length a) → b ≡ putIf v a (editionsAt + 4) (take k (drop prefixLengthAt c))
-    → set b editionsCountAt 1 ≡ begunWith c
-unfolding begunWith
-opened-is c k {r} {v} {a} {b} n e q w x y =
-    let z : length (replicate {A = ℕ} wholeSize 0) ≡ wholeSize = length-replicate {A = ℕ} wholeSize 0 in
-    let i : a ≡ put (replicate wholeSize 0) 0 c = put-of (replicate wholeSize 0) 0 c (length c) wholeSize q (omega arith) w in
-    let l : length a ≡ wholeSize = ap length i ∙ length-put (replicate wholeSize 0) 0 c (omega arith) ∙ z in
-    let m : length (take k (drop prefixLengthAt c)) ≡ prefixSize =
-    ap (λ (j : ℕ). length (take j (drop prefixLengthAt c))) e ∙ lib.Seq.length-take-le prefixSize (drop prefixLengthAt c) (simp lib.ListN.length-drop (omega arith)) in
-    let j : b ≡ put a (editionsAt + 4) (take k (drop prefixLengthAt c)) =
-    put-of a (editionsAt + 4) (take k (drop prefixLengthAt c)) (length (take k (drop prefixLengthAt c))) (length a) x (omega arith) y in
-    let o : length b ≡ wholeSize = ap length j ∙ length-put a (editionsAt + 4) (take k (drop prefixLengthAt c)) (omega arith) ∙ l in
+begin-long : (opcode : ℕ) (prefix : List ℕ) → length (beginCore opcode prefix) ≡ blockSize
+unfolding beginCore
+begin-long opcode prefix = go (soundSettings opcode prefix) refl
+  where
+    go : (b : Bool) → soundSettings opcode prefix ≡ b → length (pick b (padded (fresh opcode prefix)) (padded blank)) ≡ blockSize
+    go true s = ap length (pick-true (padded (fresh opcode prefix)) (padded blank) refl) ∙ fresh-long opcode prefix (settings-short opcode prefix s)
+    go false s = ap length (pick-false (padded (fresh opcode prefix)) (padded blank) refl) ∙ blank-long
+
+-- the prefix of a block's head as the edition from 0 on, and one edition
+unfoldable pub firstIn : List ℕ → List ℕ
+firstIn s = put (put s (editionsAt + 4) (take prefixSize (drop prefixLengthAt s))) editionsCountAt (1 ∷ [])
+
+pub first-put : (s : List ℕ) (k : ℕ) {r v : Bool} {a b : List ℕ} → length s ≡ wholeSize → k ≡ prefixSize
+    → r ≡ leb (0 + length (take k (drop prefixLengthAt s))) prefixSize → a ≡ putIf r (replicate prefixSize 0) 0 (take k (drop prefixLengthAt s))
+    → v ≡ leb (editionsAt + 4 + length a) (length s) → b ≡ putIf v s (editionsAt + 4) a → set b editionsCountAt 1 ≡ firstIn s
+unfolding firstIn
+first-put s k {r} {v} {a} {b} n e q w x y =
+    let p : List ℕ = take k (drop prefixLengthAt s) in
+    let z : length (replicate {A = ℕ} prefixSize 0) ≡ prefixSize = length-replicate {A = ℕ} prefixSize 0 in
+    let m : length p ≡ prefixSize =
+    ap (λ (j : ℕ). length (take j (drop prefixLengthAt s))) e ∙ lib.Seq.length-take-le prefixSize (drop prefixLengthAt s) (simp lib.ListN.length-drop (omega arith)) in
+    let i : a ≡ p = put-of (replicate prefixSize 0) 0 p (length p) prefixSize q (omega arith) w ∙ put-whole (replicate prefixSize 0) p (z ∙ sym m) in
+    let la : length a ≡ prefixSize = ap length i ∙ m in
+    let j : b ≡ put s (editionsAt + 4) a = put-of s (editionsAt + 4) a (length a) (length s) x (omega arith) y in
+    let o : length b ≡ wholeSize = ap length j ∙ length-put s (editionsAt + 4) a (omega arith) ∙ n in
     set-put b editionsCountAt 1 (omega arith)
-    ∙ ap (λ (t : List ℕ). put t editionsCountAt (1 ∷ [])) (j ∙ ap (λ (t : List ℕ). put t (editionsAt + 4) (take k (drop prefixLengthAt c))) i
-    ∙ ap (λ (h : ℕ). put (put (replicate wholeSize 0) 0 c) (editionsAt + 4) (take h (drop prefixLengthAt c))) e)
+    ∙ ap (λ (t : List ℕ). put t editionsCountAt (1 ∷ [])) (j ∙ ap (put s (editionsAt + 4)) (i ∙ ap (λ (h : ℕ). take h (drop prefixLengthAt s)) e))
+
+-- .. over a core that was begun in zeros
+pub first-begun : (c : List ℕ) → length c ≡ blockSize → firstIn (c ++ drop blockSize (replicate wholeSize 0)) ≡ begunWith c
+unfolding firstIn begunWith put
+first-begun c n =
+    let z : List ℕ = drop blockSize (replicate wholeSize 0) in
+    let a : c ++ z ≡ c ++ drop {A = ℕ} (0 + length c) (replicate wholeSize 0) = ap (λ (k : ℕ). c ++ drop k (replicate wholeSize 0)) (sym n ∙ sym (zero-add (length c))) in
+    let p : take prefixSize (drop prefixLengthAt (c ++ z)) ≡ take prefixSize (drop prefixLengthAt c) =
+    ap (take prefixSize) (lib.Seq.drop-append-le prefixLengthAt c z (omega arith))
+    ∙ lib.Seq.take-append-le prefixSize (drop prefixLengthAt c) z (simp lib.ListN.length-drop (omega arith)) in
+    ap (λ (x : List ℕ). put (put (c ++ z) (editionsAt + 4) x) editionsCountAt (1 ∷ [])) p
+    ∙ ap (λ (x : List ℕ). put (put x (editionsAt + 4) (take prefixSize (drop prefixLengthAt c))) editionsCountAt (1 ∷ [])) a
+
+-- what a start leaves in the place of another block
+unfoldable pub begunIn : List ℕ → ℕ → List ℕ → List ℕ
+begunIn s opcode prefix = pick (eqb (length s) wholeSize) (begin opcode prefix) s
+
+unfoldable pub blankIn : List ℕ → List ℕ
+blankIn s = pick (eqb (length s) wholeSize) (whole blankOn) s
+
+zeros-in : (s : List ℕ) {b : Bool} {z : List ℕ} → length s ≡ wholeSize → b ≡ leb (0 + wholeSize) (length s) → z ≡ putIf b s 0 (replicate wholeSize 0)
+    → z ≡ replicate wholeSize 0
+zeros-in s n x q =
+    let lz : length (replicate {A = ℕ} wholeSize 0) ≡ wholeSize = length-replicate {A = ℕ} wholeSize 0 in
+    put-of s 0 (replicate wholeSize 0) wholeSize (length s) x (omega arith) q ∙ put-whole s (replicate wholeSize 0) (n ∙ sym lz)
+
+module _ (s : List ℕ) where
+  pub blank-not : (length s ≡ wholeSize → ⊥) → s ≡ blankIn s
+  unfolding blankIn
+  blank-not h = sym (pick-false (whole blankOn) s (ne-eqb (length s) wholeSize h))
+
+  pub blank-is : length s ≡ wholeSize → blankIn s ≡ whole blankOn
+  unfolding blankIn
+  blank-is h = pick-true (whole blankOn) s (eq-eqb (length s) wholeSize h)
+
+  pub blank-in : {b : Bool} {z c u w : List ℕ} → length s ≡ wholeSize → b ≡ leb (0 + wholeSize) (length s) → z ≡ putIf b s 0 (replicate wholeSize 0)
+      → c ≡ coreBlank (take blockSize z) → u ≡ c ++ drop blockSize z → w ≡ firstIn u → w ≡ blankIn s
+  blank-in {b} {z} {c} {u} {w} n x q e i f =
+      let y : z ≡ replicate wholeSize 0 = zeros-in s n x q in
+      let lz : length z ≡ wholeSize = ap length y ∙ length-replicate {A = ℕ} wholeSize 0 in
+      let k : c ≡ padded blank = e ∙ core-blank (take blockSize z) (lib.Seq.length-take-le blockSize z (omega arith)) in
+      let l : length c ≡ blockSize = ap length k ∙ blank-long in
+      f ∙ ap firstIn (i ∙ ap (λ (t : List ℕ). c ++ drop blockSize t) y) ∙ first-begun c l ∙ blank-whole c k ∙ sym (blank-is n)
+
+  pub begun-not : (opcode : ℕ) (prefix : List ℕ) → (length s ≡ wholeSize → ⊥) → s ≡ begunIn s opcode prefix
+  unfolding begunIn
+  begun-not opcode prefix h = sym (pick-false (begin opcode prefix) s (ne-eqb (length s) wholeSize h))
+
+  pub begun-is : (opcode : ℕ) (prefix : List ℕ) → length s ≡ wholeSize → begunIn s opcode prefix ≡ begin opcode prefix
+  unfolding begunIn
+  begun-is opcode prefix h = pick-true (begin opcode prefix) s (eq-eqb (length s) wholeSize h)
+
+  pub begun-in : (opcode : ℕ) (prefix : List ℕ) {b : Bool} {z c u w : List ℕ} → length s ≡ wholeSize → b ≡ leb (0 + wholeSize) (length s)
+      → z ≡ putIf b s 0 (replicate wholeSize 0) → c ≡ freshIn (take blockSize z) opcode prefix
+      → u ≡ c ++ drop blockSize z → w ≡ firstIn u → w ≡ begunIn s opcode prefix
+  begun-in opcode prefix {b} {z} {c} {u} {w} n x q e i f =
+      let y : z ≡ replicate wholeSize 0 = zeros-in s n x q in
+      let lz : length z ≡ wholeSize = ap length y ∙ length-replicate {A = ℕ} wholeSize 0 in
+      let k : c ≡ beginCore opcode prefix = e ∙ fresh-is (take blockSize z) opcode prefix (lib.Seq.length-take-le blockSize z (omega arith)) in
+      let l : length c ≡ blockSize = ap length k ∙ begin-long opcode prefix in
+      f ∙ ap firstIn (i ∙ ap (λ (t : List ℕ). c ++ drop blockSize t) y) ∙ first-begun c l ∙ begun-whole opcode prefix c k ∙ sym (begun-is opcode prefix n)

@@ -16,7 +16,7 @@ ghost use Rattle.wholes.specs.Layout.{indexSize, wholeSize};
 ghost use Rattle.wholes.specs.Index.{indexBlock, maskFor, handlesOf};
 ghost use Rattle.wholes.specs.Whole.{whole};
 ghost use Rattle.wholes.specs.Engine.{begin, blankOn};
-ghost use Rattle.index.specs.Begun.{begunWith};
+ghost use Rattle.index.specs.Begun.{firstIn, begunIn, blankIn};
 ghost use Rattle.index.specs.Asked.{watchOf};
 ghost use Rattle.index.specs.Renewed.{isIndexed, isMoved, followed, renewed};
 
@@ -77,11 +77,8 @@ impl Whole {
     pub fn fresh(opcode: u16, prefix: &[u8]) -> Opened
         ensures { λ r. ⌜ (r .answer ≡ settingsOf opcode (now (prefix .entry))) × (r .state .block ≡ begin opcode (now (prefix .entry))) ⌝ }
     {
-        let begun = State::fresh(opcode, prefix);
-        let answer = begun.answer;
-        let fresh = begun.state;
-        let core = fresh.block;
-        let block = open_block(&core);
+        let mut block = [0u8; Whole::SIZE];
+        let answer = put_fresh(&mut block, opcode, prefix);
         Opened {
             answer: answer,
             state: Whole { block },
@@ -92,27 +89,48 @@ impl Whole {
     pub fn blank() -> Whole
         ensures { λ r. ⌜ r .block ≡ whole blankOn ⌝ }
     {
-        let fresh = State::blank();
-        let core = fresh.block;
-        let block = open_block(&core);
+        let mut block = [0u8; Whole::SIZE];
+        put_blank(&mut block);
         Whole { block }
     }
 }
 
-// A core without pairs as a whole block: no entry, and its prefix is the edition from 0 on.
-fn open_block(core: &[u8]) -> [u8; Whole::SIZE]
-    requires { ⌜ length (now core) ≡ blockSize ⌝ }
-    ensures { λ r. ⌜ r ≡ begunWith (now (core .entry)) ⌝ }
+// The prefix of a block's head as the edition from 0 on, and one edition.
+fn put_first(s: &mut [u8])
+    requires { ⌜ length (now s) ≡ wholeSize ⌝ }
+    ensures { λ _. ⌜ now (s .exit) ≡ firstIn (now (s .entry)) ⌝ }
 {
-    let mut block = [0u8; Whole::SIZE];
-    parts::copy(&mut block, 0, core);
-    parts::copy(
-        &mut block,
-        Whole::FIRST_AT,
-        &core[State::PREFIX_LENGTH_AT..State::HEAD],
-    );
-    block[Whole::EDITION_COUNT_AT] = 1;
-    block
+    let mut first = [0u8; State::HEAD - State::PREFIX_LENGTH_AT];
+    parts::copy(&mut first, 0, &s[State::PREFIX_LENGTH_AT..State::HEAD]);
+    parts::copy(s, Whole::FIRST_AT, &first);
+    s[Whole::EDITION_COUNT_AT] = 1;
+}
+
+// The fresh state with these settings, in a lent whole block; the blank one and refusal 9 where they are out of range. A block of another length is left as
+// it is.
+pub fn put_fresh(s: &mut [u8], opcode: u16, prefix: &[u8]) -> Start
+    ensures { λ r. ⌜ (r ≡ settingsOf opcode (now (prefix .entry))) × (now (s .exit) ≡ begunIn (now (s .entry)) opcode (now (prefix .entry))) ⌝ }
+{
+    if s.len() != Whole::SIZE {
+        let mut none = [0u8; 0];
+        return state::put_fresh(&mut none, opcode, prefix);
+    }
+    parts::fill(s, 0, Whole::SIZE, 0);
+    let answer = state::put_fresh(&mut s[..State::SIZE], opcode, prefix);
+    put_first(s);
+    answer
+}
+
+// The blank state, fresh with opcode 0xFC00 and an empty prefix, in a lent whole block; another is left as it is.
+pub fn put_blank(s: &mut [u8])
+    ensures { λ _. ⌜ now (s .exit) ≡ blankIn (now (s .entry)) ⌝ }
+{
+    if s.len() != Whole::SIZE {
+        return;
+    }
+    parts::fill(s, 0, Whole::SIZE, 0);
+    state::put_blank(&mut s[..State::SIZE]);
+    put_first(s);
 }
 
 // What a mask says: how many handles it has and the lowest, or that there is none.

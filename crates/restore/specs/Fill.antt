@@ -249,16 +249,3 @@ records-rows m e =
           (all-map Fits (λ (q : Pair). 0xA3 ∷ pairRow q) (m .pairs) (pairs-fit m f) pair-row)
           (z, tt)),
     )
-
--- The lines of the image of a sound state, stored in a block that was cleared, give the state's block.
-pub block-filled : (s t : List ℕ) {r : Bool} {z u : List ℕ} → length s ≡ blockSize
-    → (r ≡ leb (0 + blockSize) (length s)) × (z ≡ putIf r s 0 (replicate blockSize 0))
-    → ((rs : List (List ℕ)) → All Row rs → t ≡ each textOf rs → u ≡ storedAll z rs)
-    → (m : Model) → soundModel m ≡ true → t ≡ imageText m → u ≡ padded m
-unfolding imageText
-block-filled s t {r} {z} {u} h p q m e i =
-    let n : length {A = ℕ} (replicate blockSize 0) ≡ blockSize = length-replicate {A = ℕ} blockSize 0 in
-    let k : z ≡ replicate blockSize 0 =
-    put-of s 0 (replicate blockSize 0) blockSize (length s) (p .0) (omega arith) (p .1)
-    ∙ put-whole s (replicate blockSize 0) (h ∙ sym n) in
-    q (records m) (records-rows m e) i ∙ ap (λ (x : List ℕ). storedAll x (records m)) k ∙ records-stored m e

@@ -1,8 +1,6 @@
--- What restore reads into a block, and that it is the block of the state whose image the text is.
+-- What the lines of an image leave in a block, and that those of a sound state leave its block.
 pub mod Lines
 pub mod Rows
 pub mod Spread
 pub mod Fill
-pub mod Again
-pub mod Accept
 pub mod Signed

@@ -10,10 +10,8 @@ use lib.IntN.{pos, negℤ}
 use Rattle.laws.specs.Loops.{each}
 use Rattle.model.specs.Types.{Pair}
 use Rattle.model.specs.Level.{signed}
-use Rattle.model.specs.Image.{heldIn}
+use Rattle.model.specs.Image.{heldIn, isImage}
 use Rattle.model.specs.Quoted.{codes}
-use Rattle.restore.specs.Accept.{restores}
-use Rattle.model.specs.Layout.{blockSize}
 
 -- the monitor of "A session in full" with a window of 2 ticks, and its pair with a packet at −60 in the window
 unfoldable pub minusSixty : List String
@@ -22,10 +20,10 @@ minusSixty =
     "A3000006050403020100000101000000C4FFFFFFFFFFFFFFC40303020106\n" ∷ "AF0101\n" ∷ []
 
 -- It is restored; its sum is −60, in two's complement.
-pub sum-signed : (restores (each codes minusSixty) blockSize ≡ true)
+pub sum-signed : (isImage (each codes minusSixty) ≡ true)
     × (map (λ (q : Pair). q .sum) (heldIn (each codes minusSixty) .pairs) ≡ 18446744073709551556 ∷ [])
     × (map (λ (q : Pair). signed (q .sum)) (heldIn (each codes minusSixty) .pairs) ≡ negℤ (pos 60) ∷ [])
-unfolding restores minusSixty codes
+unfolding minusSixty codes
     Rattle.model.specs.Types.ticksOf
     Rattle.model.specs.Types.device Rattle.model.specs.Types.watched
     Rattle.model.specs.Level.level Rattle.model.specs.Level.dBm Rattle.model.specs.Level.raised Rattle.model.specs.Level.signed Rattle.model.specs.Level.wrapped Rattle.model.specs.Level.floorOf Rattle.model.specs.Level.inRange Rattle.model.specs.Level.sumInRange Rattle.model.specs.Level.addRssi Rattle.model.specs.Level.mean

@@ -1,26 +1,10 @@
-// Restore: the state that an image's text holds, read into a block of 5,225 octets (document 01, The image; refusal
-// 10). The lines are stored in one pass, whatever they hold: A0 at the start, A1 and A5 in the row of their handle, A3
-// behind the pairs; the first piece that is no line of at most 97 octets ends it. Then the block is tested: the text is an
-// image exactly if the block is sound and save writes this text of it.
+// The lines of an image stored in a block of 5,225 octets (document 01, The image), whatever they hold: A0 at the start, A1 and A5 in the row of
+// their handle, A3 behind the pairs. Nothing is tested here: whether the text was an image is told afterwards, by the block's soundness and by what
+// save would write of it.
 use state::State;
-ghost use Prim.Native.Nat.{_+_, _*_, _≤_, _<_};
 ghost use mathlib.Core.Path.{_≡_};
-ghost use mathlib.Core.Bool.{true};
-ghost use mathlib.Core.List.{List};
-ghost use Prim.Native.Nat.{ℕ};
 ghost use lib.ListN.{length};
-ghost use Rattle.laws.specs.Tests.{sames};
-ghost use Rattle.laws.specs.Loops.{each};
-ghost use Rattle.lines.specs.Hex.{textOf};
-ghost use Rattle.rule.specs.Base.{All};
-ghost use Rattle.save.specs.Text.{savedText};
-ghost use Rattle.model.specs.Types.{Model};
-ghost use Rattle.model.specs.Sound.{soundModel};
-ghost use Rattle.model.specs.Image.{imageText};
-ghost use Rattle.model.specs.Block.{padded};
-ghost use Rattle.restore.specs.Lines.{storedMonitor, storedPair, spreadOf, stored, storedAll};
-ghost use Rattle.restore.specs.Rows.{Row, Placed};
-ghost use Rattle.restore.specs.Accept.{restores, restored, Read};
+ghost use Rattle.restore.specs.Lines.{storedMonitor, storedPair, spreadOf, stored, storedIn};
 ghost use Rattle.model.specs.Layout.{blockSize, lineRow, monitorSize, pairSize};
 
 // An A1 row at the place of its handle.
@@ -63,7 +47,7 @@ fn store_pair(s: &mut [u8], row: &[u8])
 }
 
 // A line's octets, by the octet that names it.
-fn store_line(s: &mut [u8], line: &[u8])
+fn put_line(s: &mut [u8], line: &[u8])
     requires { ⌜ (length (now s) ≡ blockSize) × (length (now line) ≡ lineRow) ⌝ }
     ensures { λ _. ⌜ now (s .exit) ≡ stored (now (s .entry)) (now (line .entry)) ⌝ }
 {
@@ -86,86 +70,16 @@ fn store_line(s: &mut [u8], line: &[u8])
     }
 }
 
-// The line at an index, read in one pass and stored: the answer is the index behind it, or the index itself where no
-// line of at most 97 octets stands there.
-fn store_text(s: &mut [u8], text: &[u8], at: usize) -> usize
-    requires { ⌜ (length (now s) ≡ blockSize) × (at ≤ length (now text)) ⌝ }
-    ensures { λ r. ⌜ Placed (now (text .entry)) at (now (s .entry)) (now (s .exit)) r ⌝ }
-{
-    let mut line = [0u8; State::LINE_ROW];
-    let k = reader::read_pairs(text, at, &mut line);
-    let e = at + 2 * k;
-    if reader::is_end(text, e) {
-        store_line(s, &line);
-        return e + 1;
-    }
-    at
-}
-
-// The lines of a text, up to the first that cannot be stored.
-fn store_lines(s: &mut [u8], text: &[u8])
-    requires { ⌜ length (now s) ≡ blockSize ⌝ }
-    ensures { λ _. ⌜ ((rs : List (List ℕ)) → All Row rs → now (text .entry) ≡ each textOf rs → now (s .exit) ≡ storedAll (now (s .entry)) rs) ⌝ }
-{
-    let n = text.len();
-    let mut at = 0;
-    while at < n {
-        let e = store_text(s, text, at);
-        if e == at {
-            return;
-        }
-        at = e;
-    }
-}
-
-// The lines of a text in an empty block. Of the image of a sound state that is the state's block; what it is of
-// another text is not said.
-fn fill_block(s: &mut [u8], text: &[u8])
-    requires { ⌜ length (now s) ≡ blockSize ⌝ }
-    ensures { λ _. ⌜ ((m : Model) → soundModel m ≡ true → now (text .entry) ≡ imageText m → now (s .exit) ≡ padded m) ⌝ }
-{
-    parts::fill(s, 0, State::SIZE, 0);
-    store_lines(s, text);
-}
-
-// Whether a text is what save writes of a block.
-fn is_saved(s: &[u8], text: &[u8]) -> bool
-    requires { ⌜ length (now s) ≡ blockSize ⌝ }
-    ensures { λ r. ⌜ r ≡ sames (savedText (now (s .entry))) (now (text .entry)) ⌝ }
-{
-    let mut out = [0u8; State::IMAGE];
-    let n = save::save_image(s, &mut out);
-    parts::same(&out[..n], text)
-}
-
-// Reads an image into s: the answer is whether the text is an image of a sound state. Where it is, s is then the block of
-// the state that the text holds; where not, what s holds is not said.
-fn take_image(text: &[u8], s: &mut [u8]) -> bool
-    requires { ⌜ length (now s) ≡ blockSize ⌝ }
-    ensures { λ r. ⌜ Read (now (text .entry)) (now (s .exit)) r ⌝ }
-{
-    if State::IMAGE < text.len() {
-        return false;
-    }
-    fill_block(s, text);
-    if soundness::is_sound(s) {
-        return is_saved(s, text);
-    }
-    false
-}
-
-// Restores an image into s: the answer is whether s has 5,225 octets and the text is an image of a sound state. Where it
-// is, s is then the block of the state that the text holds; where the text is refused, the blank state's. A block of
-// another length stays as it is.
-pub fn read_image(text: &[u8], s: &mut [u8]) -> bool
-    ensures { λ r. ⌜ (r ≡ restores (now (text .entry)) (length (now (s .entry)))) × (now (s .exit) ≡ restored (now (text .entry)) (now (s .entry))) ⌝ }
+// Stores the octets of a line of an image, zeros behind them up to 97, in a block of 5,225 octets; lines of other names, and blocks and lines of
+// other lengths, change nothing.
+pub fn store_line(s: &mut [u8], line: &[u8])
+    ensures { λ _. ⌜ now (s .exit) ≡ storedIn (now (s .entry)) (now (line .entry)) ⌝ }
 {
     if s.len() != State::SIZE {
-        return false;
+        return;
     }
-    let image = take_image(text, s);
-    if !image {
-        state::put_blank(s);
+    if line.len() != State::LINE_ROW {
+        return;
     }
-    image
+    put_line(s, line);
 }

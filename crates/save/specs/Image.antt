@@ -9,8 +9,8 @@ use native.Mathlib.Numerals.{add-one}
 use native.Mathlib.Omega.{arith}
 use borrow.Author.Tests.{le-leb, eq-eqb, ne-eqb}
 use lib.Dec.{leb, eqb}
-use lib.ListN.{length, take, getD, replicate, length-append}
-use lib.Seq.{take-at, take-all}
+use lib.ListN.{length, take, drop, getD, replicate, length-append}
+use lib.Seq.{take-at, take-all, drop-at}
 use Rattle.laws.specs.Tests.{pick, cases-le}
 use Rattle.laws.specs.Put.{put, putIf}
 use Rattle.laws.specs.Loops.{when-true, when-false, only, each, each-append, each-take, upTo}
@@ -37,7 +37,7 @@ use Rattle.blocks.specs.Block.{Measured, measured, padded-head, behind}
 use Rattle.blocks.specs.Block.{read-count, row-monitors, row-pairs, getD-count, padded-length}
 use Rattle.octets.specs.Numbers.{atMost, at-is}
 use Rattle.save.specs.Text.{headText, lineOf, monitorText, pairText, endText, monitorAt, pairAt, liveBelow}
-use Rattle.save.specs.Text.{monitorsText, pairsText, pairsIn, savedText, saves}
+use Rattle.save.specs.Text.{monitorsText, pairsText, pairsIn, restText, savedText, saves}
 use Rattle.model.specs.Layout.{blockSize, conditionLengthAt, dataAt, extraAt, lengthAt, mostCondition, mostData, mostMonitors, mostPairs, mostPrefix, pairSize}
 
 at-most-is : (v n : ℕ) → v ≤ n → atMost v n ≡ v
@@ -258,7 +258,7 @@ module _ (m : Model) (f : Measured m) where
 
 -- The text of the block of a sound state is the image's text.
 pub saved-image : (m : Model) → soundModel m ≡ true → savedText (padded m) ≡ imageText m
-unfolding savedText imageText records each endText endRow
+unfolding savedText restText imageText records each endText endRow
 saved-image m e =
     let f : Measured m = measured m e in
     let ms : List (List ℕ) = map recordOf (m .mons) in
@@ -274,6 +274,16 @@ saved-image m e =
       each-append textOf qs (z ∷ []),
     )
     (simp (append-assoc, append-nil))
+
+-- .. and so is the rest, behind the first line
+pub rest-image : (m : Model) → soundModel m ≡ true → restText (padded m) ≡ each textOf (drop 1 (records m))
+unfolding savedText imageText records each
+rest-image m e =
+    let f : Measured m = measured m e in
+    let h : List ℕ = textOf (0xA0 ∷ headRow m) in
+    let a : headText (padded m) ≡ h = head-image m (f .prefix-most) in
+    let b : h ++ restText (padded m) ≡ h ++ each textOf (drop 1 (records m)) = ap (λ (x : List ℕ). x ++ restText (padded m)) (sym a) ∙ saved-image m e in
+    sym (drop-at h (restText (padded m)) (length h) refl) ∙ ap (drop (length h)) b ∙ drop-at h (each textOf (drop 1 (records m))) (length h) refl
 
 -- What save leaves where the block is that of a sound state and there is room.
 pub saves-model : (m : Model) (s out : List ℕ) {after : List ℕ} {n : ℕ} → soundModel m ≡ true → s ≡ padded m

@@ -2,7 +2,7 @@
 -- Document 01, The image. Assumes nothing.
 use Prim.Native.Nat.{ℕ, _+_, _-_, _*_, _≤_, _<_}
 use mathlib.Core.Path.{_≡_, refl, sym, ap, _∙_}
-use mathlib.Core.Bool.{Bool, true, false, not}
+use mathlib.Core.Bool.{Bool, true, false, not, _&&_}
 use mathlib.Core.List.{List, [], _∷_, _++_, append-assoc}
 use native.Mathlib.Nat.{zero-add}
 use native.Mathlib.Omega.{arith}
@@ -10,8 +10,8 @@ use lib.Dec.{leb, eqb}
 use borrow.Author.Tests.{eq-eqb, ne-eqb, le-leb, lt-leb}
 use lib.ListN.{length, take, drop, getD, length-append, length-take, length-drop}
 use lib.Seq.{length-take-le, drop-drop, getD-drop}
-use Rattle.laws.specs.Tests.{pick, pick-true, pick-false, and-not-right}
-use Rattle.laws.specs.Put.{put, put-put, put-then, put-nil, take-before-put, drop-after-put, length-put}
+use Rattle.laws.specs.Tests.{pick, pick-true, pick-false, and-both, and-not-right}
+use Rattle.laws.specs.Put.{put, putIf, put-if-true, put-if-false, put-put, put-then, put-nil, take-before-put, drop-after-put, length-put}
 use Rattle.laws.specs.Loops.{upTo, upTo-more, only, when, when-true, when-false}
 use Rattle.laws.specs.Rows.{row, getD-row}
 use Rattle.lines.specs.Hex.{lf, hexOf, textOf}
@@ -21,7 +21,7 @@ use Rattle.blocks.specs.Added.{addedIn}
 use Rattle.octets.specs.Numbers.{atMost, at-most}
 use Rattle.save.specs.Text.{fieldsOf, lineOf, monitorText, monitorAt, pairAt, pairText}
 use Rattle.save.specs.Text.{liveBelow, monitorsText, pairsText, headText, endText}
-use Rattle.save.specs.Text.{savedText, saves, pairsIn}
+use Rattle.save.specs.Text.{restRoom, restText, savedText, saves, savesIn, pairsIn}
 use Rattle.sessions.specs.Machine.{coreRoom}
 use Rattle.model.specs.Layout.{blockSize, conditionAt, conditionLengthAt, countAt, dataAt, extraAt, extraSize, headSize, intervalAt, lengthAt, monitorLine, monitorSize, monitorsAt, mostCondition, mostData, mostMonitors, mostPairs, mostPrefix, pairSize, pairsAt, prefixLengthAt}
 
@@ -215,26 +215,52 @@ live-turn s h {n} {w} p q =
     let g : w ≡ length (f h) = q ∙ used-at s h in
     rw (upTo-more f h) (omega arith)
 
--- the four parts, one behind another
-pub parts-put : (s xs : List ℕ) (u n : ℕ) {a b c d : ℕ} {k l m o : List ℕ}
-    → a ≡ length (headText s) → k ≡ put xs 0 (headText s)
-    → b ≡ a + length (monitorsText s mostMonitors) → l ≡ put k a (monitorsText s mostMonitors)
+-- the parts, one behind another
+pub rest-put : (s xs : List ℕ) (at u n : ℕ) {b c d : ℕ} {l m o : List ℕ} → at + restRoom ≤ length xs
+    → b ≡ at + length (monitorsText s mostMonitors) → l ≡ put xs at (monitorsText s mostMonitors)
     → c ≡ b + length (pairsText s n) → m ≡ put l b (pairsText s n)
     → d ≡ c + length (endText u n) → o ≡ put m c (endText u n)
     → u ≡ length (liveBelow s mostMonitors) → n ≡ atMost (getD s countAt 0) mostPairs
-    → (d ≡ length (savedText s)) × (o ≡ put xs 0 (savedText s))
-unfolding savedText pairsIn
-parts-put s xs u n {a} {b} {c} {d} {k} {l} {m} {o} pa pk pb pl pc pm pd po pu pn =
-    let h = headText s in
+    → (d ≡ at + length (restText s)) × (o ≡ put xs at (restText s))
+unfolding restText pairsIn
+rest-put s xs at u n {b} {c} {d} {l} {m} {o} r pb pl pc pm pd po pu pn =
     let ms = monitorsText s mostMonitors in
     let ps = pairsText s n in
     let z = endText u n in
-    let e1 : length (h ++ ms) ≡ length h + length ms = length-append h ms in
-    let e2 : length (h ++ ms ++ ps) ≡ length (h ++ ms) + length ps = length-append (h ++ ms) ps in
-    let e3 : length (h ++ ms ++ ps ++ z) ≡ length (h ++ ms ++ ps) + length z = length-append (h ++ ms ++ ps) z in
-    let q1 : l ≡ put xs 0 (h ++ ms) = put-then xs 0 h a ms (omega arith) pk (omega arith) pl refl in
-    let q2 : m ≡ put xs 0 (h ++ ms ++ ps) = put-then xs 0 (h ++ ms) b ps (omega arith) q1 (omega arith) pm refl in
-    rw (← pu, ← pn) (omega arith, put-then xs 0 (h ++ ms ++ ps) c z (omega arith) q2 (omega arith) po refl)
+    let e2 : length (ms ++ ps) ≡ length ms + length ps = length-append ms ps in
+    let e3 : length (ms ++ ps ++ z) ≡ length (ms ++ ps) + length z = length-append (ms ++ ps) z in
+    let q2 : m ≡ put xs at (ms ++ ps) = put-then xs at ms b ps (omega arith) pl (omega arith) pm refl in
+    rw (← pu, ← pn) (omega arith, put-then xs at (ms ++ ps) c z (omega arith) q2 (omega arith) po refl)
+
+pub parts-put : (s xs : List ℕ) {a d : ℕ} {k o : List ℕ} → a ≡ length (headText s) → k ≡ put xs 0 (headText s)
+    → d ≡ a + length (restText s) → o ≡ put k a (restText s) → (d ≡ length (savedText s)) × (o ≡ put xs 0 (savedText s))
+unfolding savedText
+parts-put s xs {a} {d} {k} {o} pa pk pd po =
+    let e : length (headText s ++ restText s) ≡ length (headText s) + length (restText s) = length-append (headText s) (restText s) in
+    (omega arith, put-then xs 0 (headText s) a (restText s) (omega arith) pk (omega arith) po refl)
+
+-- whether a part is written
+module _ (need : ℕ) (s out text : List ℕ) where
+  pub part-sized : (length s ≡ blockSize → ⊥)
+      → (0 ≡ pick (savesIn need s (length out)) (length text) 0) × (out ≡ putIf (savesIn need s (length out)) out 0 text)
+  unfolding savesIn
+  part-sized h =
+      let e : (eqb (length s) blockSize && leb need (length out)) ≡ false = ap (λ (b : Bool). b && leb need (length out)) (ne-eqb (length s) blockSize h) in
+      (sym (pick-false (length text) 0 e), put-if-false out 0 text e)
+
+  pub part-short : length out < need
+      → (0 ≡ pick (savesIn need s (length out)) (length text) 0) × (out ≡ putIf (savesIn need s (length out)) out 0 text)
+  unfolding savesIn
+  part-short h =
+      let e : (eqb (length s) blockSize && leb need (length out)) ≡ false = and-not-right (eqb (length s) blockSize) (leb need (length out)) (lt-leb need (length out) h) in
+      (sym (pick-false (length text) 0 e), put-if-false out 0 text e)
+
+  pub part-done : {r : ℕ} {after : List ℕ} → length s ≡ blockSize → need ≤ length out → r ≡ length text → after ≡ put out 0 text
+      → (r ≡ pick (savesIn need s (length out)) (length text) 0) × (after ≡ putIf (savesIn need s (length out)) out 0 text)
+  unfolding savesIn
+  part-done h k p q =
+      let e : (eqb (length s) blockSize && leb need (length out)) ≡ true = and-both (eq-eqb (length s) blockSize h) (le-leb need (length out) k) in
+      (p ∙ sym (pick-true (length text) 0 e), q ∙ put-if-true out 0 text e)
 
 -- whether save writes
 module _ (s : List ℕ) (room : ℕ) where

@@ -18,7 +18,7 @@ use Rattle.lines.specs.Hex.{textOf}
 use Rattle.lines.specs.Texts.{length-text}
 use Rattle.model.specs.Block.{inUse}
 use Rattle.blocks.specs.Added.{addedIn}
-use Rattle.model.specs.Layout.{headLine, monitorLine, pairLine}
+use Rattle.model.specs.Layout.{headLine, monitorLine, monitorLines, pairLine, pairLines, endLine}
 use Rattle.sessions.specs.Machine.{coreRoom}
 use Rattle.model.specs.Layout.{blockSize, conditionAt, conditionLengthAt, countAt, dataAt, extraAt, extraSize, headSize, lengthAt, monitorSize, monitorsAt, mostCondition, mostData, mostMonitors, mostPairs, mostPrefix, pairSize, pairsAt, prefixAt, prefixLengthAt}
 
@@ -67,14 +67,23 @@ pairsText s n = upTo (λ i. pairText (pairAt s i)) n
 unfoldable pub pairsIn : List ℕ → ℕ
 pairsIn s = atMost (getD s countAt 0) mostPairs
 
--- the text of a block
+-- the text of a block: its first line, and the rest
+unfoldable pub restText : List ℕ → List ℕ
+restText s = monitorsText s mostMonitors ++ pairsText s (pairsIn s) ++ endText (length (liveBelow s mostMonitors)) (pairsIn s)
+
 unfoldable pub savedText : List ℕ → List ℕ
-savedText s =
-    headText s ++ monitorsText s mostMonitors ++ pairsText s (pairsIn s) ++ endText (length (liveBelow s mostMonitors)) (pairsIn s)
+savedText s = headText s ++ restText s
 
 -- whether save writes: the block has its size, and 10,698 octets are lent
 unfoldable pub saves : List ℕ → ℕ → Bool
 saves s room = eqb (length s) blockSize && leb coreRoom room
+
+-- the same of a part of the text: room for the longest is lent
+abbrev pub restRoom : ℕ
+restRoom = monitorLines + (pairLines + endLine)
+
+unfoldable pub savesIn : ℕ → List ℕ → ℕ → Bool
+savesIn need s room = eqb (length s) blockSize && leb need room
 
 -- lengths
 
@@ -137,10 +146,13 @@ pub pairs-most : (s : List ℕ) → pairsIn s ≤ mostPairs
 unfolding pairsIn
 pairs-most s = at-most (getD s countAt 0) mostPairs
 
+pub length-restText : (s : List ℕ) → length (restText s) + headLine ≤ coreRoom
+unfolding restText
+length-restText s =
+    let e = length-endText (length (liveBelow s mostMonitors)) (pairsIn s) in
+    simp length-append (omega (arith, length-monitorsText s mostMonitors, length-pairsText s (pairsIn s), pairs-most s))
+
 -- "image 10,698": no block has a longer text
 pub length-savedText : (s : List ℕ) → length (savedText s) ≤ coreRoom
 unfolding savedText
-length-savedText s =
-    let e = length-endText (length (liveBelow s mostMonitors)) (pairsIn s) in
-    simp length-append
-    (omega (arith, length-headText s, length-monitorsText s mostMonitors, length-pairsText s (pairsIn s), pairs-most s))
+length-savedText s = simp length-append (omega (arith, length-headText s, length-restText s))

@@ -2,24 +2,32 @@
 // the lines before hexadecimal: A0 from its start, A1 or A5 of each monitor row in use by handle, A3 of each pair held
 // in start order, AF with their numbers. Lengths that stand in rows are cut to what the row has, so any block whatever
 // can be given.
+mod passes;
+
 use state::State;
 ghost use Prim.Native.Nat.{_+_, _*_, _≤_, _<_};
 ghost use mathlib.Core.Path.{_≡_};
-ghost use mathlib.Core.Bool.{true};
+ghost use mathlib.Core.Bool.{true, _&&_};
 ghost use mathlib.Core.List.{_∷_};
 ghost use lib.ListN.{length};
 ghost use lib.Dec.{eqb};
 ghost use Rattle.laws.specs.Put.{put, putIf};
-ghost use Rattle.laws.specs.Tests.{pick};
+ghost use Rattle.laws.specs.Tests.{pick, sames};
 ghost use Rattle.lines.specs.Hex.{textOf};
 ghost use Rattle.sessions.specs.Machine.{coreRoom};
 ghost use Rattle.model.specs.Types.{Model};
 ghost use Rattle.model.specs.Sound.{soundModel};
 ghost use Rattle.model.specs.Image.{imageText};
 ghost use Rattle.model.specs.Block.{padded};
-ghost use Rattle.save.specs.Text.{headText, monitorText, pairText, endText, liveBelow, monitorsText, pairsText, savedText, saves};
+ghost use Rattle.save.specs.Text.{headText, monitorText, pairText, endText, liveBelow, monitorsText, pairsText, restRoom, restText, savedText, saves, savesIn};
+ghost use Rattle.save.specs.Passed.{lost, passed};
 ghost use Rattle.model.specs.Layout.{headLine, monitorLine, monitorLines, pairLine, pairLines};
 ghost use Rattle.model.specs.Layout.{blockSize, monitorSize, mostMonitors, mostPairs, pairSize};
+
+// The longest first line, and the longest text behind it.
+const HEAD: usize = 2 * State::HEAD_LINE + 1;
+
+const REST: usize = State::IMAGE - HEAD;
 
 // A line: the octet that names it, then a row, in hexadecimal with the LF. The row's text takes the place of the
 // name's LF.
@@ -133,16 +141,24 @@ fn put_end(out: &mut [u8], at: usize, mons: usize, pairs: usize) -> usize
     put_line(out, at, 0xAF, &row)
 }
 
+// Behind the first line: the monitors, the pairs, their numbers.
+fn put_rest(s: &[u8], out: &mut [u8], at: usize) -> usize
+    requires { ⌜ (length (now s) ≡ blockSize) × (at + restRoom ≤ length (now out)) ⌝ }
+    ensures { λ r. ⌜ (r ≡ at + length (restText (now (s .entry)))) × (now (out .exit) ≡ put (now (out .entry)) at (restText (now (s .entry)))) ⌝ }
+{
+    let n = octets::at_most(s[State::COUNT_AT], State::PAIRS);
+    let u = live_in(s);
+    let b = put_monitors(s, out, at);
+    let c = put_pairs(s, out, b, n);
+    put_end(out, c, u, n)
+}
+
 fn put_image(s: &[u8], out: &mut [u8]) -> usize
     requires { ⌜ (length (now s) ≡ blockSize) × (coreRoom ≤ length (now out)) ⌝ }
     ensures { λ r. ⌜ (r ≡ length (savedText (now (s .entry)))) × (now (out .exit) ≡ put (now (out .entry)) 0 (savedText (now (s .entry)))) ⌝ }
 {
-    let n = octets::at_most(s[State::COUNT_AT], State::PAIRS);
-    let u = live_in(s);
     let a = put_head(s, out);
-    let b = put_monitors(s, out, a);
-    let c = put_pairs(s, out, b, n);
-    put_end(out, c, u, n)
+    put_rest(s, out, a)
 }
 
 // The image's text of the state in s, written from the start of out; its length. Where s is not 5,225 octets or out
@@ -159,4 +175,77 @@ pub fn save_image(s: &[u8], out: &mut [u8]) -> usize
         return 0;
     }
     put_image(s, out)
+}
+
+// The first line alone, and what stands behind it: as save_image, into room for the longest.
+pub fn save_head(s: &[u8], out: &mut [u8]) -> usize
+    ensures { λ r. ⌜ (r ≡ pick (savesIn headLine (now (s .entry)) (length (now (out .entry)))) (length (headText (now (s .entry)))) 0) × (now (out .exit) ≡ putIf (savesIn headLine (now (s .entry)) (length (now (out .entry)))) (now (out .entry)) 0 (headText (now (s .entry)))) ⌝ }
+{
+    if s.len() != State::SIZE {
+        return 0;
+    }
+    if out.len() < HEAD {
+        return 0;
+    }
+    put_head(s, out)
+}
+
+pub fn save_rest(s: &[u8], out: &mut [u8]) -> usize
+    ensures { λ r. ⌜ (r ≡ pick (savesIn restRoom (now (s .entry)) (length (now (out .entry)))) (length (restText (now (s .entry)))) 0) × (now (out .exit) ≡ putIf (savesIn restRoom (now (s .entry)) (length (now (out .entry)))) (now (out .entry)) 0 (restText (now (s .entry)))) ⌝ }
+{
+    if s.len() != State::SIZE {
+        return 0;
+    }
+    if out.len() < REST {
+        return 0;
+    }
+    put_rest(s, out, 0)
+}
+
+// An index past every image: where a text is not what is looked for.
+pub const LOST: usize = 65536;
+
+// The index behind a line that stands in a text at an index; LOST where another text stands there.
+pub fn past(text: &[u8], at: usize, line: &[u8]) -> usize
+    ensures { λ r. ⌜ r ≡ passed (now (text .entry)) at (now (line .entry)) ⌝ }
+{
+    let n = text.len();
+    let k = line.len();
+    if n < at {
+        if k == 0 {
+            return at;
+        }
+        return LOST;
+    }
+    if n - at < k {
+        return LOST;
+    }
+    let e = at + k;
+    if parts::same(&text[at..e], line) {
+        return e;
+    }
+    LOST
+}
+
+// The index behind the first line of a block's text, where a text begins with it.
+pub fn past_head(s: &[u8], text: &[u8]) -> usize
+    ensures { λ r. ⌜ r ≡ pick (eqb (length (now (s .entry))) blockSize) (passed (now (text .entry)) 0 (headText (now (s .entry)))) lost ⌝ }
+{
+    if s.len() != State::SIZE {
+        return LOST;
+    }
+    passes::head(s, text)
+}
+
+// Whether a text is a block's behind the first line.
+pub fn is_rest(s: &[u8], text: &[u8]) -> bool
+    ensures { λ r. ⌜ r ≡ (eqb (length (now (s .entry))) blockSize && sames (restText (now (s .entry))) (now (text .entry))) ⌝ }
+{
+    if s.len() != State::SIZE {
+        return false;
+    }
+    if State::IMAGE < text.len() {
+        return false;
+    }
+    passes::rest(s, text) == text.len()
 }

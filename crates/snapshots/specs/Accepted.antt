@@ -18,7 +18,6 @@ use Rattle.sessions.specs.Machine.{coreRoom, saveRoom, lastNumber}
 use Rattle.model.specs.Block.{held, sound}
 use Rattle.model.specs.Layout.{blockSize, prefixLengthAt}
 use Rattle.restore.specs.Rows.{Row}
-use Rattle.save.specs.Text.{savedText, saves, length-savedText, headText}
 use Rattle.model.specs.Types.{fresh}
 use Rattle.model.specs.Sound.{soundSettings, octetsUpTo}
 use Rattle.steps.specs.Keeps.{fresh-sound}
@@ -31,10 +30,11 @@ use Rattle.wholes.specs.Whole.{heldWhole, laidWith, whole, soundWhole}
 use Rattle.wholes.specs.Laid.{soundPrefixes, sound-both, unsound-core, unsound-index, unsound-prefixes, sound-size, sound-whole, whole-good, whole-held, whole-length}
 use Rattle.wholes.specs.Engine.{blockIn, blankOn}
 use Rattle.index.specs.Renewed.{isIndexed, renewed}
+use Rattle.index.specs.Begun.{blankIn, blank-is}
 use Rattle.prefixes.specs.Sound.{isPrefixed, prefixed-sound}
-use Rattle.snapshots.specs.Saved.{savedOn, savesOn, linesText, length-savedOn, length-lines, lineAt, saved-whole}
+use Rattle.snapshots.specs.Saved.{savedOn, savesOn, saved-whole}
 use Rattle.snapshots.specs.Stored.{storedAllOn}
-use Rattle.snapshots.specs.Filled.{bare, rows-fit, editions-filled, core-placed, renewed-laid}
+use Rattle.snapshots.specs.Filled.{rows-fit, lines-filled, renewed-laid}
 
 not-so : (b : Bool) → (b ≡ true → ⊥) → b ≡ false
 not-so true h = absurd (h refl)
@@ -84,28 +84,6 @@ saves-so s out l h p q =
     let e : (eqb (length s) wholeSize && leb saveRoom (length out)) ≡ true = and-both (eq-eqb (length s) wholeSize l) (le-leb saveRoom (length out) h) in
     (p ∙ sym (pick-true (length (savedOn s)) 0 e), q ∙ put-if-true out 0 (savedOn s) e)
 
-pub saved-most : (s : List ℕ) → Rattle.prefixes.specs.Held.countIn s ≤ mostEditions → length (savedOn s) ≤ saveRoom
-unfolding linesText
-saved-most s h =
-    let a = length-savedOn s in
-    let b = length-savedText (take blockSize s) in
-    let c = length-lines s (Rattle.prefixes.specs.Held.countIn s) in
-    omega arith
-
-pub saved-read : (s : List ℕ) {r : ℕ} {t : List ℕ} → length s ≡ wholeSize → length (savedOn s) ≤ saveRoom
-    → r ≡ pick (savesOn s (length {A = ℕ} (replicate saveRoom 0))) (length (savedOn s)) 0
-    → t ≡ putIf (savesOn s (length {A = ℕ} (replicate saveRoom 0))) (replicate saveRoom 0) 0 (savedOn s)
-    → (r ≤ length t) × (take r t ≡ savedOn s)
-unfolding savesOn putIf
-saved-read s {r} {t} l b p q =
-    let z : length (replicate {A = ℕ} saveRoom 0) ≡ saveRoom = length-replicate {A = ℕ} saveRoom 0 in
-    let e : (eqb (length s) wholeSize && leb saveRoom (length {A = ℕ} (replicate saveRoom 0))) ≡ true =
-    and-both (eq-eqb (length s) wholeSize l) (le-leb saveRoom (length {A = ℕ} (replicate saveRoom 0)) (omega arith)) in
-    let n : r ≡ length (savedOn s) = p ∙ pick-true (length (savedOn s)) 0 e in
-    let u : t ≡ put (replicate saveRoom 0) 0 (savedOn s) = q ∙ sym (put-if-true (replicate saveRoom 0) 0 (savedOn s) e) in
-    let k : length t ≡ saveRoom = ap length u ∙ length-put (replicate saveRoom 0) 0 (savedOn s) (omega arith) ∙ z in
-    (omega arith, ap (λ (j : ℕ). take j t) n ∙ ap (take (length (savedOn s))) u ∙ take-put (replicate saveRoom 0) 0 (savedOn s) (omega arith))
-
 -- which texts are images
 pub image-on : (t : List ℕ) (g : Gateway) → soundGateway g ≡ true → t ≡ imageOn g → (isImageOn t ≡ true) × (heldOn t ≡ g)
 unfolding isImageOn
@@ -150,15 +128,6 @@ module _ (t s : List ℕ) (q : (g : Gateway) → soundGateway g ≡ true → t �
       again : savedOn s ≡ imageOn (heldWhole s)
       again = ap savedOn (sym (whole-held s u)) ∙ saved-whole (heldWhole s) (whole-good s u)
 
-settings : soundSettings 0xFC00 [] ≡ true
-unfolding soundSettings octetsUpTo every
-settings = refl
-
--- the blank state is sound
-pub blank-good : soundGateway blankOn ≡ true
-unfolding blankOn freshOn fresh soundGateway soundEditions soundEdition rising every prefixFor inForce pick sames octetsUpTo lastNumber
-blank-good = and-both (and-both (fresh-sound 0xFC00 [] settings) refl) refl
-
 -- what restore answers and leaves
 unfoldable pub restoresOn : List ℕ → ℕ → Bool
 restoresOn t n = eqb n wholeSize && isImageOn t
@@ -186,23 +155,19 @@ module _ (t s : List ℕ) where
     unfolding blockIn
     restored-in e = (is, w .1 (sym (w .0) ∙ e) ∙ there true (sym (w .0) ∙ e))
 
-    pub restored-blank : {after z : List ℕ} {b : Bool} → r ≡ false → length mid ≡ wholeSize → length z ≡ wholeSize → z ≡ whole blankOn
-        → b ≡ leb (0 + length z) (length mid) → after ≡ putIf b mid 0 z
+    pub restored-blank : {after : List ℕ} → r ≡ false → length mid ≡ wholeSize → after ≡ blankIn mid
         → (r ≡ restoresOn t (length s)) × (after ≡ restoredOn t s)
     unfolding blockIn
-    restored-blank {after} {z} {b} e l n q x y =
-        (is, put-of mid 0 z (length z) (length mid) x (omega arith) y ∙ put-whole mid z (l ∙ sym n) ∙ q ∙ there false (sym (w .0) ∙ e))
+    restored-blank e l q = (is, q ∙ blank-is mid l ∙ there false (sym (w .0) ∙ e))
 
--- the lines of an image in an empty block, then the core, then the index
-pub filled : (t s : List ℕ) {z u v w : List ℕ} {b : Bool} → length s ≡ wholeSize → b ≡ leb (0 + wholeSize) (length s) → z ≡ putIf b s 0 (replicate wholeSize 0)
-    → ((rs : List (List ℕ)) → All Row rs → t ≡ each textOf rs → u ≡ storedAllOn z rs)
-    → ((g : Gateway) → soundGateway g ≡ true → t ≡ imageOn g → u ≡ bare (g .editions) → v ≡ laidWith (replicate indexSize 0) g)
-    → w ≡ renewed v
+-- the lines of an image in an empty block, then the index
+pub filled : (t s : List ℕ) {z u w : List ℕ} {b : Bool} → length s ≡ wholeSize → b ≡ leb (0 + wholeSize) (length s) → z ≡ putIf b s 0 (replicate wholeSize 0)
+    → ((rs : List (List ℕ)) → All Row rs → t ≡ each textOf rs → u ≡ storedAllOn z rs) → w ≡ renewed u
     → (g : Gateway) → soundGateway g ≡ true → t ≡ imageOn g → w ≡ whole g
 unfolding imageOn
-filled t s {z} {u} {v} {w} {b} l p q stores core renew g ok e =
+filled t s {z} {u} {w} {b} l p q stores renew g ok e =
     let lz : length (replicate {A = ℕ} wholeSize 0) ≡ wholeSize = length-replicate {A = ℕ} wholeSize 0 in
     let z1 : z ≡ replicate wholeSize 0 =
     put-of s 0 (replicate wholeSize 0) wholeSize (length s) p (omega arith) q ∙ put-whole s (replicate wholeSize 0) (l ∙ sym lz) in
-    let u1 : u ≡ bare (g .editions) = stores (recordsOn g) (rows-fit g ok) e ∙ ap (λ (x : List ℕ). storedAllOn x (recordsOn g)) z1 ∙ editions-filled g ok in
-    renew ∙ ap renewed (core g ok e u1) ∙ renewed-laid g ok (replicate indexSize 0) (length-replicate {A = ℕ} indexSize 0)
+    let u1 : u ≡ laidWith (replicate indexSize 0) g = stores (recordsOn g) (rows-fit g ok) e ∙ ap (λ (x : List ℕ). storedAllOn x (recordsOn g)) z1 ∙ lines-filled g ok in
+    renew ∙ ap renewed u1 ∙ renewed-laid g ok (replicate indexSize 0) (length-replicate {A = ℕ} indexSize 0)

@@ -1,5 +1,4 @@
--- The A4 lines of a sound state's image stored in an empty block, the core's text taken out of the image, and the index worked out: the
--- state's whole block. Document 01, The image; document 02, T-02, T-12. Assumes nothing.
+-- The lines of a sound state's image stored in an empty block, and the index worked out: the state's whole block. Document 01, The image; document 02, T-02, T-12. Assumes nothing.
 use Prim.Native.Nat.{ℕ, zero, suc, _+_, _-_, _*_, _≤_, _<_}
 use mathlib.Core.Path.{_≡_, refl, sym, ap, _∙_, subst}
 use mathlib.Core.Bool.{Bool, true, false, _&&_}
@@ -11,7 +10,7 @@ use borrow.Author.Tests.{eq-eqb, lt-ltb}
 use lib.Dec.{eqb, ltb, leb}
 use lib.ListN.{length, take, drop, getD, replicate, length-append, length-drop, length-replicate, replicate-append-replicate, length-map}
 use lib.Seq.{drop-at, take-at, getD-at, length-take-le, take-all, drop-drop}
-use Rattle.laws.specs.Tests.{pick, pick-true, and-left, and-right}
+use Rattle.laws.specs.Tests.{pick, pick-true, pick-false, and-left, and-right}
 use Rattle.laws.specs.Put.{put, putIf, put-of, put-left, put-right, put-then, take-put, length-put}
 use Rattle.laws.specs.Loops.{every, each}
 use Rattle.laws.specs.Rows.{flat, put-whole}
@@ -33,10 +32,10 @@ use Rattle.blocks.specs.Rows.{length-padTo, octets-cons}
 use Rattle.steps.specs.Facts.{up-to}
 use Rattle.images.specs.Restores.{held-image, image-is}
 use Rattle.images.specs.Sizes.{image-most}
-use Rattle.restore.specs.Accept.{restored}
+use Rattle.restore.specs.Lines.{stored, storedAll, length-stored}
 use Rattle.restore.specs.Rows.{Row}
 use Rattle.restore.specs.Spread.{behind-name, name-of}
-use Rattle.restore.specs.Fill.{records-rows}
+use Rattle.restore.specs.Fill.{records-rows, records-stored}
 use Rattle.editions.specs.Editions.{Edition, Gateway, soundEdition, soundEditions, soundGateway, editionRow, recordsOn, imageOn, mostEditions}
 use Rattle.editions.specs.Facts.{Kept, kept-of, Parts, parts-of}
 use Rattle.editions.specs.Block.{editionSize, editionCountAt, editionsSize, editionBlock, length-editionBlock}
@@ -48,34 +47,56 @@ use Rattle.wholes.specs.Index.{indexBlock}
 use Rattle.wholes.specs.Whole.{laidWith, whole}
 use Rattle.wholes.specs.Laid.{laid-length, laid-held, state-index}
 use Rattle.index.specs.Renewed.{renewed}
-use Rattle.snapshots.specs.Saved.{linesText, lines-text}
 use Rattle.snapshots.specs.Stored.{storedOn, storedEdition, storedAllOn}
 
--- an empty block with editions alone
-unfoldable pub bare : List Edition → List ℕ
-bare es = replicate editionsAt 0 ++ editionBlock es
+-- a core, an empty index, and editions
+unfoldable pub onto : List ℕ → List Edition → List ℕ
+onto c es = (c ++ replicate indexSize 0) ++ editionBlock es
 
-pub bare-none : replicate wholeSize 0 ≡ bare []
-unfolding bare editionBlock tableOf flat
-bare-none = refl
+pub onto-none : replicate wholeSize 0 ≡ onto (replicate blockSize 0) []
+unfolding onto editionBlock tableOf flat
+onto-none = refl
 
 -- lines of other names
-named-other : (s : List ℕ) (k : ℕ) (r : List ℕ) → eqb k 0xA4 ≡ false → storedOn s (padTo lineRow (k ∷ r)) ≡ s
-unfolding storedOn padTo pick
-named-other s k r e = rw e
-
 Other : List ℕ → Type 0
-Other r = (k : ℕ) × (q : List ℕ) × (r ≡ k ∷ q) × (eqb k 0xA4 ≡ false)
+Other r = (k : ℕ) × (q : List ℕ) × (r ≡ k ∷ q) × (eqb k 0xA4 ≡ false) × (length r ≤ lineRow)
 
-others : (s : List ℕ) (rs : List (List ℕ)) → All Other rs → storedAllOn s rs ≡ s
-unfolding storedAllOn Other
-others s [] a = refl
-others s (r ∷ rs) a =
-    ap (λ (l : List ℕ). storedAllOn (storedOn s (padTo lineRow l)) rs) (a .0 .2)
-    ∙ ap (λ (u : List ℕ). storedAllOn u rs) (named-other s (a .0 .0) (a .0 .1) (a .0 .3)) ∙ others s rs (a .1)
+Named : List ℕ → Type 0
+Named r = (k : ℕ) × (q : List ℕ) × (r ≡ k ∷ q) × (eqb k 0xA4 ≡ false)
 
-monitors-other : (l : List (ℕ × Monitor)) → All Other (map monitorText l)
-unfolding Other monitorText nameOf
+named-other : (c : List ℕ) (es : List Edition) (k : ℕ) (r : List ℕ) → length c ≡ blockSize → eqb k 0xA4 ≡ false
+    → storedOn (onto c es) (padTo lineRow (k ∷ r)) ≡ onto (stored c (padTo lineRow (k ∷ r))) es
+unfolding storedOn onto
+named-other c es k r n e =
+    let l : List ℕ = padTo lineRow (k ∷ r) in
+    let z : List ℕ = replicate indexSize 0 in
+    let b : List ℕ = editionBlock es in
+    let a : (c ++ z) ++ b ≡ c ++ (z ++ b) = append-assoc c z b in
+    pick-false (storedEdition ((c ++ z) ++ b) (take editionSize (drop 1 l))) _ (ap (λ (i : ℕ). eqb i 0xA4) (name-of k r) ∙ e)
+    ∙ ap (λ (x : List ℕ). stored (take blockSize x) l ++ drop blockSize x) a
+    ∙ ap (λ (x : List ℕ). stored x l ++ drop blockSize (c ++ (z ++ b))) (take-at c (z ++ b) blockSize n)
+    ∙ ap (λ (x : List ℕ). stored c l ++ x) (drop-at c (z ++ b) blockSize n)
+    ∙ sym (append-assoc (stored c l) z b)
+
+others : (c : List ℕ) (es : List Edition) (rs : List (List ℕ)) → length c ≡ blockSize → All Other rs
+    → storedAllOn (onto c es) rs ≡ onto (storedAll c rs) es
+unfolding storedAllOn storedAll Other
+others c es [] n a = refl
+others c es (r ∷ rs) n a =
+    let l : List ℕ = padTo lineRow r in
+    let m : length l ≡ lineRow = length-padTo lineRow r (a .0 .4) in
+    ap (λ (u : List ℕ). storedAllOn u rs)
+    (ap (λ (x : List ℕ). storedOn (onto c es) (padTo lineRow x)) (a .0 .2) ∙ named-other c es (a .0 .0) (a .0 .1) n (a .0 .3)
+    ∙ ap (λ (x : List ℕ). onto (stored c (padTo lineRow x)) es) (sym (a .0 .2)))
+    ∙ others (stored c l) es rs (length-stored c n l m) (a .1)
+
+others-of : (rs : List (List ℕ)) → All Row rs → All Named rs → All Other rs
+unfolding Other Named
+others-of [] a b = tt
+others-of (r ∷ rs) a b = ((b .0 .0, b .0 .1, b .0 .2, b .0 .3, a .0 .most), others-of rs (a .1) (b .1))
+
+monitors-other : (l : List (ℕ × Monitor)) → All Named (map monitorText l)
+unfolding Named monitorText nameOf
 monitors-other [] = tt
 monitors-other (x ∷ l) = ((nameOf (x .1 .extra), monitorRow x ++ extraText (x .1 .extra), refl, name (x .1 .extra)), monitors-other l)
   where
@@ -83,16 +104,16 @@ monitors-other (x ∷ l) = ((nameOf (x .1 .extra), monitorRow x ++ extraText (x 
     name none = refl
     name (some a) = refl
 
-pairs-other : (l : List Pair) → All Other (map (λ (q : Pair). 0xA3 ∷ pairRow q) l)
-unfolding Other
+pairs-other : (l : List Pair) → All Named (map (λ (q : Pair). 0xA3 ∷ pairRow q) l)
+unfolding Named
 pairs-other [] = tt
 pairs-other (q ∷ l) = ((0xA3, pairRow q, refl, refl), pairs-other l)
 
-rest-other : (m : Model) → All Other (drop 1 (records m))
-unfolding records Other
+rest-other : (m : Model) → All Named (drop 1 (records m))
+unfolding records Named
 rest-other m =
-    all-append Other (map monitorText (m .mons)) _ (monitors-other (m .mons))
-    (all-append Other (map (λ (q : Pair). 0xA3 ∷ pairRow q) (m .pairs)) ((0xAF ∷ endRow m) ∷ []) (pairs-other (m .pairs)) ((0xAF, endRow m, refl, refl), tt))
+    all-append Named (map monitorText (m .mons)) _ (monitors-other (m .mons))
+    (all-append Named (map (λ (q : Pair). 0xA3 ∷ pairRow q) (m .pairs)) ((0xAF ∷ endRow m) ∷ []) (pairs-other (m .pairs)) ((0xAF, endRow m, refl, refl), tt))
 
 -- one edition's line more
 short-of : (e : Edition) → soundEdition e ≡ true → length (e .prefix) ≤ mostPrefix
@@ -138,52 +159,49 @@ more-placed es e f h k =
     ∙ ap (λ (t : List ℕ). (t ++ replicate r 0) ++ ((c + 1) ∷ [])) (sym (rows-more es e))
     ∙ ap (λ (t : ℕ). (flat (map placed (es ++ (e ∷ []))) ++ replicate (editionSize * (mostEditions - t)) 0) ++ (t ∷ [])) (sym n)
 
-block-count : (es : List Edition) → every soundEdition es ≡ true → length es ≤ mostEditions → getD (bare es) editionsCountAt 0 ≡ length es
-unfolding bare editionBlock tableOf
-block-count es f h =
-    let z : List ℕ = replicate editionsAt 0 in
+block-count : (x : List ℕ) (es : List Edition) → length x ≡ editionsAt → every soundEdition es ≡ true → length es ≤ mostEditions
+    → getD (x ++ editionBlock es) editionsCountAt 0 ≡ length es
+unfolding editionBlock tableOf
+block-count z es a f h =
     let x : List ℕ = flat (map placed es) ++ replicate (editionSize * (mostEditions - length es)) 0 in
-    let a : length z ≡ editionsAt = length-replicate {A = ℕ} editionsAt 0 in
     let b : length (flat (map placed es)) ≡ editionSize * length es = rows-long es f in
     let c : length (replicate {A = ℕ} (editionSize * (mostEditions - length es)) 0) ≡ editionSize * (mostEditions - length es) = length-replicate {A = ℕ} (editionSize * (mostEditions - length es)) 0 in
     let d : length (z ++ x) ≡ editionsCountAt =
     let i = length-append z x in let j = length-append (flat (map placed es)) (replicate {A = ℕ} (editionSize * (mostEditions - length es)) 0) in omega arith in
     ap (λ (l : List ℕ). getD l editionsCountAt 0) (sym (append-assoc z x (length es ∷ []))) ∙ getD-at (z ++ x) (length es) [] 0 editionsCountAt d
 
-one-more : (es : List Edition) (e : Edition) → every soundEdition es ≡ true → length es < mostEditions → soundEdition e ≡ true
-    → storedOn (bare es) (padTo lineRow (0xA4 ∷ editionRow e)) ≡ bare (es ++ (e ∷ []))
-unfolding storedOn storedEdition bare
-one-more es e f h k =
+one-more : (c : List ℕ) (es : List Edition) (e : Edition) → length c ≡ blockSize → every soundEdition es ≡ true → length es < mostEditions → soundEdition e ≡ true
+    → storedOn (onto c es) (padTo lineRow (0xA4 ∷ editionRow e)) ≡ onto c (es ++ (e ∷ []))
+unfolding storedOn storedEdition onto
+one-more c es e n f h k =
     let l : List ℕ = padTo lineRow (0xA4 ∷ editionRow e) in
+    let x : List ℕ = c ++ replicate indexSize 0 in
     let b = row-fits e (short-of e k) in
     let r : take editionSize (drop 1 l) ≡ placed e = behind-name 0xA4 editionSize (editionRow e) b (omega arith) in
-    let c : getD (replicate editionsAt 0 ++ editionBlock es) editionsCountAt 0 ≡ length es = block-count es f (omega arith) in
-    let z : length (replicate {A = ℕ} editionsAt 0) ≡ editionsAt = length-replicate {A = ℕ} editionsAt 0 in
-    let inside : (u ys : List ℕ) (j : ℕ) → put (replicate editionsAt 0 ++ u) (editionsAt + j) ys ≡ replicate editionsAt 0 ++ put u j ys =
-    λ u ys j. ap (λ (i : ℕ). put (replicate editionsAt 0 ++ u) (i + j) ys) (sym z) ∙ put-right (replicate editionsAt 0) u j ys in
-    pick-true (storedEdition (bare es) (take editionSize (drop 1 l))) (bare es) (ap (λ (i : ℕ). eqb i 0xA4) (name-of 0xA4 (editionRow e)))
-    ∙ pick-true _ _ (ap (λ (i : ℕ). ltb i mostEditions) c ∙ lt-ltb (length es) mostEditions h)
-    ∙ ap (λ (i : ℕ). put (put (replicate editionsAt 0 ++ editionBlock es) (editionsAt + editionSize * i) (take editionSize (drop 1 l))) editionsCountAt ((i + 1) ∷ [])) c
-    ∙ ap (λ (u : List ℕ). put (put (replicate editionsAt 0 ++ editionBlock es) (editionsAt + editionSize * length es) u) editionsCountAt ((length es + 1) ∷ [])) r
+    let z : length x ≡ editionsAt = length-append c (replicate indexSize 0) ∙ (let i = length-replicate {A = ℕ} indexSize 0 in omega arith) in
+    let c1 : getD (x ++ editionBlock es) editionsCountAt 0 ≡ length es = block-count x es z f (omega arith) in
+    let inside : (u ys : List ℕ) (j : ℕ) → put (x ++ u) (editionsAt + j) ys ≡ x ++ put u j ys =
+    λ u ys j. ap (λ (i : ℕ). put (x ++ u) (i + j) ys) (sym z) ∙ put-right x u j ys in
+    pick-true (storedEdition (onto c es) (take editionSize (drop 1 l))) _ (ap (λ (i : ℕ). eqb i 0xA4) (name-of 0xA4 (editionRow e)))
+    ∙ pick-true _ _ (ap (λ (i : ℕ). ltb i mostEditions) c1 ∙ lt-ltb (length es) mostEditions h)
+    ∙ ap (λ (i : ℕ). put (put (x ++ editionBlock es) (editionsAt + editionSize * i) (take editionSize (drop 1 l))) editionsCountAt ((i + 1) ∷ [])) c1
+    ∙ ap (λ (u : List ℕ). put (put (x ++ editionBlock es) (editionsAt + editionSize * length es) u) editionsCountAt ((length es + 1) ∷ [])) r
     ∙ ap (λ (u : List ℕ). put u editionsCountAt ((length es + 1) ∷ [])) (inside (editionBlock es) (placed e) (editionSize * length es))
     ∙ inside (put (editionBlock es) (editionSize * length es) (placed e)) ((length es + 1) ∷ []) editionCountAt
-    ∙ ap (λ (u : List ℕ). replicate editionsAt 0 ++ u) (more-placed es e f h k)
+    ∙ ap (λ (u : List ℕ). x ++ u) (more-placed es e f h k)
 
-many-more : (ds es : List Edition) (rs : List (List ℕ)) → every soundEdition ds ≡ true → every soundEdition es ≡ true → length ds + length es ≤ mostEditions
-    → storedAllOn (bare ds) (map (λ (e : Edition). 0xA4 ∷ editionRow e) es ++ rs) ≡ storedAllOn (bare (ds ++ es)) rs
+many-more : (c : List ℕ) (ds es : List Edition) (rs : List (List ℕ)) → length c ≡ blockSize → every soundEdition ds ≡ true → every soundEdition es ≡ true
+    → length ds + length es ≤ mostEditions
+    → storedAllOn (onto c ds) (map (λ (e : Edition). 0xA4 ∷ editionRow e) es ++ rs) ≡ storedAllOn (onto c (ds ++ es)) rs
 unfolding storedAllOn every
-many-more ds [] rs f g h = ap (λ (l : List Edition). storedAllOn (bare l) rs) (sym (append-nil ds))
-many-more ds (e ∷ es) rs f g h =
+many-more c ds [] rs n f g h = ap (λ (l : List Edition). storedAllOn (onto c l) rs) (sym (append-nil ds))
+many-more c ds (e ∷ es) rs n f g h =
     let k : soundEdition e ≡ true = and-left (soundEdition e) (every soundEdition es) g in
-    let n : length (ds ++ (e ∷ [])) ≡ length ds + 1 = length-append ds (e ∷ []) in
-    ap (λ (u : List ℕ). storedAllOn u (map (λ (d : Edition). 0xA4 ∷ editionRow d) es ++ rs)) (one-more ds e f (omega arith) k)
-    ∙ many-more (ds ++ (e ∷ [])) es rs (Rattle.laws.specs.Loops.every-append soundEdition ds (e ∷ []) ∙ Rattle.laws.specs.Tests.and-both f (Rattle.laws.specs.Tests.and-both k refl))
+    let m : length (ds ++ (e ∷ [])) ≡ length ds + 1 = length-append ds (e ∷ []) in
+    ap (λ (u : List ℕ). storedAllOn u (map (λ (d : Edition). 0xA4 ∷ editionRow d) es ++ rs)) (one-more c ds e n f (omega arith) k)
+    ∙ many-more c (ds ++ (e ∷ [])) es rs n (Rattle.laws.specs.Loops.every-append soundEdition ds (e ∷ []) ∙ Rattle.laws.specs.Tests.and-both f (Rattle.laws.specs.Tests.and-both k refl))
     (and-right (soundEdition e) (every soundEdition es) g) (omega arith)
-    ∙ ap (λ (l : List Edition). storedAllOn (bare l) rs) (append-assoc ds (e ∷ []) es)
-
-first-row : (m : Model) → All Row (records m) → Row (0xA0 ∷ headRow m)
-unfolding records
-first-row m r = r .0
+    ∙ ap (λ (l : List Edition). storedAllOn (onto c l) rs) (append-assoc ds (e ∷ []) es)
 
 module _ (g : Gateway) (good : soundGateway g ≡ true) where
   p : Parts g
@@ -222,123 +240,23 @@ module _ (g : Gateway) (good : soundGateway g ≡ true) where
       let r : All Row (records m) = records-rows m (p .core) in
       (r .0, all-append Row (map (λ (e : Edition). 0xA4 ∷ editionRow e) es) (drop 1 (records m)) (edition-rows es (k .fit)) (r .1))
 
-  -- the A4 lines of its image, stored in an empty block
-  pub editions-filled : storedAllOn (replicate wholeSize 0) (recordsOn g) ≡ bare es
-  unfolding recordsOn storedAllOn every
-  editions-filled =
-      ap (λ (u : List ℕ). storedAllOn u (map (λ (e : Edition). 0xA4 ∷ editionRow e) es ++ drop 1 (records m))) (named-other (replicate wholeSize 0) 0xA0 (headRow m) refl)
-      ∙ ap (λ (u : List ℕ). storedAllOn u (map (λ (e : Edition). 0xA4 ∷ editionRow e) es ++ drop 1 (records m))) bare-none
-      ∙ many-more [] es (drop 1 (records m)) refl (k .fit) (let h = k .room in omega arith)
-      ∙ others (bare es) (drop 1 (records m)) (rest-other m)
-
-  pub bare-long : length (bare es) ≡ wholeSize
-  unfolding bare
-  bare-long =
-      let a : length (replicate {A = ℕ} editionsAt 0) ≡ editionsAt = length-replicate {A = ℕ} editionsAt 0 in
-      let b = length-editionBlock es (p .editions) in
-      length-append (replicate editionsAt 0) (editionBlock es) ∙ omega arith
-
-  bare-editions : drop editionsAt (bare es) ≡ editionBlock es
-  unfolding bare
-  bare-editions = drop-at (replicate editionsAt 0) (editionBlock es) editionsAt (length-replicate {A = ℕ} editionsAt 0)
-
-  -- the text: the first line, the editions' lines, the rest
-  abbrev head : List ℕ
-  head = textOf (0xA0 ∷ headRow m)
-
-  abbrev lines : List ℕ
-  lines = linesText (bare es)
-
-  abbrev rest : List ℕ
-  rest = each textOf (drop 1 (records m))
-
-  pub text-parts : imageOn g ≡ head ++ (lines ++ rest)
-  unfolding imageOn recordsOn each
-  text-parts =
-      ap (λ (l : List ℕ). head ++ l) (join (map (λ (e : Edition). 0xA4 ∷ editionRow e) es) (drop 1 (records m))
-      ∙ ap (λ (l : List ℕ). l ++ rest) (sym (lines-text (bare es) es (p .editions) bare-editions bare-long)))
-    where
-      join : (xs ys : List (List ℕ)) → each textOf (xs ++ ys) ≡ each textOf xs ++ each textOf ys
-      join [] ys = refl
-      join (x ∷ xs) ys = ap (λ (l : List ℕ). textOf x ++ l) (join xs ys) ∙ sym (append-assoc (textOf x) (each textOf xs) (each textOf ys))
-
-  pub core-text : imageText m ≡ head ++ rest
-  unfolding imageText records each
-  core-text = refl
-
-  -- the first line, read
-  pub head-read : (t : List ℕ) → t ≡ imageOn g → (j : ℕ) → j ≡ length (leading t 0 lineRow) → 2 * j + 1 ≡ length head
-  head-read t e j q =
+  -- the lines of its image, stored in an empty block
+  pub lines-filled : storedAllOn (replicate wholeSize 0) (recordsOn g) ≡ laidWith (replicate indexSize 0) g
+  unfolding recordsOn storedAllOn storedAll every records laidWith onto
+  lines-filled =
+      let z : List ℕ = replicate blockSize 0 in
+      let hd : List ℕ = 0xA0 ∷ headRow m in
+      let lines : List (List ℕ) = map (λ (e : Edition). 0xA4 ∷ editionRow e) es in
+      let rest : List (List ℕ) = drop 1 (records m) in
       let r : All Row (records m) = records-rows m (p .core) in
-      let row : Row (0xA0 ∷ headRow m) = first-row m r in
-      let d : drop 0 t ≡ head ++ (lines ++ rest) = e ∙ text-parts in
-      let w = line-there t 0 lineRow (0xA0 ∷ headRow m) (lines ++ rest) (row .octets) (row .most) d in
-      let n : length (leading t 0 lineRow) ≡ length (0xA0 ∷ headRow m) = ap length (w .0) in
-      let o : length head ≡ 2 * length (0xA0 ∷ headRow m) + 1 = length-text (0xA0 ∷ headRow m) in
-      omega arith
-
-  -- the core's text, put together in a buffer
-  module _ (t : List ℕ) (e : t ≡ imageOn g) (h n : ℕ) (hh : h ≡ length head) (nn : n ≡ length lines) where
-    long-text : length t ≡ length head + (length lines + length rest)
-    long-text = ap length (e ∙ text-parts) ∙ length-append head (lines ++ rest) ∙ ap (λ (j : ℕ). length head + j) (length-append lines rest)
-
-    pub parts-fit : h + n ≤ length t
-    parts-fit = let l = long-text in omega arith
-
-    pub core-fits : length t - n ≤ coreRoom
-    core-fits =
-        let l = long-text in
-        let b : length (imageText m) ≤ coreRoom = image-most m (p .core) in
-        let c : length (imageText m) ≡ length head + length rest = ap length core-text ∙ length-append head rest in
-        omega arith
-
-    front : take h t ≡ head
-    front = ap (take h) (e ∙ text-parts) ∙ take-at head (lines ++ rest) h (sym hh)
-
-    back : drop (h + n) t ≡ rest
-    back =
-        let i : h + n ≡ length (head ++ lines) = let l = length-append head lines in omega arith in
-        ap (λ (j : ℕ). drop j t) i ∙ ap (drop (length (head ++ lines))) (e ∙ text-parts ∙ sym (append-assoc head lines rest))
-        ∙ drop-at (head ++ lines) rest (length (head ++ lines)) refl
-
-    -- two copies into zeros
-    pub core-joined : (z : List ℕ) (i j : ℕ) {a b : Bool} {x y : List ℕ} → z ≡ replicate coreRoom 0 → i ≡ h → j ≡ length t - (h + n)
-        → a ≡ leb (0 + length (take i t)) (length z) → x ≡ putIf a z 0 (take i t)
-        → b ≡ leb (h + length (take j (drop (h + n) t))) (length x) → y ≡ putIf b x h (take j (drop (h + n) t))
-        → (take (length t - n) y ≡ imageText m) × (length y ≡ coreRoom)
-    core-joined z i j {a} {b} {x} {y} q u v r s w o =
-        let l = long-text in
-        let f : take i t ≡ head = ap (λ (d : ℕ). take d t) u ∙ front in
-        let lr : length (drop (h + n) t) ≡ length t - (h + n) = length-drop (h + n) t in
-        let k : take j (drop (h + n) t) ≡ rest = take-all j (drop (h + n) t) (omega arith) ∙ back in
-        let lz : length z ≡ coreRoom = ap length q ∙ length-replicate {A = ℕ} coreRoom 0 in
-        let c = core-fits in
-        let x1 : x ≡ put z 0 head = put-of z 0 head (length head) (length z) (r ∙ ap (λ (d : List ℕ). leb (0 + length d) (length z)) f) (omega arith) (s ∙ ap (putIf a z 0) f) in
-        let lx : length x ≡ coreRoom = ap length x1 ∙ length-put z 0 head (omega arith) ∙ lz in
-        let y1 : y ≡ put x h rest =
-        put-of x h rest (length rest) (length x) (w ∙ ap (λ (d : List ℕ). leb (h + length d) (length x)) k) (omega arith) (o ∙ ap (putIf b x h) k) in
-        let y2 : y ≡ put z 0 (head ++ rest) = put-then z 0 head h rest (omega arith) x1 (hh ∙ sym (zero-add (length head))) y1 refl in
-        let d : length t - n ≡ length (head ++ rest) = let g = length-append head rest in omega arith in (
-          ap (λ (c : ℕ). take c y) d ∙ ap (take (length (head ++ rest))) y2 ∙ take-put z 0 (head ++ rest) (omega arith) ∙ sym core-text,
-          ap length y1 ∙ length-put x h rest (omega arith) ∙ lx,
-        )
-
-  -- .. and read into the core
-  pub core-read : (c u : List ℕ) → c ≡ imageText m → length u ≡ blockSize → restored c u ≡ padded m
-  unfolding restored coreIn
-  core-read c u e l =
-      pick-true (coreIn (isImage c) c) u (eq-eqb (length u) blockSize l)
-      ∙ ap (λ (x : List ℕ). coreIn (isImage x) x) e ∙ ap (λ (b : Bool). coreIn b (imageText m)) (image-is m (p .core))
-      ∙ ap padded (held-image m (p .core))
-
-  pub core-placed : (c : List ℕ) → c ≡ padded m → c ++ drop blockSize (bare es) ≡ laidWith (replicate indexSize 0) g
-  unfolding bare laidWith
-  core-placed c e =
-      let z : replicate {A = ℕ} editionsAt 0 ≡ replicate blockSize 0 ++ replicate indexSize 0 = sym (replicate-append-replicate blockSize indexSize 0) in
-      ap (λ (x : List ℕ). c ++ drop blockSize (x ++ editionBlock es)) z
-      ∙ ap (λ (x : List ℕ). c ++ drop blockSize x) (append-assoc (replicate blockSize 0) (replicate indexSize 0) (editionBlock es))
-      ∙ ap (λ (x : List ℕ). c ++ x) (drop-at (replicate blockSize 0) (replicate indexSize 0 ++ editionBlock es) blockSize (length-replicate {A = ℕ} blockSize 0))
-      ∙ sym (append-assoc c (replicate indexSize 0) (editionBlock es)) ∙ ap (λ (x : List ℕ). (x ++ replicate indexSize 0) ++ editionBlock es) e
+      let n : length z ≡ blockSize = length-replicate {A = ℕ} blockSize 0 in
+      let c : List ℕ = stored z (padTo lineRow hd) in
+      let lc : length c ≡ blockSize = length-stored z n (padTo lineRow hd) (length-padTo lineRow hd (r .0 .most)) in
+      ap (λ (u : List ℕ). storedAllOn (storedOn u (padTo lineRow hd)) (lines ++ rest)) onto-none
+      ∙ ap (λ (u : List ℕ). storedAllOn u (lines ++ rest)) (named-other z [] 0xA0 (headRow m) n refl)
+      ∙ many-more c [] es rest lc refl (k .fit) (let h = k .room in omega arith)
+      ∙ others c es rest lc (others-of rest (r .1) (rest-other m))
+      ∙ ap (λ (u : List ℕ). onto u es) (records-stored m (p .core))
 
   -- an index worked out over any other
   pub renewed-laid : (x : List ℕ) → length x ≡ indexSize → renewed (laidWith x g) ≡ whole g

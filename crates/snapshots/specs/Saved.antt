@@ -12,7 +12,7 @@ use lib.Dec.{leb, eqb}
 use lib.ListN.{length, take, drop, getD, replicate, length-append, length-drop, length-replicate, length-map, length-take, drop-of-length-le, take-append-drop}
 use lib.Seq.{drop-at, take-at, drop-drop, length-take-le, take-all, take-append-le, drop-append-le}
 use Rattle.laws.specs.Put.{put, putIf, put-of, put-put, put-then, length-put, take-put, put-push, put-left}
-use Rattle.laws.specs.Tests.{pick, pick-true, pick-false, and-left, and-right, and-both, and-not-left, and-not-right}
+use Rattle.laws.specs.Tests.{pick, pick-true, and-left, and-right, and-both, sames}
 use Rattle.laws.specs.Loops.{each, every, every-at, upTo, upTo-more, length-upTo}
 use Rattle.rule.specs.Base.{All}
 use Rattle.laws.specs.Rows.{rows, row, row-at}
@@ -25,14 +25,14 @@ use Rattle.model.specs.Types.{Model}
 use Rattle.model.specs.Image.{headRow, records, imageText}
 use Rattle.model.specs.Sound.{soundModel, octetsUpTo}
 use Rattle.model.specs.Block.{padTo, padded}
-use Rattle.model.specs.Layout.{blockSize, mostPrefix, prefixAt, prefixLengthAt}
+use Rattle.model.specs.Layout.{blockSize, headLine, mostPrefix}
 use Rattle.blocks.specs.Facts.{sound-facts}
 use Rattle.blocks.specs.Block.{padded-length}
 use Rattle.blocks.specs.Rows.{length-padTo}
 use Rattle.steps.specs.Facts.{up-to}
-use Rattle.save.specs.Text.{headText, savedText, saves, length-line, length-savedText}
-use Rattle.save.specs.Steps.{saves-done}
-use Rattle.save.specs.Image.{head-image, saved-image}
+use Rattle.save.specs.Text.{headText, restText, savedText, restRoom, savesIn, length-line, length-headText, length-restText, length-savedText}
+use Rattle.save.specs.Passed.{lost, passed, none-passed, passed-more, passed-rest, passed-lost}
+use Rattle.save.specs.Image.{head-image, rest-image}
 use Rattle.editions.specs.Editions.{Edition, Gateway, soundEdition, soundEditions, soundGateway, editionRow, editionIn, recordsOn, imageOn, mostEditions}
 use Rattle.editions.specs.Facts.{Kept, kept-of, Parts, parts-of}
 use Rattle.editions.specs.Block.{editionSize, editionLine, editionBlock, editionsOf, editions-in}
@@ -71,38 +71,17 @@ abbrev pub coreOf : List ℕ → List ℕ
 coreOf s = take blockSize s
 
 unfoldable pub savedOn : List ℕ → List ℕ
-savedOn s =
-    take (length (headText (coreOf s))) (savedText (coreOf s)) ++ (linesText s ++ drop (length (headText (coreOf s))) (savedText (coreOf s)))
+savedOn s = headText (coreOf s) ++ (linesText s ++ restText (coreOf s))
 
 unfoldable pub savesOn : List ℕ → ℕ → Bool
 savesOn s room = eqb (length s) wholeSize && leb saveRoom room
 
-pub head-long : (s : List ℕ) (k : ℕ) → length s ≡ wholeSize → k ≡ atMost (getD s prefixLengthAt 0) mostPrefix → 2 * (prefixAt + k) + 3 ≡ length (headText (coreOf s))
-unfolding headText
-head-long s k l e =
-    let m = at-most (getD s prefixLengthAt 0) mostPrefix in
-    let c : List ℕ = take blockSize s in
-    let g : getD c prefixLengthAt 0 ≡ getD s prefixLengthAt 0 = lib.Seq.getD-take blockSize s prefixLengthAt 0 (omega arith) in
-    let q : k ≡ atMost (getD c prefixLengthAt 0) mostPrefix = e ∙ ap (λ (j : ℕ). atMost j mostPrefix) (sym g) in
-    let n : length c ≡ blockSize = length-take-le blockSize s (omega arith) in
-    let h : length (take (prefixAt + atMost (getD c prefixLengthAt 0) mostPrefix) c) ≡ prefixAt + atMost (getD c prefixLengthAt 0) mostPrefix =
-    length-take-le (prefixAt + atMost (getD c prefixLengthAt 0) mostPrefix) c (omega arith) in
-    let t = length-text (0xA0 ∷ take (prefixAt + atMost (getD c prefixLengthAt 0) mostPrefix) c) in
-    omega arith
-
-pub head-within : (c : List ℕ) → length (headText c) ≤ length (savedText c)
-unfolding savedText
-head-within c = simp length-append (omega arith)
-
 pub length-savedOn : (s : List ℕ) → length (savedOn s) ≡ length (linesText s) + length (savedText (coreOf s))
-unfolding savedOn
+unfolding savedOn savedText
 length-savedOn s =
-    let h : ℕ = length (headText (coreOf s)) in
-    let t : List ℕ = savedText (coreOf s) in
-    let a = length-append (take h t) (linesText s ++ drop h t) in
-    let b = length-append (linesText s) (drop h t) in
-    let c = length-append (take h t) (drop h t) in
-    let d : length (take h t ++ drop h t) ≡ length t = ap length (take-append-drop h t) in
+    let a = length-append (headText (coreOf s)) (linesText s ++ restText (coreOf s)) in
+    let b = length-append (linesText s) (restText (coreOf s)) in
+    let c = length-append (headText (coreOf s)) (restText (coreOf s)) in
     omega arith
 
 -- a line's octets, copied behind its name
@@ -141,39 +120,15 @@ line-put s out i at k line {r} {l} e q n h p u =
       put-of out at (textOf line) (2 * length line + 1) (length out) (p ∙ ap (λ (j : ℕ). leb j (length out)) y) (omega arith) u ∙ ap (put out at) t,
     )
 
--- the loop: the first i lines stand at the start
-pub lines-more : (s z : List ℕ) (i : ℕ) {at : ℕ} {out l : List ℕ} → length z ≡ editionLine * mostEditions → i < mostEditions → at ≡ length (upTo (lineAt s) i) → out ≡ put z 0 (upTo (lineAt s) i)
-    → l ≡ put out at (lineAt s i) → (at + length (lineAt s i) ≡ length (upTo (lineAt s) (i + 1))) × (l ≡ put z 0 (upTo (lineAt s) (i + 1)))
-lines-more s z i {at} {out} {l} n h e q w =
+-- the loop: the first i lines stand at an index
+pub lines-more : (s z : List ℕ) (from i : ℕ) {at : ℕ} {out l : List ℕ} → from + editionLine * mostEditions ≤ length z → i < mostEditions
+    → at ≡ from + length (upTo (lineAt s) i) → out ≡ put z from (upTo (lineAt s) i) → l ≡ put out at (lineAt s i)
+    → (at + length (lineAt s i) ≡ from + length (upTo (lineAt s) (i + 1))) × (l ≡ put z from (upTo (lineAt s) (i + 1)))
+lines-more s z from i {at} {out} {l} n h e q w =
     let m = upTo-more (lineAt s) i in
     let k : length (upTo (lineAt s) (i + 1)) ≡ length (upTo (lineAt s) i) + length (lineAt s i) = ap length m ∙ length-append (upTo (lineAt s) i) (lineAt s i) in
-    (omega arith, put-then z 0 (upTo (lineAt s) i) at (lineAt s i) (omega arith) q (e ∙ sym (zero-add (length (upTo (lineAt s) i)))) w (sym m))
-
--- the core's text behind the room for the lines, its head moved to the start, the lines behind the head
-pub saved-put : (o t a : List ℕ) (h : ℕ) {x y z : List ℕ} → h ≤ length t → length a + length t ≤ length o
-    → x ≡ put o (length a) t → y ≡ put x 0 (take h (drop (length a) x)) → z ≡ put y h a
-    → z ≡ put o 0 (take h t ++ (a ++ drop h t))
-unfolding put
-saved-put o t a h {x} {y} {z} b r p q w =
-    let e : ℕ = length a in
-    let front : List ℕ = take h t in
-    let lf : length front ≡ h = length-take-le h t b in
-    let lo : length (take e o) ≡ e = length-take-le e o (omega arith) in
-    let behind : List ℕ = drop (e + length t) o in
-    let x1 : x ≡ take e o ++ (t ++ behind) = p ∙ append-assoc (take e o) t behind in
-    let dx : drop e x ≡ t ++ behind = ap (drop e) x1 ∙ drop-at (take e o) (t ++ behind) e lo in
-    let tx : take h (drop e x) ≡ front = ap (take h) dx ∙ take-append-le h t behind b in
-    let lx : length x ≡ length o = ap length p ∙ length-put o e t r in
-    let y1 : y ≡ put x 0 front = q ∙ ap (put x 0) tx in
-    let z1 : z ≡ put x 0 (front ++ a) = put-then x 0 front h a (omega arith) y1 (sym lf ∙ sym (zero-add (length front))) w refl in
-    let la : length (front ++ a) ≡ e + h = length-append front a ∙ omega arith in
-    let d : drop (0 + length (front ++ a)) x ≡ drop h t ++ behind =
-    ap (λ (j : ℕ). drop j x) (zero-add (length (front ++ a)) ∙ la) ∙ sym (drop-drop h e x) ∙ ap (drop h) dx ∙ drop-append-le h t behind b in
-    let total : 0 + length (front ++ (a ++ drop h t)) ≡ e + length t =
-    let i = length-append front (a ++ drop h t) in let j = length-append a (drop h t) in let k = length-drop h t in omega arith in
-    z1 ∙ ap (λ (u : List ℕ). (front ++ a) ++ u) d ∙ sym (append-assoc (front ++ a) (drop h t) behind)
-    ∙ ap (λ (u : List ℕ). u ++ behind) (append-assoc front a (drop h t))
-    ∙ ap (λ (j : ℕ). (front ++ (a ++ drop h t)) ++ drop j o) (sym total)
+    let b = length-lines s i in
+    (omega arith, put-then z from (upTo (lineAt s) i) at (lineAt s i) (omega arith) q e w (sym m))
 
 -- rows of editions
 abbrev Fits : Edition → Type 0
@@ -319,17 +274,14 @@ module _ (g : Gateway) (good : soundGateway g ≡ true) where
   saved-whole =
       let c : coreOf s ≡ padded (g .core) = whole-core g good in
       let f = sound-facts (g .core) (p .core) in
-      let t : savedText (coreOf s) ≡ imageText (g .core) = ap savedText c ∙ saved-image (g .core) (p .core) in
       let h : headText (coreOf s) ≡ textOf (0xA0 ∷ headRow (g .core)) = ap headText c ∙ head-image (g .core) (f .prefix-most) in
       let hl : List ℕ = textOf (0xA0 ∷ headRow (g .core)) in
       let r : List (List ℕ) = drop 1 (records (g .core)) in
-      let u : savedText (coreOf s) ≡ hl ++ each textOf r = t in
+      let t : restText (coreOf s) ≡ each textOf r = ap restText c ∙ rest-image (g .core) (p .core) in
       let ls : linesText s ≡ each textOf (map (λ (e : Edition). 0xA4 ∷ editionRow e) (g .editions)) =
       lines-text s (g .editions) (p .editions) (laid-editions g (indexBlock (g .core .pairs)) (p .core) (p .editions) (state-index g good)) (whole-length g good) in
-      ap (λ (x : List ℕ). take (length (headText (coreOf s))) x ++ (linesText s ++ drop (length (headText (coreOf s))) x)) u
-      ∙ ap (λ (n : ℕ). take n (hl ++ each textOf r) ++ (linesText s ++ drop n (hl ++ each textOf r))) (ap length h)
-      ∙ ap (λ (x : List ℕ). x ++ (linesText s ++ drop (length hl) (hl ++ each textOf r))) (take-at hl (each textOf r) (length hl) refl)
-      ∙ ap (λ (x : List ℕ). hl ++ (linesText s ++ x)) (drop-at hl (each textOf r) (length hl) refl)
+      ap (λ (x : List ℕ). x ++ (linesText s ++ restText (coreOf s))) h
+      ∙ ap (λ (x : List ℕ). hl ++ (linesText s ++ x)) t
       ∙ ap (λ (x : List ℕ). hl ++ (x ++ each textOf r)) ls
       ∙ ap (λ (x : List ℕ). hl ++ x) (sym (join (map (λ (e : Edition). 0xA4 ∷ editionRow e) (g .editions)) r))
     where
@@ -342,11 +294,16 @@ pub lines-short : (s : List ℕ) → length (linesText s) ≤ editionLine * most
 unfolding linesText
 lines-short s = let a = length-lines s (countIn s) in let b = count-most s in omega arith
 
-core-saved : (c o : List ℕ) {r : ℕ} {x : List ℕ} → length c ≡ blockSize → coreRoom ≤ length o → r ≡ pick (saves c (length o)) (length (savedText c)) 0
-    → x ≡ putIf (saves c (length o)) o 0 (savedText c) → (r ≡ length (savedText c)) × (x ≡ put o 0 (savedText c))
-core-saved c o l h p q =
-    let e : saves c (length o) ≡ true = saves-done c (length o) l h in
-    (p ∙ pick-true (length (savedText c)) 0 e, q ∙ sym (Rattle.laws.specs.Put.put-if-true o 0 (savedText c) e))
+pub saved-most : (s : List ℕ) → length (savedOn s) ≤ saveRoom
+saved-most s = let a = length-savedOn s in let b = length-savedText (coreOf s) in let c = lines-short s in omega arith
+
+-- a part that save wrote into enough room
+part-saved : (need : ℕ) (c o x : List ℕ) {r : ℕ} {y : List ℕ} → length c ≡ blockSize → need ≤ length o → r ≡ pick (savesIn need c (length o)) (length x) 0
+    → y ≡ putIf (savesIn need c (length o)) o 0 x → (r ≡ length x) × (y ≡ put o 0 x)
+unfolding savesIn
+part-saved need c o x l h p q =
+    let e : (eqb (length c) blockSize && leb need (length o)) ≡ true = and-both (eq-eqb (length c) blockSize l) (le-leb need (length o) h) in
+    (p ∙ pick-true (length x) 0 e, q ∙ sym (Rattle.laws.specs.Put.put-if-true o 0 x e))
 
 part-put : (out : List ℕ) (at : ℕ) (ys part : List ℕ) → part ≡ put (take (length out - at) (drop at out)) 0 ys
     → putMid at (length out - at) out part ≡ put out at ys
@@ -360,51 +317,81 @@ part-put out at ys part e =
     ap (λ (l : List ℕ). take at out ++ (part ++ l)) z ∙ ap (λ (l : List ℕ). take at out ++ l) (append-nil part)
     ∙ ap (λ (l : List ℕ). take at out ++ l) p ∙ sym (append-assoc (take at out) ys (drop (at + length ys) out))
 
-pub core-count : (s out : List ℕ) (e : ℕ) {n : ℕ} → length s ≡ wholeSize → saveRoom ≤ length out → e ≡ length (linesText s)
-    → n ≡ pick (saves (coreOf s) (length (take (length out - e) (drop e out)))) (length (savedText (coreOf s))) 0
-    → (n ≡ length (savedText (coreOf s))) × (e + n ≤ saveRoom)
-core-count s out e {n} l h q p =
-    let b = lines-short s in
-    let c = length-savedText (coreOf s) in
-    let k : length (take (length out - e) (drop e out)) ≡ length out - e = length-take-le (length out - e) (drop e out) (simp length-drop (omega arith)) in
-    let t : saves (coreOf s) (length (take (length out - e) (drop e out))) ≡ true =
-    saves-done (coreOf s) (length (take (length out - e) (drop e out))) (length-take-le blockSize s (omega arith)) (omega arith) in
-    let w : n ≡ length (savedText (coreOf s)) = p ∙ pick-true (length (savedText (coreOf s))) 0 t in
-    (w, omega arith)
+-- the first line, the editions' lines, the rest
+module _ (s out : List ℕ) (l : length s ≡ wholeSize) (h : saveRoom ≤ length out) where
+  core-long : length (coreOf s) ≡ blockSize
+  core-long = length-take-le blockSize s (omega arith)
 
-pub image-put : (s out z : List ℕ) (e n h : ℕ) {a b : Bool} {tx part y w : List ℕ} → length s ≡ wholeSize → saveRoom ≤ length out
-    → z ≡ replicate (editionLine * mostEditions) 0 → e ≡ length (linesText s) → tx ≡ put z 0 (linesText s)
-    → n ≡ pick (saves (coreOf s) (length (take (length out - e) (drop e out)))) (length (savedText (coreOf s))) 0
-    → part ≡ putIf (saves (coreOf s) (length (take (length out - e) (drop e out)))) (take (length out - e) (drop e out)) 0 (savedText (coreOf s))
-    → h ≡ length (headText (coreOf s))
-    → a ≡ (leb 0 e && leb (e + h) (length (putMid e (length out - e) out part)))
-    → y ≡ putIf a (putMid e (length out - e) out part) 0 (take h (drop e (putMid e (length out - e) out part)))
-    → b ≡ leb (h + length (take e tx)) (length y) → w ≡ putIf b y h (take e tx)
-    → (e + n ≡ length (savedOn s)) × (w ≡ put out 0 (savedOn s))
-unfolding savedOn
-image-put s out z e n h {a} {b} {tx} {part} {y} {w} l r q ee te np pp hh ap1 yp bp wp =
-    let t : List ℕ = savedText (coreOf s) in
-    let la : List ℕ = linesText s in
-    let c = core-count s out e l r ee np in
-    let d : length (take (length out - e) (drop e out)) ≡ length out - e =
-    length-take-le (length out - e) (drop e out) (simp length-drop (let m = lines-short s in omega arith)) in
-    let i = lines-short s in
-    let k = length-savedText (coreOf s) in
-    let hw = head-within (coreOf s) in
-    let p1 : part ≡ put (take (length out - e) (drop e out)) 0 t =
-    core-saved (coreOf s) (take (length out - e) (drop e out)) (length-take-le blockSize s (omega arith)) (omega arith) np pp .1 in
-    let x : List ℕ = putMid e (length out - e) out part in
-    let x1 : x ≡ put out (length la) t = part-put out e t part p1 ∙ ap (λ (j : ℕ). put out j t) ee in
-    let lx : length x ≡ length out = ap length x1 ∙ length-put out (length la) t (let u = c .0 in omega arith) in
-    let af : a ≡ true = ap1 ∙ and-both (le-leb 0 e (omega arith)) (le-leb (e + h) (length x) (omega arith)) in
-    let y1 : y ≡ put x 0 (take h (drop (length la) x)) =
-    yp ∙ sym (Rattle.laws.specs.Put.put-if-true x 0 (take h (drop e x)) af) ∙ ap (λ (j : ℕ). put x 0 (take h (drop j x))) ee in
-    let lz : length z ≡ editionLine * mostEditions = ap length q ∙ length-replicate {A = ℕ} (editionLine * mostEditions) 0 in
-    let tk : take e tx ≡ la = ap (λ (j : ℕ). take j tx) ee ∙ ap (take (length la)) te ∙ take-put z 0 la (omega arith) in
-    let th : length (take h (drop (length la) x)) ≡ h = length-take-le h (drop (length la) x) (simp length-drop (let u = c .0 in omega arith)) in
-    let ly : length y ≡ length out = ap length y1 ∙ length-put x 0 (take h (drop (length la) x)) (omega arith) ∙ lx in
-    let w1 : w ≡ put y h la =
-    put-of y h la (length la) (length y) (bp ∙ ap (λ (u : List ℕ). leb (h + length u) (length y)) tk) (let u = c .0 in omega arith) (wp ∙ ap (putIf b y h) tk) in (
-      ap (λ (j : ℕ). j + n) ee ∙ ap (λ (j : ℕ). length la + j) (c .0) ∙ sym (length-savedOn s),
-      saved-put out t la h (omega arith) (let u = c .0 in omega arith) x1 y1 w1 ∙ ap (λ (j : ℕ). put out 0 (take j t ++ (la ++ drop j t))) hh,
-    )
+  pub head-put : {a : ℕ} {x : List ℕ} → a ≡ pick (savesIn headLine (coreOf s) (length out)) (length (headText (coreOf s))) 0
+      → x ≡ putIf (savesIn headLine (coreOf s) (length out)) out 0 (headText (coreOf s))
+      → (a ≡ length (headText (coreOf s))) × (x ≡ put out 0 (headText (coreOf s)))
+  head-put p q = part-saved headLine (coreOf s) out (headText (coreOf s)) core-long (omega arith) p q
+
+  module _ {a b : ℕ} {x y : List ℕ} (ea : a ≡ length (headText (coreOf s))) (ex : x ≡ put out 0 (headText (coreOf s)))
+      (eb : b ≡ a + length (linesText s)) (ey : y ≡ put x a (linesText s)) where
+    pub room-left : (length x ≡ length out) × (length y ≡ length out) × (b + restRoom ≤ length out)
+    room-left =
+        let i = length-headText (coreOf s) in
+        let j = lines-short s in
+        let lx : length x ≡ length out = ap length ex ∙ length-put out 0 (headText (coreOf s)) (omega arith) in
+        let ly : length y ≡ length x = ap length ey ∙ length-put x a (linesText s) (omega arith) in
+        (lx, ly ∙ lx, omega arith)
+
+    pub image-put : {n : ℕ} {part : List ℕ}
+        → n ≡ pick (savesIn restRoom (coreOf s) (length (take (length y - b) (drop b y)))) (length (restText (coreOf s))) 0
+        → part ≡ putIf (savesIn restRoom (coreOf s) (length (take (length y - b) (drop b y)))) (take (length y - b) (drop b y)) 0 (restText (coreOf s))
+        → (b + n ≡ length (savedOn s)) × (putMid b (length y - b) y part ≡ put out 0 (savedOn s))
+    unfolding savedOn
+    image-put {n} {part} p q =
+        let w = room-left in
+        let hd : List ℕ = headText (coreOf s) in
+        let la : List ℕ = linesText s in
+        let re : List ℕ = restText (coreOf s) in
+        let d : length (take (length y - b) (drop b y)) ≡ length y - b = length-take-le (length y - b) (drop b y) (simp length-drop (omega arith)) in
+        let r = part-saved restRoom (coreOf s) (take (length y - b) (drop b y)) re core-long (let i = w .1 in let j = w .2 in omega arith) p q in
+        let z : putMid b (length y - b) y part ≡ put y b re = part-put y b re part (r .1) in
+        let i = length-headText (coreOf s) in
+        let j = lines-short s in
+        let k = length-restText (coreOf s) in
+        let y1 : y ≡ put out 0 (hd ++ la) = put-then out 0 hd a la (omega arith) ex (ea ∙ sym (zero-add (length hd))) ey refl in
+        let m = length-append hd la in
+        let y2 : put y b re ≡ put out 0 ((hd ++ la) ++ re) = put-then out 0 (hd ++ la) b re (let o = length-append (hd ++ la) re in omega arith) y1 (omega arith) refl refl in
+        let o = length-append hd (la ++ re) in
+        let u = length-append la re in
+        (let v = r .0 in omega arith, z ∙ y2 ∙ ap (put out 0) (append-assoc hd la re))
+
+-- a text held to a block's, line by line
+module _ (s t : List ℕ) (l : length s ≡ wholeSize) (h : length t ≤ saveRoom) where
+  pub lines-begin : (from : ℕ) → from ≡ passed t from (upTo (lineAt s) 0)
+  unfolding upTo
+  lines-begin from = none-passed t h from
+
+  pub line-passed : (from i : ℕ) {at next : ℕ} → at ≡ passed t from (upTo (lineAt s) i) → next ≡ passed t at (lineAt s i)
+      → next ≡ passed t from (upTo (lineAt s) (i + 1))
+  line-passed from i e q =
+      q ∙ ap (λ (j : ℕ). passed t j (lineAt s i)) e ∙ passed-more t h from (upTo (lineAt s) i) (lineAt s i)
+      ∙ ap (passed t from) (sym (upTo-more (lineAt s) i))
+
+  module _ {a b : ℕ} (ea : a ≡ pick (eqb (length (coreOf s)) blockSize) (passed t 0 (headText (coreOf s))) lost) (eb : b ≡ passed t a (linesText s)) where
+    both-passed : b ≡ passed t 0 (headText (coreOf s) ++ linesText s)
+    both-passed =
+        let c : length (coreOf s) ≡ blockSize = length-take-le blockSize s (omega arith) in
+        eb ∙ ap (λ (j : ℕ). passed t j (linesText s)) (ea ∙ pick-true (passed t 0 (headText (coreOf s))) lost (eq-eqb (length (coreOf s)) blockSize c))
+        ∙ passed-more t h 0 (headText (coreOf s)) (linesText s)
+
+    pub other-text : length t < b → false ≡ sames (savedOn s) t
+    unfolding savedOn
+    other-text k =
+        passed-lost t h (headText (coreOf s) ++ linesText s) (restText (coreOf s)) b both-passed k
+        ∙ ap (λ (x : List ℕ). sames x t) (append-assoc (headText (coreOf s)) (linesText s) (restText (coreOf s)))
+
+    pub same-text : b ≤ length t → {r : Bool} (n : ℕ) → n ≡ length t - b
+        → r ≡ (eqb (length (coreOf s)) blockSize && sames (restText (coreOf s)) (take n (drop b t))) → r ≡ sames (savedOn s) t
+    unfolding savedOn
+    same-text k {r} n e q =
+        let c : length (coreOf s) ≡ blockSize = length-take-le blockSize s (omega arith) in
+        let d : take n (drop b t) ≡ drop b t = take-all n (drop b t) (simp length-drop (omega arith)) in
+        q ∙ ap (λ (x : Bool). x && sames (restText (coreOf s)) (take n (drop b t))) (eq-eqb (length (coreOf s)) blockSize c)
+        ∙ ap (sames (restText (coreOf s))) d
+        ∙ passed-rest t h (headText (coreOf s) ++ linesText s) (restText (coreOf s)) b both-passed k
+        ∙ ap (λ (x : List ℕ). sames x t) (append-assoc (headText (coreOf s)) (linesText s) (restText (coreOf s)))

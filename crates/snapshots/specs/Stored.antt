@@ -1,8 +1,8 @@
--- Reading the A4 lines of a text that was written of rows: each is found, read and stored behind the others; the lines of other names are passed
--- over. Document 01, Lines and The image; document 02, T-12. Assumes nothing.
+-- Reading the lines of a text that was written of rows, one after another: each is found, read and stored, an A4 line behind the other editions,
+-- any other in the core. Document 01, Lines and The image; document 02, T-12. Assumes nothing.
 use Prim.Native.Nat.{ℕ, zero, suc, _+_, _-_, _*_, _≤_, _<_}
 use mathlib.Core.Path.{_≡_, refl, sym, ap, _∙_}
-use mathlib.Core.Bool.{Bool, true, false}
+use mathlib.Core.Bool.{Bool, true, false, _&&_}
 use mathlib.Core.List.{List, [], _∷_, _++_, map, append-assoc}
 use mathlib.Core.Option.{Option, none, some}
 use native.Mathlib.Omega.{arith}
@@ -10,7 +10,7 @@ use borrow.Author.Tests.{eqb-true, eqb-false, eq-eqb, ne-eqb, lt-ltb, le-ltb}
 use lib.Dec.{eqb, ltb}
 use lib.ListN.{length, take, drop, getD, set, replicate, length-append, length-drop, length-replicate, replicate-append-replicate}
 use lib.Seq.{drop-at, drop-drop, getD-at, length-take-le}
-use Rattle.laws.specs.Tests.{cases-le, pick, pick-true, pick-false}
+use Rattle.laws.specs.Tests.{cases-le, pick, pick-true, pick-false, and-both}
 use Rattle.laws.specs.Put.{put, putIf, put-of, put-left, put-right, set-put, length-put}
 use Rattle.laws.specs.Loops.{every, each}
 use Rattle.laws.specs.Rows.{put-whole}
@@ -23,42 +23,50 @@ use Rattle.rule.specs.Base.{All, all-append}
 use Rattle.model.specs.Types.{Model, Monitor, Pair}
 use Rattle.model.specs.Image.{headRow, monitorRow, extraText, nameOf, monitorText, pairRow, endRow, records}
 use Rattle.model.specs.Block.{padTo}
-use Rattle.model.specs.Layout.{lineRow, mostPrefix}
+use Rattle.model.specs.Layout.{blockSize, lineRow, mostPrefix}
+use Rattle.restore.specs.Lines.{stored, storedIn}
 use Rattle.restore.specs.Rows.{Row, put-zeros}
 use Rattle.editions.specs.Editions.{Edition, editionRow, mostEditions}
 use Rattle.editions.specs.Block.{editionSize, editionCountAt, editionsSize}
 use Rattle.wholes.specs.Layout.{editionsAt, editionsCountAt, wholeSize}
 
--- A4: the row behind the editions, and one edition more, where there is room; of every other line nothing
+-- A4: the row behind the editions, and one edition more, where there is room
 unfoldable pub storedEdition : List ℕ → List ℕ → List ℕ
 storedEdition s r =
     pick (ltb (getD s editionsCountAt 0) mostEditions)
     (put (put s (editionsAt + editionSize * getD s editionsCountAt 0) r) editionsCountAt ((getD s editionsCountAt 0 + 1) ∷ [])) s
 
+-- a line by its name: A4 an edition, any other in the core
 unfoldable pub storedOn : List ℕ → List ℕ → List ℕ
-storedOn s l = pick (eqb (getD l 0 0) 0xA4) (storedEdition s (take editionSize (drop 1 l))) s
+storedOn s l = pick (eqb (getD l 0 0) 0xA4) (storedEdition s (take editionSize (drop 1 l))) (stored (take blockSize s) l ++ drop blockSize s)
 
 unfoldable pub storedAllOn : List ℕ → List (List ℕ) → List ℕ
 storedAllOn s [] = s
 storedAllOn s (r ∷ rs) = storedAllOn (storedOn s (padTo lineRow r)) rs
 
 -- the branches of the code
-pub stored-other : (s l : List ℕ) → (getD l 0 0 ≡ 0xA4 → ⊥) → s ≡ storedOn s l
+pub stored-edition : (s l : List ℕ) {t : List ℕ} → getD l 0 0 ≡ 0xA4 → t ≡ storedEdition s (take editionSize (drop 1 l)) → t ≡ storedOn s l
 unfolding storedOn
-stored-other s l h = sym (pick-false (storedEdition s (take editionSize (drop 1 l))) s (ne-eqb (getD l 0 0) 0xA4 h))
+stored-edition s l e q = q ∙ sym (pick-true (storedEdition s (take editionSize (drop 1 l))) _ (eq-eqb (getD l 0 0) 0xA4 e))
 
-pub stored-full : (s l : List ℕ) → getD l 0 0 ≡ 0xA4 → mostEditions ≤ getD s editionsCountAt 0 → s ≡ storedOn s l
-unfolding storedOn storedEdition
-stored-full s l e h =
-    sym (pick-true (storedEdition s (take editionSize (drop 1 l))) s (eq-eqb (getD l 0 0) 0xA4 e)
-    ∙ pick-false _ s (le-ltb (getD s editionsCountAt 0) mostEditions h))
+pub stored-core : (s l : List ℕ) {c t : List ℕ} → length s ≡ wholeSize → length l ≡ lineRow → (getD l 0 0 ≡ 0xA4 → ⊥)
+    → c ≡ storedIn (take blockSize s) l → t ≡ c ++ drop blockSize s → t ≡ storedOn s l
+unfolding storedOn storedIn
+stored-core s l {c} {t} n m h q w =
+    let k : length (take blockSize s) ≡ blockSize = length-take-le blockSize s (omega arith) in
+    w ∙ ap (λ (x : List ℕ). x ++ drop blockSize s) (q ∙ pick-true (stored (take blockSize s) l) (take blockSize s) (and-both (eq-eqb (length (take blockSize s)) blockSize k) (eq-eqb (length l) lineRow m)))
+    ∙ sym (pick-false (storedEdition s (take editionSize (drop 1 l))) _ (ne-eqb (getD l 0 0) 0xA4 h))
 
-pub stored-one : (s l : List ℕ) (c k : ℕ) {r : Bool} {t : List ℕ} → length s ≡ wholeSize → length l ≡ lineRow → getD l 0 0 ≡ 0xA4
+pub stored-full : (s r : List ℕ) → mostEditions ≤ getD s editionsCountAt 0 → s ≡ storedEdition s r
+unfolding storedEdition
+stored-full s r h = sym (pick-false _ s (le-ltb (getD s editionsCountAt 0) mostEditions h))
+
+pub stored-one : (s l : List ℕ) (c k : ℕ) {r : Bool} {t : List ℕ} → length s ≡ wholeSize → length l ≡ lineRow
     → c ≡ getD s editionsCountAt 0 → c < mostEditions → k ≡ editionSize
     → r ≡ lib.Dec.leb (editionsAt + editionSize * c + length (take k (drop 1 l))) (length s)
-    → t ≡ putIf r s (editionsAt + editionSize * c) (take k (drop 1 l)) → set t editionsCountAt (c + 1) ≡ storedOn s l
-unfolding storedOn storedEdition
-stored-one s l c k {r} {t} n m e q h w a b =
+    → t ≡ putIf r s (editionsAt + editionSize * c) (take k (drop 1 l)) → set t editionsCountAt (c + 1) ≡ storedEdition s (take editionSize (drop 1 l))
+unfolding storedEdition
+stored-one s l c k {r} {t} n m q h w a b =
     let x : List ℕ = take k (drop 1 l) in
     let y : x ≡ take editionSize (drop 1 l) = ap (λ (j : ℕ). take j (drop 1 l)) w in
     let lx : length x ≡ editionSize = ap length y ∙ length-take-le editionSize (drop 1 l) (simp length-drop (omega arith)) in
@@ -67,8 +75,7 @@ stored-one s l c k {r} {t} n m e q h w a b =
     set-put t editionsCountAt (c + 1) (omega arith)
     ∙ ap (λ (u : List ℕ). put u editionsCountAt ((c + 1) ∷ [])) (d ∙ ap (put s (editionsAt + editionSize * c)) y)
     ∙ ap (λ (j : ℕ). put (put s (editionsAt + editionSize * j) (take editionSize (drop 1 l))) editionsCountAt ((j + 1) ∷ [])) q
-    ∙ sym (pick-true (storedEdition s (take editionSize (drop 1 l))) s (eq-eqb (getD l 0 0) 0xA4 e)
-    ∙ pick-true _ s (lt-ltb (getD s editionsCountAt 0) mostEditions (let z : c ≡ getD s editionsCountAt 0 = q in omega arith)))
+    ∙ sym (pick-true _ s (lt-ltb (getD s editionsCountAt 0) mostEditions (let z : c ≡ getD s editionsCountAt 0 = q in omega arith)))
 
 -- What storing the line at an index leaves: the index that it answers lies within the text; where the text of a row
 -- stands, it is the one behind that, and the row is storedOn.

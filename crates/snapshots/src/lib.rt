@@ -6,23 +6,22 @@ ghost use Prim.Native.Nat.{ℕ, _+_, _*_, _≤_, _<_};
 ghost use mathlib.Core.Path.{_≡_};
 ghost use mathlib.Core.Bool.{true};
 ghost use mathlib.Core.List.{List};
-ghost use lib.ListN.{length, take, replicate};
+ghost use lib.ListN.{length, take, drop};
 ghost use Rattle.laws.specs.Put.{put, putIf};
-ghost use Rattle.laws.specs.Loops.{each, upTo};
+ghost use Rattle.laws.specs.Loops.{each};
 ghost use Rattle.laws.specs.Tests.{pick, sames};
 ghost use Rattle.rule.specs.Base.{All};
 ghost use Rattle.lines.specs.Hex.{textOf};
 ghost use Rattle.sessions.specs.Machine.{saveRoom};
 ghost use Rattle.model.specs.Layout.{lineRow};
 ghost use Rattle.restore.specs.Rows.{Row};
-ghost use Rattle.save.specs.Text.{headText};
+ghost use Rattle.save.specs.Passed.{passed};
 ghost use Rattle.editions.specs.Editions.{Gateway, soundGateway, imageOn, mostEditions};
-ghost use Rattle.editions.specs.Block.{editionLine};
-ghost use Rattle.wholes.specs.Layout.{indexSize, wholeSize};
-ghost use Rattle.wholes.specs.Whole.{laidWith, whole, soundWhole};
-ghost use Rattle.snapshots.specs.Saved.{coreOf, lineAt, linesText, savedOn, savesOn};
-ghost use Rattle.snapshots.specs.Stored.{storedOn, storedAllOn, Placed};
-ghost use Rattle.snapshots.specs.Filled.{bare};
+ghost use Rattle.editions.specs.Block.{editionLine, editionSize};
+ghost use Rattle.wholes.specs.Layout.{wholeSize};
+ghost use Rattle.wholes.specs.Whole.{whole, soundWhole};
+ghost use Rattle.snapshots.specs.Saved.{lineAt, linesText, savedOn, savesOn};
+ghost use Rattle.snapshots.specs.Stored.{storedEdition, storedOn, storedAllOn, Placed};
 ghost use Rattle.snapshots.specs.Accepted.{ReadOn, restoresOn, restoredOn};
 
 // The octet that names an edition's line.
@@ -43,13 +42,13 @@ fn put_one(s: &[u8], i: usize, out: &mut [u8], at: usize) -> usize
     at + 2 * n + 1
 }
 
-// The lines of a block's editions, into a lent text with room for 32.
-fn put_lines(s: &[u8], out: &mut [u8]) -> usize
-    requires { ⌜ (length (now s) ≡ wholeSize) × (length (now out) ≡ editionLine * mostEditions) ⌝ }
-    ensures { λ r. ⌜ (r ≡ length (linesText (now (s .entry)))) × (now (out .exit) ≡ put (now (out .entry)) 0 (linesText (now (s .entry)))) ⌝ }
+// The lines of a block's editions, written at an index.
+fn put_lines(s: &[u8], out: &mut [u8], from: usize) -> usize
+    requires { ⌜ (length (now s) ≡ wholeSize) × (from + editionLine * mostEditions ≤ length (now out)) ⌝ }
+    ensures { λ r. ⌜ (r ≡ from + length (linesText (now (s .entry)))) × (now (out .exit) ≡ put (now (out .entry)) from (linesText (now (s .entry)))) ⌝ }
 {
     let count = octets::at_most(s[Whole::EDITION_COUNT_AT], Whole::EDITIONS);
-    let mut at = 0;
+    let mut at = from;
     let mut i = 0;
     while i < count {
         at = put_one(s, i, out, at);
@@ -58,27 +57,15 @@ fn put_lines(s: &[u8], out: &mut [u8]) -> usize
     at
 }
 
-// The length of the first line of a block's image.
-fn head_length(s: &[u8]) -> usize
-    requires { ⌜ length (now s) ≡ wholeSize ⌝ }
-    ensures { λ r. ⌜ r ≡ length (headText (coreOf (now (s .entry)))) ⌝ }
-{
-    let k = octets::at_most(s[State::PREFIX_LENGTH_AT], State::PREFIX);
-    2 * (State::PREFIX_AT + k) + 3
-}
-
-// The image's text of a block: the core's behind room for the editions' lines, its first line moved to the start, and the lines behind it.
+// The image's text of a block: the core's first line, the editions' lines, the rest of the core's.
 fn put_image(s: &[u8], out: &mut [u8]) -> usize
     requires { ⌜ (length (now s) ≡ wholeSize) × (saveRoom ≤ length (now out)) ⌝ }
     ensures { λ r. ⌜ (r ≡ length (savedOn (now (s .entry)))) × (now (out .exit) ≡ put (now (out .entry)) 0 (savedOn (now (s .entry)))) ⌝ }
 {
-    let mut text = [0u8; Whole::EDITION_LINE * Whole::EDITIONS];
-    let e = put_lines(s, &mut text);
-    let n = save::save_image(&s[..State::SIZE], &mut out[e..]);
-    let h = head_length(s);
-    parts::shift(out, 0, e, h);
-    parts::copy(out, h, &text[..e]);
-    e + n
+    let a = save::save_head(&s[..State::SIZE], out);
+    let b = put_lines(s, out, a);
+    let n = save::save_rest(&s[..State::SIZE], &mut out[b..]);
+    b + n
 }
 
 // The image's text of the state in a whole block, written from the start of out; its length. Where the block is not 6,987 octets or out is under
@@ -112,14 +99,11 @@ pub fn is_sound(s: &[u8]) -> bool
     index::is_indexed(s)
 }
 
-// An A4 line's row behind the editions that a block holds; of another line nothing.
-fn store_line(s: &mut [u8], line: &[u8])
+// An A4 line's row behind the editions that a block holds, where there is room.
+fn store_edition(s: &mut [u8], line: &[u8])
     requires { ⌜ (length (now s) ≡ wholeSize) × (length (now line) ≡ lineRow) ⌝ }
-    ensures { λ _. ⌜ now (s .exit) ≡ storedOn (now (s .entry)) (now (line .entry)) ⌝ }
+    ensures { λ _. ⌜ now (s .exit) ≡ storedEdition (now (s .entry)) (take editionSize (drop 1 (now (line .entry)))) ⌝ }
 {
-    if line[0] != NAME {
-        return;
-    }
     let c = octets::wide(s[Whole::EDITION_COUNT_AT]);
     if Whole::EDITIONS <= c {
         return;
@@ -132,7 +116,19 @@ fn store_line(s: &mut [u8], line: &[u8])
     s[Whole::EDITION_COUNT_AT] = (c + 1) as u8;
 }
 
-// The line at an index, stored if it is an A4 line. The answer is the index behind it, or that index where no line of at most 97 octets
+// A line's octets: an A4 line among the editions, any other in the core.
+fn store_line(s: &mut [u8], line: &[u8])
+    requires { ⌜ (length (now s) ≡ wholeSize) × (length (now line) ≡ lineRow) ⌝ }
+    ensures { λ _. ⌜ now (s .exit) ≡ storedOn (now (s .entry)) (now (line .entry)) ⌝ }
+{
+    if line[0] == NAME {
+        store_edition(s, line);
+        return;
+    }
+    restore::store_line(&mut s[..State::SIZE], line);
+}
+
+// The line at an index, read in one pass and stored. The answer is the index behind it, or that index where no line of at most 97 octets
 // stands there.
 fn store_text(s: &mut [u8], text: &[u8], at: usize) -> usize
     requires { ⌜ (length (now s) ≡ wholeSize) × (at ≤ length (now text)) ⌝ }
@@ -164,31 +160,6 @@ fn store_lines(s: &mut [u8], text: &[u8])
     }
 }
 
-// The core of an image's text, which is the text without its editions' lines, read into a block that has the editions already.
-fn fill_core(s: &mut [u8], text: &[u8])
-    requires { ⌜ length (now s) ≡ wholeSize ⌝ }
-    ensures { λ _. ⌜ ((g : Gateway) → soundGateway g ≡ true → now (text .entry) ≡ imageOn g → now (s .entry) ≡ bare (g .editions) → now (s .exit) ≡ laidWith (replicate indexSize 0) g) ⌝ }
-{
-    let mut lines = [0u8; Whole::EDITION_LINE * Whole::EDITIONS];
-    let e = put_lines(s, &mut lines);
-    let mut line = [0u8; State::LINE_ROW];
-    let k = reader::read_pairs(text, 0, &mut line);
-    let h = 2 * k + 1;
-    let n = text.len();
-    if n < h + e {
-        return;
-    }
-    let m = n - e;
-    if State::IMAGE < m {
-        return;
-    }
-    let behind = h + e;
-    let mut core = [0u8; State::IMAGE];
-    parts::copy(&mut core, 0, &text[..h]);
-    parts::copy(&mut core, h, &text[behind..]);
-    restore::read_image(&core[..m], &mut s[..State::SIZE]);
-}
-
 // The lines of a text in an empty block. Of the image of a sound state that is the state's whole block; what it is of another text is not said.
 fn fill_block(s: &mut [u8], text: &[u8])
     requires { ⌜ length (now s) ≡ wholeSize ⌝ }
@@ -196,18 +167,45 @@ fn fill_block(s: &mut [u8], text: &[u8])
 {
     parts::fill(s, 0, Whole::SIZE, 0);
     store_lines(s, text);
-    fill_core(s, text);
     index::renew(s);
 }
 
-// Whether a text is what save writes of a block.
+// The index behind the line of edition i, where it stands in a text at an index.
+fn past_one(s: &[u8], i: usize, text: &[u8], at: usize) -> usize
+    requires { ⌜ (length (now s) ≡ wholeSize) × (i < mostEditions) ⌝ }
+    ensures { λ r. ⌜ r ≡ passed (now (text .entry)) at (lineAt (now (s .entry)) i) ⌝ }
+{
+    let mut line = [0u8; Whole::EDITION_LINE];
+    let n = put_one(s, i, &mut line, 0);
+    save::past(text, at, &line[..n])
+}
+
+// The index behind the editions' lines, where they stand in a text at an index.
+fn past_lines(s: &[u8], text: &[u8], from: usize) -> usize
+    requires { ⌜ (length (now s) ≡ wholeSize) × (length (now text) ≤ saveRoom) ⌝ }
+    ensures { λ r. ⌜ r ≡ passed (now (text .entry)) from (linesText (now (s .entry))) ⌝ }
+{
+    let count = octets::at_most(s[Whole::EDITION_COUNT_AT], Whole::EDITIONS);
+    let mut at = from;
+    let mut i = 0;
+    while i < count {
+        at = past_one(s, i, text, at);
+        i += 1;
+    }
+    at
+}
+
+// Whether a text is what save writes of a block: line by line, none is kept.
 fn is_saved(s: &[u8], text: &[u8]) -> bool
-    requires { ⌜ length (now s) ≡ wholeSize ⌝ }
+    requires { ⌜ (length (now s) ≡ wholeSize) × (length (now text) ≤ saveRoom) ⌝ }
     ensures { λ r. ⌜ r ≡ sames (savedOn (now (s .entry))) (now (text .entry)) ⌝ }
 {
-    let mut out = [0u8; Whole::IMAGE];
-    let n = save_image(s, &mut out);
-    parts::same(&out[..n], text)
+    let a = save::past_head(&s[..State::SIZE], text);
+    let b = past_lines(s, text, a);
+    if text.len() < b {
+        return false;
+    }
+    save::is_rest(&s[..State::SIZE], &text[b..])
 }
 
 // Reads an image into s: the answer is whether the text is an image of a sound state. Where it is, s is then the whole block of the state that the
@@ -236,9 +234,7 @@ pub fn read_image(text: &[u8], s: &mut [u8]) -> bool
     }
     let image = take_image(text, s);
     if !image {
-        let fresh = Whole::blank();
-        let blank = fresh.block;
-        parts::copy(s, 0, &blank);
+        index::put_blank(s);
     }
     image
 }

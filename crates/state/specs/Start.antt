@@ -152,6 +152,39 @@ blank-put s {l} {m} h e q r =
     put-of s 0 (replicate blockSize 0) blockSize (length s) e (omega arith) q ∙ put-whole s zeros (h ∙ sym n) in
     blank-block (r ∙ ap (λ (x : List ℕ). put x 5 (settingsRow 0xFC00 [])) w) ∙ sym (blank-is s h)
 
+-- the block that a start leaves in the place of another
+unfoldable pub freshIn : List ℕ → ℕ → List ℕ → List ℕ
+freshIn s opcode prefix = pick (eqb (length s) blockSize) (begin opcode prefix) s
+
+module _ (s : List ℕ) (opcode : ℕ) (prefix : List ℕ) where
+  pub fresh-is : length s ≡ blockSize → freshIn s opcode prefix ≡ begin opcode prefix
+  unfolding freshIn
+  fresh-is h = pick-true (begin opcode prefix) s (eq-eqb (length s) blockSize h)
+
+  pub refused-in : {l : List ℕ} → soundSettings opcode prefix ≡ false → l ≡ blankIn s
+      → (Refused BadSettings ≡ settingsOf opcode prefix) × (l ≡ freshIn s opcode prefix)
+  unfolding freshIn blankIn
+  refused-in e q =
+      let w = not-started opcode prefix e refl in
+      (w .0, q ∙ ap (λ (x : List ℕ). pick (eqb (length s) blockSize) x s) (w .1))
+
+  pub fresh-not : soundSettings opcode prefix ≡ true → (length s ≡ blockSize → ⊥)
+      → (Fresh ≡ settingsOf opcode prefix) × (s ≡ freshIn s opcode prefix)
+  unfolding freshIn settingsOf
+  fresh-not e n =
+      (sym (pick-true Fresh (Refused BadSettings) e), sym (pick-false (begin opcode prefix) s (ne-eqb (length s) blockSize n)))
+
+  pub fresh-in : {l m : List ℕ} {b : Bool} → soundSettings opcode prefix ≡ true → length prefix ≤ mostPrefix → length s ≡ blockSize
+      → b ≡ leb (0 + blockSize) (length s) → l ≡ putIf b s 0 (replicate blockSize 0) → m ≡ put l 5 (settingsRow opcode prefix)
+      → (Fresh ≡ settingsOf opcode prefix) × (m ≡ freshIn s opcode prefix)
+  fresh-in {l} {m} {b} e k h x q r =
+      let zeros : List ℕ = replicate blockSize 0 in
+      let n : length zeros ≡ blockSize = length-replicate {A = ℕ} blockSize 0 in
+      let w : l ≡ replicate blockSize 0 =
+      put-of s 0 (replicate blockSize 0) blockSize (length s) x (omega arith) q ∙ put-whole s zeros (h ∙ sym n) in
+      let y = started opcode prefix e k (r ∙ ap (λ (x : List ℕ). put x 5 (settingsRow opcode prefix)) w) in
+      (y .0, y .1 ∙ sym (fresh-is h))
+
 -- opcode, prefix length and prefix, written one after another
 pub settings-put : (l : List ℕ) (opcode : ℕ) (prefix : List ℕ) {m n o : List ℕ} {a b c : Bool} → length prefix ≤ mostPrefix
     → headSize ≤ length l

@@ -13,7 +13,7 @@ ghost use Rattle.model.specs.Monitors.{letsThrough};
 ghost use Rattle.blocks.specs.Added.{filteringOf};
 ghost use Rattle.model.specs.Block.{padded, advanced, ready as isReady};
 ghost use Rattle.model.specs.Engine.{begin};
-ghost use Rattle.state.specs.Start.{settingsOf, blankIn};
+ghost use Rattle.state.specs.Start.{settingsOf, blankIn, freshIn};
 
 // Seconds of the low interval.
 pub struct Seconds(pub u8);
@@ -108,6 +108,26 @@ pub fn put_blank(block: &mut [u8])
     let none = [0u8; 0];
     parts::fill(block, 0, State::SIZE, 0);
     settings::set_settings(block, State::LEAST_OPCODE, &none);
+}
+
+// The fresh state with these settings, in a lent block of the right length; the blank one and refusal 9 where they are out of range. A block of another length
+// is left as it is.
+pub fn put_fresh(block: &mut [u8], opcode: u16, prefix: &[u8]) -> Start
+    ensures { λ r. ⌜ (r ≡ settingsOf opcode (now (prefix .entry))) × (now (block .exit) ≡ freshIn (now (block .entry)) opcode (now (prefix .entry))) ⌝ }
+{
+    if opcode < State::LEAST_OPCODE {
+        put_blank(block);
+        return Start::Refused(Refusal::BadSettings);
+    }
+    if State::PREFIX < prefix.len() {
+        put_blank(block);
+        return Start::Refused(Refusal::BadSettings);
+    }
+    if block.len() == State::SIZE {
+        parts::fill(block, 0, State::SIZE, 0);
+        settings::set_settings(block, opcode, prefix);
+    }
+    Start::Fresh
 }
 
 // What is said of settings: in range, or why not.
@@ -263,22 +283,10 @@ impl State {
     pub fn fresh(opcode: u16, prefix: &[u8]) -> Begun
         ensures { λ r. ⌜ (r .answer ≡ settingsOf opcode (now (prefix .entry))) × (r .state .block ≡ begin opcode (now (prefix .entry))) ⌝ }
     {
-        if opcode < State::LEAST_OPCODE {
-            return Begun {
-                answer: Start::Refused(Refusal::BadSettings),
-                state: State::blank(),
-            };
-        }
-        if State::PREFIX < prefix.len() {
-            return Begun {
-                answer: Start::Refused(Refusal::BadSettings),
-                state: State::blank(),
-            };
-        }
         let mut block = [0u8; State::SIZE];
-        settings::set_settings(&mut block, opcode, prefix);
+        let answer = put_fresh(&mut block, opcode, prefix);
         Begun {
-            answer: Start::Fresh,
+            answer: answer,
             state: State { block },
         }
     }
@@ -288,8 +296,7 @@ impl State {
         ensures { λ r. ⌜ r .block ≡ padded blank ⌝ }
     {
         let mut block = [0u8; State::SIZE];
-        let none = [0u8; 0];
-        settings::set_settings(&mut block, State::LEAST_OPCODE, &none);
+        put_blank(&mut block);
         State { block }
     }
 }

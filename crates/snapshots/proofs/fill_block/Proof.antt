@@ -9,7 +9,6 @@ use Rattle.snapshots.proofs.fill_block.Reads as reads
 use Rattle.snapshots.proofs.fill_block.Lts as lts
 use Rattle.index.proofs.renew.Reads as renew-reads
 use Rattle.parts.proofs.fill.Reads as fill-reads
-use Rattle.snapshots.proofs.fill_core.Reads as fill-core-reads
 use Rattle.snapshots.proofs.store_lines.Reads as store-lines-reads
 
 -- src/lib.rt:196:5
@@ -19,10 +18,6 @@ fill-requires c κs = search needs
 -- src/lib.rt:197:5
 store-lines-requires : tie.Need-store-lines-requires
 store-lines-requires c κs = search needs
-
--- src/lib.rt:198:5
-fill-core-requires : tie.Need-fill-core-requires
-fill-core-requires c κs = search needs
 
 -- src/lib.rt:199:5
 renew-requires : tie.Need-renew-requires
@@ -34,7 +29,7 @@ same-length c = search needs
 
 -- src/lib.rt:192:1
 returns : tie.Need-returns
-returns c = let a = c .before .before .before .before .before .before .before .before .before .before .before .before .before .before .before .before .before .before in filled (a .args .text .now) (a .args .s .now) (a .pre) (c .before .before .before .before .before .before .before .before .before .before .before .before .before .before .fill .ensures .0) (c .before .before .before .before .before .before .before .before .before .before .before .before .before .before .fill .ensures .1) (c .before .before .before .before .before .before .before .before .before .before .store-lines .ensures) (c .before .before .before .before .before .before .fill-core .ensures) (c .before .before .renew .ensures)
+returns c = let a = c .before .before .before .before .before .before .before .before .before .before .before .before .before .before in filled (a .args .text .now) (a .args .s .now) (a .pre) (c .before .before .before .before .before .before .before .before .before .before .fill .ensures .0) (c .before .before .before .before .before .before .before .before .before .before .fill .ensures .1) (c .before .before .before .before .before .before .store-lines .ensures) (c .before .before .renew .ensures)
 
 pub fill-block-spec : {M : Type 1} → statement M
 fill-block-spec =
@@ -42,7 +37,6 @@ fill-block-spec =
     (tie.spec
     fill-requires
     store-lines-requires
-    fill-core-requires
     renew-requires
     same-length
     returns)

@@ -1,49 +1,68 @@
 use native.Mathlib.Omega.{arith}
-use Prim.Native.Nat.{_+_, _-_, _*_, _≤_, _<_}
-use mathlib.Core.Path.{_≡_, refl, sym, ap, _∙_, subst}
-use lib.Seq.{length-take-le}
-use Rattle.laws.specs.Tests.{sames}
-use Rattle.prefixes.specs.Held.{count-most}
-use Rattle.snapshots.specs.Accepted.{saved-most, saved-read}
+use mathlib.Core.Path.{refl}
+use Prim.Native.Nat.{_-_}
+use lib.ListN.{length, length-take, length-drop}
+use Rattle.snapshots.specs.Saved.{other-text, same-text}
 use borrow.Author.Needs.{needs}
 use Rattle.snapshots.proofs.is_saved.Statement.{statement}
 use Rattle.snapshots.proofs.is_saved.Tie as tie
 use Rattle.snapshots.proofs.is_saved.Reads as reads
 use Rattle.snapshots.proofs.is_saved.Lts as lts
-use Rattle.parts.proofs.same.Reads as same-reads
-use Rattle.snapshots.proofs.save_image.Reads as save-image-reads
+use Rattle.save.proofs.is_rest.Reads as is-rest-reads
+use Rattle.save.proofs.past_head.Reads as past-head-reads
+use Rattle.snapshots.proofs.past_lines.Reads as past-lines-reads
 
--- src/lib.rt:208:27
-slice-aggregate-save-image : tie.Need-slice-aggregate-save-image
-slice-aggregate-save-image c = search needs
+-- src/lib.rt:203:29
+slice-aggregate-past-head : tie.Need-slice-aggregate-past-head
+slice-aggregate-past-head c = simp length-take (omega arith)
 
--- src/lib.rt:208:9
-save-image-requires : tie.Need-save-image-requires
-save-image-requires c κs = search needs
+-- src/lib.rt:203:9
+past-head-requires : tie.Need-past-head-requires
+past-head-requires c κs = search needs
 
--- src/lib.rt:209:17
-array-share-prefix-out : tie.Need-array-share-prefix-out
-array-share-prefix-out c = let a = c .before .before .before .before .before in saved-read (a .args .s .now) (a .pre) (saved-most (a .args .s .now) (count-most (a .args .s .now))) (c .before .save-image .ensures .0) (c .before .save-image .ensures .1) .0
+-- src/lib.rt:204:9
+past-lines-requires : tie.Need-past-lines-requires
+past-lines-requires c κs = search needs
 
--- src/lib.rt:209:17
-slice-aggregate-same : tie.Need-slice-aggregate-same
-slice-aggregate-same c = let a = c .before .before .before .before .before .before in let w = saved-read (a .args .s .now) (a .pre) (saved-most (a .args .s .now) (count-most (a .args .s .now))) (c .before .before .save-image .ensures .0) (c .before .before .save-image .ensures .1) .0 in sym (length-take-le (c .before .before .save-image .result) (c .before .before .save-image .last .1 .0) w)
-
--- src/lib.rt:209:5
-same-requires : tie.Need-same-requires
-same-requires c κs = search needs
-
--- src/lib.rt:203:1
+-- src/lib.rt:206:9
 returns : tie.Need-returns
-returns c = let a = c .before .before .before .before .before .before .before in c .same .ensures ∙ ap (λ x. sames x (a .args .text .now)) (saved-read (a .args .s .now) (a .pre) (saved-most (a .args .s .now) (count-most (a .args .s .now))) (c .before .before .before .save-image .ensures .0) (c .before .before .before .save-image .ensures .1) .1)
+returns c = let a = c .before .before .before .before .before .before in other-text (a .args .s .now) (a .args .text .now) (a .pre .0) (a .pre .1) (c .before .before .past-head .ensures) (c .before .past-lines .ensures) (c .if1 .taken)
+
+-- src/lib.rt:208:19
+slice-aggregate-is-rest : tie.Need-slice-aggregate-is-rest
+slice-aggregate-is-rest c = simp length-take (omega arith)
+
+-- src/lib.rt:208:38
+sub-is-rest : tie.Need-sub-is-rest
+sub-is-rest c = search needs
+
+-- src/lib.rt:208:38
+part-is-rest-start : tie.Need-part-is-rest-start
+part-is-rest-start c = search needs
+
+-- src/lib.rt:208:38
+part-is-rest-end : tie.Need-part-is-rest-end
+part-is-rest-end c = search needs
+
+-- src/lib.rt:208:5
+is-rest-requires : tie.Need-is-rest-requires
+is-rest-requires c κs = search needs
+
+-- src/lib.rt:199:1
+returns-2 : tie.Need-returns-2
+returns-2 c = let a = c .before .before .before .before .before .before .before .before .before in same-text (a .args .s .now) (a .args .text .now) (a .pre .0) (a .pre .1) (c .before .before .before .before .before .past-head .ensures) (c .before .before .before .before .past-lines .ensures) (omega arith) (length (a .args .text .now) - c .before .before .before .before .past-lines .result) refl (c .is-rest .ensures)
 
 pub is-saved-spec : {M : Type 1} → statement M
 is-saved-spec =
     tie.close
     (tie.spec
-    slice-aggregate-save-image
-    save-image-requires
-    array-share-prefix-out
-    slice-aggregate-same
-    same-requires
-    returns)
+    slice-aggregate-past-head
+    past-head-requires
+    past-lines-requires
+    returns
+    slice-aggregate-is-rest
+    sub-is-rest
+    part-is-rest-start
+    part-is-rest-end
+    is-rest-requires
+    returns-2)

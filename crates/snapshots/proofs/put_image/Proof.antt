@@ -1,96 +1,73 @@
 use native.Mathlib.Omega.{arith}
-use Prim.Native.Nat.{_+_, _-_, _*_, _≤_, _<_}
-use mathlib.Core.Path.{_≡_, refl, sym, ap, _∙_, subst}
-use lib.Seq.{length-take-le}
-use Rattle.model.specs.Layout.{blockSize}
-use Rattle.snapshots.specs.Saved.{lines-short, core-count, image-put}
+use mathlib.Core.Path.{refl, _∙_}
+use lib.ListN.{length, length-take, length-drop}
+use Rattle.save.specs.Text.{length-headText}
+use Rattle.snapshots.specs.Saved.{coreOf, head-put, room-left, image-put, saved-most}
 use borrow.Author.Needs.{needs}
 use Rattle.snapshots.proofs.put_image.Statement.{statement}
 use Rattle.snapshots.proofs.put_image.Tie as tie
 use Rattle.snapshots.proofs.put_image.Reads as reads
 use Rattle.snapshots.proofs.put_image.Lts as lts
-use Rattle.parts.proofs.copy.Reads as copy-reads
-use Rattle.parts.proofs.shift.Reads as shift-reads
-use Rattle.save.proofs.save_image.Reads as save-image-reads
-use Rattle.snapshots.proofs.head_length.Reads as head-length-reads
+use Rattle.save.proofs.save_head.Reads as save-head-reads
+use Rattle.save.proofs.save_rest.Reads as save-rest-reads
 use Rattle.snapshots.proofs.put_lines.Reads as put-lines-reads
 
--- src/lib.rt:75:26
-slice-aggregate-put-lines : tie.Need-slice-aggregate-put-lines
-slice-aggregate-put-lines c = search needs
+-- src/lib.rt:65:29
+slice-aggregate-save-head : tie.Need-slice-aggregate-save-head
+slice-aggregate-save-head c = simp length-take (omega arith)
 
--- src/lib.rt:75:9
+-- src/lib.rt:65:9
+save-head-requires : tie.Need-save-head-requires
+save-head-requires c κs = search needs
+
+-- src/lib.rt:66:9
 put-lines-requires : tie.Need-put-lines-requires
-put-lines-requires c κs = search needs
+put-lines-requires c κs = let a = c .before .before .before .before .before .before .before .before in let w = c .before .before .before .save-head in let h = head-put (a .args .s .now) (a .args .out .now) (a .pre .0) (a .pre .1) (w .ensures .0) (w .ensures .1) .0 in let k = length-headText (coreOf (a .args .s .now)) in let j = w .kept .1 .0 in (a .pre .0, omega arith)
 
--- src/lib.rt:76:30
-slice-aggregate-save-image : tie.Need-slice-aggregate-save-image
-slice-aggregate-save-image c = let a = c .before .before .before .before .before .before in sym (length-take-le blockSize (a .args .s .now) (omega arith))
+-- src/lib.rt:67:29
+slice-aggregate-save-rest : tie.Need-slice-aggregate-save-rest
+slice-aggregate-save-rest c = simp length-take (omega arith)
 
--- src/lib.rt:76:49
-sub-save-image : tie.Need-sub-save-image
-sub-save-image c = let a = c .before .before .before .before .before .before in let l = lines-short (a .args .s .now) in let e = c .before .before .put-lines .ensures .0 in omega arith
+-- src/lib.rt:67:48
+sub-save-rest : tie.Need-sub-save-rest
+sub-save-rest c = let a = c .before .before .before .before .before .before .before .before .before .before .before .before in let w = c .before .before .before .before .before .before .before .save-head in let v = c .before .before .before .put-lines in let h = head-put (a .args .s .now) (a .args .out .now) (a .pre .0) (a .pre .1) (w .ensures .0) (w .ensures .1) in let r = room-left (a .args .s .now) (a .args .out .now) (a .pre .0) (a .pre .1) (h .0) (h .1) (v .ensures .0) (v .ensures .1) in let i = r .1 in let j = r .2 in omega arith
 
--- src/lib.rt:76:49
-part-save-image-start : tie.Need-part-save-image-start
-part-save-image-start c = let a = c .before .before .before .before .before .before in let l = lines-short (a .args .s .now) in let e = c .before .before .put-lines .ensures .0 in omega arith
+-- src/lib.rt:67:48
+part-save-rest-start : tie.Need-part-save-rest-start
+part-save-rest-start c = let a = c .before .before .before .before .before .before .before .before .before .before .before .before in let w = c .before .before .before .before .before .before .before .save-head in let v = c .before .before .before .put-lines in let h = head-put (a .args .s .now) (a .args .out .now) (a .pre .0) (a .pre .1) (w .ensures .0) (w .ensures .1) in let r = room-left (a .args .s .now) (a .args .out .now) (a .pre .0) (a .pre .1) (h .0) (h .1) (v .ensures .0) (v .ensures .1) in let i = r .1 in let j = r .2 in omega arith
 
--- src/lib.rt:76:49
-part-save-image-end : tie.Need-part-save-image-end
-part-save-image-end c = search needs
+-- src/lib.rt:67:48
+part-save-rest-end : tie.Need-part-save-rest-end
+part-save-rest-end c = search needs
 
--- src/lib.rt:76:9
-save-image-requires : tie.Need-save-image-requires
-save-image-requires c κs = search needs
+-- src/lib.rt:67:9
+save-rest-requires : tie.Need-save-rest-requires
+save-rest-requires c κs = search needs
 
--- src/lib.rt:77:9
-head-length-requires : tie.Need-head-length-requires
-head-length-requires c κs = search needs
-
--- src/lib.rt:78:5
-shift-requires : tie.Need-shift-requires
-shift-requires c κs = search needs
-
--- src/lib.rt:79:25
-array-share-prefix-text : tie.Need-array-share-prefix-text
-array-share-prefix-text c = let a = c .before .before .before .before .before .before .before .before .before .before .before .before .before .before .before .before in let l = lines-short (a .args .s .now) in let e = c .before .before .before .before .before .before .before .before .before .before .before .before .put-lines .ensures .0 in let k = c .before .before .before .before .before .before .before .before .before .before .before .before .put-lines .kept .1 .0 in omega arith
-
--- src/lib.rt:79:25
-slice-aggregate-copy : tie.Need-slice-aggregate-copy
-slice-aggregate-copy c = let a = c .before .before .before .before .before .before .before .before .before .before .before .before .before .before .before .before .before in let l = lines-short (a .args .s .now) in let e = c .before .before .before .before .before .before .before .before .before .before .before .before .before .put-lines .ensures .0 in let k = c .before .before .before .before .before .before .before .before .before .before .before .before .before .put-lines .kept .1 .0 in sym (length-take-le (c .before .before .before .before .before .before .before .before .before .before .before .before .before .put-lines .result) (c .before .before .before .before .before .before .before .before .before .before .before .before .before .put-lines .last .1 .0) (omega arith))
-
--- src/lib.rt:79:5
-copy-requires : tie.Need-copy-requires
-copy-requires c κs = search needs
-
--- src/lib.rt:80:5
+-- src/lib.rt:68:5
 add-result : tie.Need-add-result
-add-result c = let a = c .before .before .before .before .before .before .before .before .before .before .before .before .before .before .before .before .before .before .before .before in let w = core-count (a .args .s .now) (a .args .out .now) (c .before .before .before .before .before .before .before .before .before .before .before .before .before .before .before .before .put-lines .result) (a .pre .0) (a .pre .1) (c .before .before .before .before .before .before .before .before .before .before .before .before .before .before .before .before .put-lines .ensures .0) (c .before .before .before .before .before .before .before .before .before .before .before .before .save-image .ensures .0 .0) in let z = w .1 in omega arith
+add-result c = let a = c .before .before .before .before .before .before .before .before .before .before .before .before .before .before .before .before in let w = c .before .before .before .before .before .before .before .before .before .before .before .save-head in let v = c .before .before .before .before .before .before .before .put-lines in let h = head-put (a .args .s .now) (a .args .out .now) (a .pre .0) (a .pre .1) (w .ensures .0) (w .ensures .1) in let r = room-left (a .args .s .now) (a .args .out .now) (a .pre .0) (a .pre .1) (h .0) (h .1) (v .ensures .0) (v .ensures .1) in let e = image-put (a .args .s .now) (a .args .out .now) (a .pre .0) (a .pre .1) (h .0) (h .1) (v .ensures .0) (v .ensures .1) (c .before .before .save-rest .ensures .0) (c .before .before .save-rest .ensures .1) .0 in let m = saved-most (a .args .s .now) in omega arith
 
--- src/lib.rt:70:1
+-- src/lib.rt:61:1
 same-length : tie.Need-same-length
 same-length c = search needs
 
--- src/lib.rt:70:1
+-- src/lib.rt:61:1
 returns : tie.Need-returns
-returns c = let a = c .before .before .before .before .before .before .before .before .before .before .before .before .before .before .before .before .before .before .before .before in image-put (a .args .s .now) (a .args .out .now) _ (c .before .before .before .before .before .before .before .before .before .before .before .before .before .before .before .before .put-lines .result) (c .before .before .before .before .before .before .before .before .before .before .before .before .save-image .result) (c .before .before .before .before .before .before .before .before .before .head-length .result) (a .pre .0) (a .pre .1) refl (c .before .before .before .before .before .before .before .before .before .before .before .before .before .before .before .before .put-lines .ensures .0) (c .before .before .before .before .before .before .before .before .before .before .before .before .before .before .before .before .put-lines .ensures .1) (c .before .before .before .before .before .before .before .before .before .before .before .before .save-image .ensures .0 .0) (c .before .before .before .before .before .before .before .before .before .before .before .before .save-image .ensures .0 .1) (c .before .before .before .before .before .before .before .before .before .head-length .ensures) (c .before .before .before .before .before .before .before .shift .ensures .0) (c .before .before .before .before .before .before .before .shift .ensures .1) (c .before .before .copy .ensures .0) (c .before .before .copy .ensures .1)
+returns c = let a = c .before .before .before .before .before .before .before .before .before .before .before .before .before .before .before .before in let w = c .before .before .before .before .before .before .before .before .before .before .before .save-head in let v = c .before .before .before .before .before .before .before .put-lines in let h = head-put (a .args .s .now) (a .args .out .now) (a .pre .0) (a .pre .1) (w .ensures .0) (w .ensures .1) in let r = room-left (a .args .s .now) (a .args .out .now) (a .pre .0) (a .pre .1) (h .0) (h .1) (v .ensures .0) (v .ensures .1) in image-put (a .args .s .now) (a .args .out .now) (a .pre .0) (a .pre .1) (h .0) (h .1) (v .ensures .0) (v .ensures .1) (c .before .before .save-rest .ensures .0) (c .before .before .save-rest .ensures .1)
 
 pub put-image-spec : {M : Type 1} → statement M
 put-image-spec =
     tie.close
     (tie.spec
-    slice-aggregate-put-lines
+    slice-aggregate-save-head
+    save-head-requires
     put-lines-requires
-    slice-aggregate-save-image
-    sub-save-image
-    part-save-image-start
-    part-save-image-end
-    save-image-requires
-    head-length-requires
-    shift-requires
-    array-share-prefix-text
-    slice-aggregate-copy
-    copy-requires
+    slice-aggregate-save-rest
+    sub-save-rest
+    part-save-rest-start
+    part-save-rest-end
+    save-rest-requires
     add-result
     same-length
     returns)

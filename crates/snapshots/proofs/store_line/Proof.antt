@@ -1,102 +1,61 @@
 use native.Mathlib.Omega.{arith}
-use Prim.Native.Nat.{_+_, _-_, _*_, _≤_, _<_}
-use mathlib.Core.Path.{_≡_, refl, sym, ap, _∙_, subst}
-use Rattle.editions.specs.Block.{editionSize}
-use Rattle.snapshots.specs.Stored.{stored-other, stored-full, stored-one}
+use mathlib.Core.Path.{refl, sym, _∙_}
+use lib.ListN.{length-take}
+use Rattle.snapshots.specs.Stored.{stored-edition, stored-core}
 use borrow.Author.Needs.{needs}
 use Rattle.snapshots.proofs.store_line.Statement.{statement}
 use Rattle.snapshots.proofs.store_line.Tie as tie
 use Rattle.snapshots.proofs.store_line.Reads as reads
 use Rattle.snapshots.proofs.store_line.Lts as lts
-use Rattle.octets.proofs.wide.Reads as wide-reads
-use Rattle.parts.proofs.copy.Reads as copy-reads
+use Rattle.restore.proofs.store_line.Reads as store-line-reads
+use Rattle.snapshots.proofs.store_edition.Reads as store-edition-reads
 
--- src/lib.rt:119:8
+-- src/lib.rt:124:8
 shared-slice-read-if1 : tie.Need-shared-slice-read-if1
 shared-slice-read-if1 c = search needs
 
--- src/lib.rt:120:9
-returns : tie.Need-returns
-returns c = let a = c .before .before .before .before in stored-other (a .args .s .now) (a .args .line .now) (c .if1 .taken)
+-- src/lib.rt:125:9
+store-edition-requires : tie.Need-store-edition-requires
+store-edition-requires c κs = search needs
 
--- src/lib.rt:122:26
-slice-read-wide : tie.Need-slice-read-wide
-slice-read-wide c = search needs
-
--- src/lib.rt:122:9
-wide-requires : tie.Need-wide-requires
-wide-requires c κs = search needs
-
--- src/lib.rt:124:9
-returns-2 : tie.Need-returns-2
-returns-2 c = let a = c .before .before .before .before .before .before .before in let w = c .before .wide .ensures .0 in stored-full (a .args .s .now) (a .args .line .now) (c .before .before .before .if1 .left) (omega arith)
-
--- src/lib.rt:128:30
-mul-copy : tie.Need-mul-copy
-mul-copy c = search needs
-
--- src/lib.rt:128:9
-add-copy : tie.Need-add-copy
-add-copy c = search needs
-
--- src/lib.rt:129:18
-add-copy-2 : tie.Need-add-copy-2
-add-copy-2 c = search needs
-
--- src/lib.rt:129:9
-sub-copy : tie.Need-sub-copy
-sub-copy c = search needs
-
--- src/lib.rt:129:9
-part-copy-start : tie.Need-part-copy-start
-part-copy-start c = search needs
-
--- src/lib.rt:129:9
-part-copy-end : tie.Need-part-copy-end
-part-copy-end c = search needs
-
--- src/lib.rt:126:5
-copy-requires : tie.Need-copy-requires
-copy-requires c κs = search needs
-
--- src/lib.rt:131:35
-add-s : tie.Need-add-s
-add-s c = search needs
-
--- src/lib.rt:131:34
-cast-s : tie.Need-cast-s
-cast-s c = search needs
-
--- src/lib.rt:131:5
-slice-write-s : tie.Need-slice-write-s
-slice-write-s c = search needs
-
--- src/lib.rt:115:1
+-- src/lib.rt:126:9
 same-length : tie.Need-same-length
 same-length c = search needs
 
--- src/lib.rt:115:1
-returns-3 : tie.Need-returns-3
-returns-3 c = let a = c .before .before .before .before .before .before .before .before .before .before .before .before in stored-one (a .args .s .now) (a .args .line .now) (c .before .before .before .before .before .before .wide .result) editionSize (a .pre .0) (a .pre .1) (c .before .before .before .before .before .before .before .before .if1 .left) (c .before .before .before .before .before .before .wide .ensures .0) (omega arith) refl (c .before .before .copy .ensures .0) (c .before .before .copy .ensures .1)
+-- src/lib.rt:126:9
+returns : tie.Need-returns
+returns c = let a = c .before .before .before .before .before .before .before .before in stored-edition (a .args .s .now) (a .args .line .now) (c .before .before .before .before .if1 .taken) (c .before .before .store-edition .ensures)
+
+-- src/lib.rt:128:25
+slice-relend-prefix-store-line : tie.Need-slice-relend-prefix-store-line
+slice-relend-prefix-store-line c = search needs
+
+-- src/lib.rt:128:25
+slice-aggregate-store-line : tie.Need-slice-aggregate-store-line
+slice-aggregate-store-line c = simp length-take (omega arith)
+
+-- src/lib.rt:128:5
+store-line-requires : tie.Need-store-line-requires
+store-line-requires c κs = search needs
+
+-- src/lib.rt:120:1
+same-length-2 : tie.Need-same-length-2
+same-length-2 c = search needs
+
+-- src/lib.rt:120:1
+returns-2 : tie.Need-returns-2
+returns-2 c = let a = c .before .before .before .before .before .before .before .before in stored-core (a .args .s .now) (a .args .line .now) (a .pre .0) (a .pre .1) (c .before .before .before .before .if1 .left) (c .before .before .store-line .ensures) refl
 
 pub store-line-spec : {M : Type 1} → statement M
 store-line-spec =
     tie.close
     (tie.spec
     shared-slice-read-if1
-    returns
-    slice-read-wide
-    wide-requires
-    returns-2
-    mul-copy
-    add-copy
-    add-copy-2
-    sub-copy
-    part-copy-start
-    part-copy-end
-    copy-requires
-    add-s
-    cast-s
-    slice-write-s
+    store-edition-requires
     same-length
-    returns-3)
+    returns
+    slice-relend-prefix-store-line
+    slice-aggregate-store-line
+    store-line-requires
+    same-length-2
+    returns-2)

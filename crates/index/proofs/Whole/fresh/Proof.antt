@@ -1,29 +1,26 @@
 use mathlib.Core.Path.{_∙_}
-use Rattle.index.specs.Begun.{begun-whole}
+use Prim.Native.Nat.{ℕ}
+use lib.ListN.{replicate, length-replicate}
+use Rattle.wholes.specs.Layout.{wholeSize}
+use Rattle.index.specs.Begun.{begun-is}
 use borrow.Author.Needs.{needs}
 use Rattle.index.proofs.Whole.fresh.Statement.{statement}
 use Rattle.index.proofs.Whole.fresh.Tie as tie
 use Rattle.index.proofs.Whole.fresh.Reads as reads
 use Rattle.index.proofs.Whole.fresh.Lts as lts
-use Rattle.index.proofs.open_block.Reads as open-block-reads
-use Rattle.state.proofs.State.fresh.Reads as fresh-reads
-
--- src/lib.rt:77:13
-fresh-requires : tie.Need-fresh-requires
-fresh-requires c κs = search needs
+use Rattle.index.proofs.put_fresh.Reads as put-fresh-reads
 
 -- src/lib.rt:81:32
-slice-aggregate-open-block : tie.Need-slice-aggregate-open-block
-slice-aggregate-open-block c = search needs
+slice-aggregate-put-fresh : tie.Need-slice-aggregate-put-fresh
+slice-aggregate-put-fresh c = search needs
 
 -- src/lib.rt:81:13
-open-block-requires : tie.Need-open-block-requires
-open-block-requires c κs = search needs
+put-fresh-requires : tie.Need-put-fresh-requires
+put-fresh-requires c κs = search needs
 
--- src/lib.rt:74:5
+-- src/lib.rt:77:5
 returns : tie.Need-returns
-returns c = let a = c .before .before .before .before .before .before in let f = c .before .before .before .before .fresh in (f .ensures .0, c .open-block .ensures ∙ begun-whole (a .args .opcode) (a .args .prefix .now) _ (f .ensures .1))
+returns c = let w = c .before .put-fresh .ensures in (w .0, w .1 ∙ begun-is (replicate wholeSize 0) _ _ (length-replicate {A = ℕ} wholeSize 0))
 
 pub fresh-spec : {M : Type 1} → statement M
-fresh-spec =
-    tie.close (tie.spec fresh-requires slice-aggregate-open-block open-block-requires returns)
+fresh-spec = tie.close (tie.spec slice-aggregate-put-fresh put-fresh-requires returns)
