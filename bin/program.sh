@@ -36,7 +36,7 @@ find_program() { # COMMAND CRATE
 }
 
 # Runs a program for people: --help is its page, --version the version; the program writes its exit status on descriptor 3.
-run_program() { # NAME WORD ..
+run_program() { # NAME WORD ..; its crate is $crate, or has its name
     local name=$1 page=$root/man/$1.txt status
     shift
     [ -f "$page" ] || page=$root/libexec/bournejade/$name.txt
@@ -53,7 +53,7 @@ run_program() { # NAME WORD ..
     fi
     # A closed standard input would be taken by the next file that is opened.
     { : 9<&0; } 2>/dev/null || exec </dev/null
-    find_program "$name" "$name"
+    find_program "$name" "${crate:-$name}"
     [ ! -t 2 ] || set -- --progress "$@"
     { status=$("$program" "$@" 3>&1 1>&4); } 4>&1
     exit "${status:-3}"

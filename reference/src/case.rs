@@ -12,6 +12,7 @@ use crate::random::Random;
 use crate::script::{self, Call};
 use crate::state::State;
 use crate::timers::Timers;
+use crate::twin::Twin;
 
 /// One case in so many has addresses that change every 9,000 ticks.
 const QUARTERS: u64 = 1000;
@@ -86,6 +87,38 @@ pub fn case(seed: u64, index: u64) -> Case {
     let again = program::output(&mut History::default(), &image, &text, &additions);
     assert_eq!(expected, again, "the engines differ: seed {seed}, case {index}");
     Case { image, journal: text, additions, expected }
+}
+
+/// Session `index` of a seed from its start, for the slow twin (document 02, T-07): a fresh image with all editions that the
+/// session was given, and the whole journal; at times with seen lines behind it, a gap, damage or a last piece without LF.
+/// Some sessions have more than 128 frames.
+pub fn whole(seed: u64, index: u64) -> Case {
+    let mut random = Random::of(seed ^ 0x7E11, index);
+    let length = 60 + random.below(240);
+    let calls = match index % FULL {
+        3 => generate::full(seed, index, length),
+        _ => generate::session(seed, index, length),
+    };
+    let Call::Start { opcode, prefix } = &calls[0] else { panic!("a session starts") };
+    let base = State::fresh(*opcode, prefix);
+    let run = unbroken(&base, &calls[1..]);
+    let mut fresh = Timers::default();
+    fresh.adopt(&base);
+    for line in lines::split(&run.additions.concat()) {
+        let (from, prefix) = edition::addition(line).expect("an addition's line");
+        fresh.add_edition(from, &prefix).expect("accepted by the session");
+    }
+    let image = image::text(&fresh.state());
+    let mut text = journal(&run.frames, 1);
+    match random.below(10) {
+        0 => text = texts::damage(&mut random, &text),
+        1 => text.extend(journal(&run.frames, 1 + random.below(run.frames.len() + 1))),
+        2 => text.extend(lines::write(&[3, 0xFF, 0xFF, 0, 0])),
+        3 => text.extend(&lines::write(&[3, 1, 0, 0, 0])[..random.below(11)]),
+        _ => (),
+    }
+    let expected = program::output(&mut Twin::default(), &image, &text, &[]);
+    Case { image, journal: text, additions: Vec::new(), expected }
 }
 
 /// An addition that 14 or 15 refuses, or one for any frame.

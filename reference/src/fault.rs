@@ -225,6 +225,8 @@ faults! {
     PassedEditionRefused: "an image with a second edition at or below the position is refused",
     EditionOrderNotChecked: "an image whose editions do not rise is taken",
     InForceNotChecked: "an image whose A0 has another prefix than the edition in force is taken",
+    // T-07; a stop one tick late and a start without room are above.
+    WindowSinceReport: "a window begins at the last report",
     ;
     // T-06: a condition matches if either text does, whichever is looked at first.
     ScanFirst: "the scan response is looked at first",

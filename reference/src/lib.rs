@@ -35,3 +35,4 @@ pub mod refusal;
 pub mod script;
 pub mod state;
 pub mod timers;
+pub mod twin;

@@ -3,7 +3,7 @@
 use reference::engine::Engine;
 use reference::fault::{Fault, VECTOR_FAULTS};
 use reference::state::Device;
-use reference::{calls, case, cases, census, compare, cost, history::History, month, program, timers::Timers};
+use reference::{calls, case, cases, census, compare, cost, history::History, month, program, timers::Timers, twin::Twin};
 use std::io::{self, Write};
 use std::path::Path;
 use std::process::ExitCode;
@@ -16,10 +16,12 @@ reference replay IMAGE JOURNAL ADDITIONS   the same, with editions of the prefix
 reference replay IMAGE JOURNAL [ADDITIONS] N   the same with wrong build N switched on (docs/RELIABILITY.md); a word
                                     of digits is a number, not a file
 reference history IMAGE JOURNAL [ADDITIONS]   the same by the history rule
+reference twin IMAGE JOURNAL [ADDITIONS]   the same by the slow twin: a fresh image, at most 128 frames
 reference calls DIR SEED COUNT      writes DIR/stdin and DIR/stdout: COUNT scripts for crates/calls_run
 reference calls DIR SEED COUNT N    the same scripts, and what wrong build N gives
 reference cases DIR SEED COUNT      writes COUNT cases: DIR/N.image, N.journal, N.expected, and where there are any
                                     N.additions
+reference sessions DIR SEED COUNT   writes COUNT whole sessions for the slow twin: DIR/N.image, fresh, N.journal, N.expected
 reference answers IMAGE JOURNAL     each executed frame's events in hexadecimal, a line for each frame; then the number
                                     of the refusal that stopped the journal, or a dash; 10 alone for a refused image
 reference watchers IMAGE TYPE ADDRESS   how many monitors watch a device, and the lowest handle
@@ -61,6 +63,7 @@ fn run(arguments: &[&str]) -> Result<Vec<u8>, (u8, String)> {
         }
         ["answers", image, journal] => Ok(program::answers(&mut Timers::default(), &read(image)?, &read(journal)?)),
         ["history", image, journal, rest @ ..] => replay(&mut History::default(), image, journal, rest),
+        ["twin", image, journal, rest @ ..] => replay(&mut Twin::default(), image, journal, rest),
         ["calls", folder, seed, count] => {
             write_calls(Path::new(folder), number(seed)?, number(count)?, Fault::None)
         }
@@ -68,7 +71,8 @@ fn run(arguments: &[&str]) -> Result<Vec<u8>, (u8, String)> {
             let fault = Fault::of_number(number(fault)? as usize).ok_or_else(usage)?;
             write_calls(Path::new(folder), number(seed)?, number(count)?, fault)
         }
-        ["cases", folder, seed, count] => write_cases(Path::new(folder), number(seed)?, number(count)?),
+        ["cases", folder, seed, count] => write_cases(Path::new(folder), number(seed)?, number(count)?, case::case),
+        ["sessions", folder, seed, count] => write_cases(Path::new(folder), number(seed)?, number(count)?, case::whole),
         ["month", "--join", sites @ ..] if sites.len() % 2 == 0 => joined(sites),
         ["month", image, journal] => rows(&read(image)?, &read(journal)?),
         ["watchers", image, kind, address] => watchers(&read(image)?, kind, address),
@@ -191,11 +195,16 @@ fn read(path: &str) -> Result<Vec<u8>, (u8, String)> {
     fs::read(path).map_err(|error| (3, format!("{path}: {error}\n")))
 }
 
-fn write_cases(folder: &Path, seed: u64, count: u64) -> Result<Vec<u8>, (u8, String)> {
+fn write_cases(
+    folder: &Path,
+    seed: u64,
+    count: u64,
+    made: fn(u64, u64) -> case::Case,
+) -> Result<Vec<u8>, (u8, String)> {
     let failed = |error: io::Error| (3, format!("{}: {error}\n", folder.display()));
     fs::create_dir_all(folder).map_err(failed)?;
     for index in 1..=count {
-        let case = case::case(seed, index);
+        let case = made(seed, index);
         for (ending, text) in [
             ("image", &case.image),
             ("journal", &case.journal),

@@ -12,6 +12,8 @@ pub enum Refusal {
     Unsound,
     Settings,
     NotAnImage,
+    /// Document 02, T-07: the twin's list of frames is full.
+    FramesFull,
     /// Document 02, T-09: a total would pass 64 bits.
     Total,
     ListFull,
@@ -32,6 +34,7 @@ impl Refusal {
             Refusal::Unsound => 7,
             Refusal::Settings => 9,
             Refusal::NotAnImage => 10,
+            Refusal::FramesFull => 11,
             Refusal::Total => 12,
             Refusal::ListFull => 13,
             Refusal::NotRising => 14,

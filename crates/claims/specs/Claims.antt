@@ -21,7 +21,7 @@ use Rattle.totals.specs.Join as join
 use Rattle.totals.specs.Join.{joinOf}
 use Rattle.sessions.specs.Session.{image}
 use Rattle.sessions.specs.Saved.{replayLines}
-use Rattle.sessions.specs.Additions.{Act}
+use Rattle.sessions.specs.Additions.{Act, framesOn}
 use Rattle.model.specs.Block.{held}
 use Rattle.model.specs.Sound.{soundSettings}
 use Rattle.model.specs.Rows.{right}
@@ -54,6 +54,12 @@ use Rattle.months.specs.Claims.{noRows}
 use Rattle.month.specs.Outcomes.{at}
 use Rattle.cuts.specs.Cut.{CutLaw}
 use Rattle.cuts.specs.Calls as cuts
+use Rattle.twins.specs.Twin.{mostKept}
+use Rattle.twins.specs.Claim.{tells}
+use Rattle.twins.specs.Proved.{beganOn, wholeBy}
+use Rattle.twin.specs.Calls.{beginBlock}
+use Rattle.agreement.specs.Claim.{blockBy}
+use Rattle.agreement.specs.Proved as agreement
 
 -- DEMAND 2. Lines read back to what was written: the lines of frames are exactly the texts of frames, and of each octets there is one text.
 pub lines-exactly : (t : List ℕ)
@@ -99,6 +105,12 @@ pub demand3-library : (opcode : ℕ) (prefix fresh : List ℕ) (r : ℕ) → r �
     → Seen fresh before at → Gave (image engine (length out) at) at out at left n 0 → Seen at later end
     → TakenOver (heardIn before) (heardIn later) (acceptedIn later) at end (take n left)
 demand3-library = linked.taken-over
+
+-- T-07: for every list of calls of which the first engine executes at most 128 frames, the slow twin and the first engine, with the same settings, give equal
+-- answers, refusals and images, call by call: over the blocks that the contracts of both cite.
+pub t07 : (opcode : ℕ) (prefix : List ℕ) (calls : List (Act gateways growing)) → framesOn gateways growing (beganOn opcode prefix) calls ≤ mostKept
+    → tells blockBy (beginBlock opcode prefix) calls ≡ tells wholeBy (begin opcode prefix) calls
+t07 = agreement.agree
 
 -- T-08: the cost of a match.
 pub t08 : (condition adv scan : List ℕ) → length condition ≤ 64 → length adv ≤ 31 → length scan ≤ 31 → matchCost condition adv scan ≤ 900

@@ -77,6 +77,10 @@ impl Timers {
         if pair.window_ticks < period {
             return Vec::new();
         }
+        if fault == Fault::WindowSinceReport && pair.packets == 0 {
+            pair.window_ticks -= 1;
+            return Vec::new();
+        }
         pair.window_ticks = 0;
         if filter_off && fault == Fault::WindowKeptWhileOff {
             return Vec::new();
