@@ -36,7 +36,8 @@ find_program() { # COMMAND CRATE
 }
 
 # Runs a program for people: --help is its page, --version the version; the program writes its exit status on descriptor 3.
-run_program() { # NAME WORD ..; its crate is $crate, or has its name
+# $crate is the crate's name where it is another one; $quick is set where no input is long, and nothing is told on the way.
+run_program() { # NAME WORD ..
     local name=$1 page=$root/man/$1.txt status
     shift
     [ -f "$page" ] || page=$root/libexec/bournejade/$name.txt
@@ -54,7 +55,7 @@ run_program() { # NAME WORD ..; its crate is $crate, or has its name
     # A closed standard input would be taken by the next file that is opened.
     { : 9<&0; } 2>/dev/null || exec </dev/null
     find_program "$name" "${crate:-$name}"
-    [ ! -t 2 ] || set -- --progress "$@"
+    [ -n "${quick:-}" ] || [ ! -t 2 ] || set -- --progress "$@"
     { status=$("$program" "$@" 3>&1 1>&4); } 4>&1
     exit "${status:-3}"
 }

@@ -1,15 +1,16 @@
 // The program of the month's end: `month [--csv] [IMAGE JOURNAL ..] [--rows FILE ..]` restores each image, counts its journal a line at a
 // time, reads each file of rows back and writes the sixteen rows, those of several sites joined (document 02, T-09 and T-10): a table, or
 // comma-separated values. Where a journal stopped, the refusal's number follows on a line; a refused image or a refused join gives only the
-// number. What is counted, joined, written and read back is the crates' month and sheets; here are files and arguments. A program has no
-// exit status: bin/month gives one.
+// number. What is counted, joined, written and read back is the crates' month and sheets; here are files and arguments.
 mod journal;
 mod rows;
 mod site;
 
 use libc::STDERR_FILENO;
 use libc::STDOUT_FILENO;
+use texts::words;
 use totals::Row;
+ghost use Prim.Native.Nat.{_≤_};
 
 // The rows so far, whether to go on, and the number of the refusal, 0 for none.
 pub struct Month {
@@ -23,13 +24,7 @@ fn usage() {
         STDERR_FILENO,
         b"usage: month [--csv] [IMAGE JOURNAL ..] [--rows FILE ..]\n",
     );
-}
-
-// Whether a word of the command is a given one.
-fn is(at: usize, word: &[u8]) -> bool {
-    let mut buf = io::buffer();
-    let n = os::arg(at, &mut buf);
-    parts::same(&buf[..n], word)
+    shell::status(shell::USAGE);
 }
 
 // Writes a word of the command on standard error, behind a mark.
@@ -76,12 +71,12 @@ fn with_site(all: Month, one: Month, first: usize, last: usize) -> Month {
 }
 
 // The site of an image's name and a journal's, counted.
-fn named(first: usize, second: usize) -> Month {
+fn named(first: usize, second: usize, progress: bool) -> Month {
     let mut image = io::buffer();
     let n = os::arg(first, &mut image);
     let mut name = io::buffer();
     let k = os::arg(second, &mut name);
-    site::counted(&image[..n], &name[..k])
+    site::counted(&image[..n], &name[..k], progress)
 }
 
 // The site of a file of rows, read back.
@@ -92,7 +87,7 @@ fn listed(at: usize) -> Month {
 }
 
 // The sites counted, in order; the first that does not run through ends it.
-fn pairs(first: usize, end: usize) -> Month {
+fn pairs(first: usize, end: usize, progress: bool) -> Month {
     let mut all = Month {
         rows: totals::no_rows(),
         goes: true,
@@ -103,7 +98,7 @@ fn pairs(first: usize, end: usize) -> Month {
         if site::ends(all.goes, all.number) {
             return all;
         }
-        let one = named(at, at + 1);
+        let one = named(at, at + 1, progress);
         let next = with_site(all, one, at, at + 1);
         all = next;
         if end - at < 2 {
@@ -130,23 +125,53 @@ fn files(before: Month, first: usize, end: usize) -> Month {
     all
 }
 
-// What is written of them.
+// The exit status of rows that were written, or of a refusal's number; a file that failed has told its own.
+fn status_of(goes: bool, number: u8) {
+    if !goes {
+        if number != 0 {
+            shell::status(number);
+        }
+        return;
+    }
+    if number != 0 {
+        shell::status(shell::STOPPED);
+        return;
+    }
+    shell::status(shell::THROUGH);
+}
+
+// Whether a refusal's number was written, where there is one.
+fn put_number(number: u8) -> bool {
+    if number == 0 {
+        return true;
+    }
+    let t = words::said(words::blank(), b"", number as u64);
+    shell::put(STDOUT_FILENO, words::with(t, b"\n"))
+}
+
+// What is written of them, and the exit status.
 fn show(all: Month, csv: bool) {
     let rows = all.rows;
+    let mut good = true;
     if all.goes {
-        rows::show(rows, csv);
+        good = rows::show(rows, csv);
     }
-    if all.number != 0 {
-        io::print_decimal(STDOUT_FILENO, all.number as u64);
-        io::write_all(STDOUT_FILENO, b"\n");
+    if good {
+        good = put_number(all.number);
     }
+    if !good {
+        os::fail(b"standard output");
+        shell::status(shell::FAILED);
+        return;
+    }
+    status_of(all.goes, all.number);
 }
 
 // Where `--rows` stands among the words; their number where it does not.
 fn rows_word(first: usize, words: usize) -> usize {
     let mut at = first;
     while at < words {
-        if is(at, b"--rows") {
+        if shell::is(at, b"--rows") {
             return at;
         }
         at += 1;
@@ -168,13 +193,30 @@ fn fits(first: usize, mark: usize, words: usize) -> bool {
     first < words
 }
 
-fn run(first: usize, words: usize, csv: bool) {
+// How many words are a dash.
+fn dashes(first: usize, words: usize) -> u64 {
+    let mut count = 0;
+    let mut at = first;
+    while at < words {
+        if shell::is(at, b"-") {
+            count = std::num::wrapping_add_u64(count, 1);
+        }
+        at += 1;
+    }
+    count
+}
+
+fn run(first: usize, words: usize, csv: bool, progress: bool) {
     let mark = rows_word(first, words);
     if !fits(first, mark, words) {
         usage();
         return;
     }
-    let counted = pairs(first, mark);
+    if 1 < dashes(first, words) {
+        usage();
+        return;
+    }
+    let counted = pairs(first, mark, progress);
     if mark < words {
         show(files(counted, mark + 1, words), csv);
         return;
@@ -182,15 +224,22 @@ fn run(first: usize, words: usize, csv: bool) {
     show(counted, csv);
 }
 
+// The options before the names.
+fn begin(first: usize, words: usize, progress: bool)
+    requires { ⌜ first ≤ 2 ⌝ }
+{
+    if shell::is(first, b"--csv") {
+        run(first + 1, words, true, progress);
+        return;
+    }
+    run(first, words, false, progress);
+}
+
 fn main() {
     let words = os::arg_count();
-    if words < 2 {
-        usage();
+    if shell::is(1, b"--progress") {
+        begin(2, words, true);
         return;
     }
-    if is(1, b"--csv") {
-        run(2, words, true);
-        return;
-    }
-    run(1, words, false);
+    begin(1, words, false);
 }

@@ -1,57 +1,51 @@
 // Rows written.
 use libc::STDOUT_FILENO;
+use texts::Text;
+use texts::words;
 use totals::Row;
 
 // Refusal 12: a total would pass 64 bits.
 pub const PASSES: u8 = 12;
 
-fn put(text: &[u8]) {
-    io::write_all(STDOUT_FILENO, text);
-}
-
-fn put_sum(sum: i64) {
+// A sum behind a word.
+fn with_sum(t: Text, word: &[u8], sum: i64) -> Text {
+    let a = words::with(t, word);
     if sum < 0 {
-        put(b"-");
+        return words::said(a, b"-", sheets::size_of(sum));
     }
-    io::print_decimal(STDOUT_FILENO, sheets::size_of(sum));
+    words::said(a, b"", sheets::size_of(sum))
 }
 
-// A count behind a word.
-fn put_count(word: &[u8], n: u64) {
-    put(word);
-    io::print_decimal(STDOUT_FILENO, n);
-}
-
-// The rows as comma-separated values.
-fn put_text(rows: [Row; Row::TABLE]) {
+// The rows as comma-separated values; whether they were written.
+fn put_text(rows: [Row; Row::TABLE]) -> bool {
     let mut text = [0u8; sheets::ROOM];
     let n = sheets::write(&mut text, rows);
-    put(&text[..n]);
+    io::write_all(STDOUT_FILENO, &text[..n])
 }
 
 // One row of the table; the mean is the pair of the sum and the packets.
-fn put_row(h: usize, r: Row) {
-    put_count(b"handle ", h as u64);
-    put_count(b"\tpackets ", r.packets);
-    put_count(b"\treports ", r.reports);
-    put_count(b"\tticks ", r.ticks);
-    put(b"\trssi sum ");
-    put_sum(r.sum);
-    put(b"\tmean ");
-    put_sum(r.sum);
-    put_count(b"/", r.packets);
-    put(b"\n");
+fn row_text(h: usize, r: Row) -> Text {
+    let a = words::said(words::blank(), b"handle ", h as u64);
+    let b = words::said(a, b"\tpackets ", r.packets);
+    let c = words::said(b, b"\treports ", r.reports);
+    let d = words::said(c, b"\tticks ", r.ticks);
+    let e = with_sum(d, b"\trssi sum ", r.sum);
+    let f = with_sum(e, b"\tmean ", r.sum);
+    words::with(words::said(f, b"/", r.packets), b"\n")
 }
 
-pub(super) fn show(rows: [Row; Row::TABLE], csv: bool) {
+// Whether they were written.
+pub(super) fn show(rows: [Row; Row::TABLE], csv: bool) -> bool {
     if csv {
-        put_text(rows);
-        return;
+        return put_text(rows);
     }
     let mut h = 0;
     while h < Row::TABLE {
         let r = rows[h];
-        put_row(h, r);
+        if !shell::put(STDOUT_FILENO, row_text(h, r)) {
+            return false;
+        }
         h += 1;
     }
+    true
 }

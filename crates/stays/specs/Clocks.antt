@@ -10,9 +10,16 @@ use lib.ListN.{length}
 use Rattle.laws.specs.Tests.{pick, pick-true, pick-false, and-left, and-right}
 use Rattle.octets.specs.Numbers.{numberAt}
 
+-- characters: the last digit, and the one behind it
+abbrev pub nine : ℕ
+nine = 48 + 9
+
+abbrev pub colon : ℕ
+colon = 48 + 10
+
 -- the number of two decimal digits at an index; 100 where there are none
 unfoldable pub isDigit : ℕ → Bool
-isDigit c = leb 48 c && leb c 57
+isDigit c = leb 48 c && leb c nine
 
 unfoldable pub twoAt : List ℕ → ℕ → ℕ
 twoAt w i =
@@ -21,30 +28,30 @@ twoAt w i =
 -- eight characters, colons at their places, a time of day
 unfoldable pub isTime : List ℕ → Bool
 isTime w =
-    (eqb (length w) 8 && eqb (numberAt 1 w 2) 58 && eqb (numberAt 1 w 5) 58) && (ltb (twoAt w 0) 24 && ltb (twoAt w 3) 60 && ltb (twoAt w 6) 60)
+    (eqb (length w) 8 && eqb (numberAt 1 w 2) colon && eqb (numberAt 1 w 5) colon) && (ltb (twoAt w 0) 24 && ltb (twoAt w 3) 60 && ltb (twoAt w 6) 60)
 
 -- its ticks since midnight
 unfoldable pub timeIn : List ℕ → ℕ
 timeIn w = (twoAt w 0 * 3600 + twoAt w 3 * 60 + twoAt w 6) * 10
 
--- digits are at least 48 and at most 57
-pub digits-in : (a b : ℕ) {p q : Bool} → p ≡ (leb 48 a && leb a 57) → q ≡ (leb 48 b && leb b 57) → (p && q) ≡ true
-    → (48 ≤ a) × (a ≤ 57) × (48 ≤ b) × (b ≤ 57)
+-- digits are at least 48 and at most nine
+pub digits-in : (a b : ℕ) {p q : Bool} → p ≡ (leb 48 a && leb a nine) → q ≡ (leb 48 b && leb b nine) → (p && q) ≡ true
+    → (48 ≤ a) × (a ≤ nine) × (48 ≤ b) × (b ≤ nine)
 digits-in a b {p} {q} e f t =
-    let x : (leb 48 a && leb a 57) ≡ true = sym e ∙ and-left p q t in
-    let y : (leb 48 b && leb b 57) ≡ true = sym f ∙ and-right p q t in (
-      leb-true 48 a (and-left (leb 48 a) (leb a 57) x),
-      leb-true a 57 (and-right (leb 48 a) (leb a 57) x),
-      leb-true 48 b (and-left (leb 48 b) (leb b 57) y),
-      leb-true b 57 (and-right (leb 48 b) (leb b 57) y),
+    let x : (leb 48 a && leb a nine) ≡ true = sym e ∙ and-left p q t in
+    let y : (leb 48 b && leb b nine) ≡ true = sym f ∙ and-right p q t in (
+      leb-true 48 a (and-left (leb 48 a) (leb a nine) x),
+      leb-true a nine (and-right (leb 48 a) (leb a nine) x),
+      leb-true 48 b (and-left (leb 48 b) (leb b nine) y),
+      leb-true b nine (and-right (leb 48 b) (leb b nine) y),
     )
 
-module _ (w : List ℕ) (i a b : ℕ) {p q : Bool} (ea : a ≡ numberAt 1 w i) (eb : b ≡ numberAt 1 w (i + 1)) (e : p ≡ (leb 48 a && leb a 57)) (f : q ≡ (leb 48 b && leb b 57)) where
+module _ (w : List ℕ) (i a b : ℕ) {p q : Bool} (ea : a ≡ numberAt 1 w i) (eb : b ≡ numberAt 1 w (i + 1)) (e : p ≡ (leb 48 a && leb a nine)) (f : q ≡ (leb 48 b && leb b nine)) where
   test : (p && q) ≡ (isDigit (numberAt 1 w i) && isDigit (numberAt 1 w (i + 1)))
   unfolding isDigit
   test =
-      ap (λ (x : Bool). x && q) (e ∙ ap (λ (x : ℕ). leb 48 x && leb x 57) ea)
-      ∙ ap (λ (x : Bool). (leb 48 (numberAt 1 w i) && leb (numberAt 1 w i) 57) && x) (f ∙ ap (λ (x : ℕ). leb 48 x && leb x 57) eb)
+      ap (λ (x : Bool). x && q) (e ∙ ap (λ (x : ℕ). leb 48 x && leb x nine) ea)
+      ∙ ap (λ (x : Bool). (leb 48 (numberAt 1 w i) && leb (numberAt 1 w i) nine) && x) (f ∙ ap (λ (x : ℕ). leb 48 x && leb x nine) eb)
 
   pub two-some : (p && q) ≡ true → (10 * (a - 48) + (b - 48) ≡ twoAt w i) × (10 * (a - 48) + (b - 48) ≤ 100)
   unfolding twoAt
@@ -60,6 +67,6 @@ module _ (w : List ℕ) (i a b : ℕ) {p q : Bool} (ea : a ≡ numberAt 1 w i) (
   two-none t = (sym (pick-false (10 * (numberAt 1 w i - 48) + (numberAt 1 w (i + 1) - 48)) 100 (sym test ∙ t)), omega arith)
 
 pub clock-so : (w : List ℕ) {h m s x y : ℕ} → h ≡ twoAt w 0 → m ≡ twoAt w 3 → s ≡ twoAt w 6 → x ≡ numberAt 1 w 2 → y ≡ numberAt 1 w 5
-    → (((eqb (length w) 8 && eqb x 58 && eqb y 58) && (ltb h 24 && ltb m 60 && ltb s 60)) ≡ isTime w) × ((h * 3600 + m * 60 + s) * 10 ≡ timeIn w)
+    → (((eqb (length w) 8 && eqb x colon && eqb y colon) && (ltb h 24 && ltb m 60 && ltb s 60)) ≡ isTime w) × ((h * 3600 + m * 60 + s) * 10 ≡ timeIn w)
 unfolding isTime timeIn
 clock-so w a b c d e = (rw (a, b, c, d, e), rw (a, b, c))

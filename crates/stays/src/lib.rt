@@ -6,7 +6,7 @@ ghost use lib.ListN.{length, take};
 ghost use Rattle.texts.specs.Text.{room, told};
 ghost use mathlib.Core.Bool.{_&&_};
 ghost use lib.Dec.{leb};
-ghost use Rattle.stays.specs.Clocks.{twoAt, isTime, timeIn};
+ghost use Rattle.stays.specs.Clocks.{nine, twoAt, isTime, timeIn};
 ghost use Rattle.stays.specs.Rows.{gapOf, noneText, quoteText, dayText, momentText, frameOr, momentOr, endedText, meanOr, leadOf, blanksOf, putText, endText, rowText};
 use texts::Text;
 use texts::words;
@@ -43,7 +43,7 @@ pub struct Row {
 }
 
 // A day's colon, and what is above every number of two digits.
-const COLON: u8 = 58;
+const COLON: u8 = b':';
 
 const NO_NUMBER: u32 = 100;
 
@@ -80,7 +80,7 @@ fn quote(t: Text, style: u8) -> Text
 }
 
 // The days since the first tick's.
-fn day(t: Text, days: u64) -> Text
+pub fn day(t: Text, days: u64) -> Text
     ensures { λ r. ⌜ told r ≡ take room (told t ++ dayText days) ⌝ }
 {
     if days == 0 {
@@ -90,7 +90,7 @@ fn day(t: Text, days: u64) -> Text
 }
 
 // A tick's time: since the first tick, or of the day.
-fn moment(t: Text, clock: Clock, tick: u32) -> Text
+pub fn moment(t: Text, clock: Clock, tick: u32) -> Text
     ensures { λ r. ⌜ told r ≡ take room (told t ++ momentText (clock .given) (clock .from) tick) ⌝ }
 {
     if clock.given {
@@ -123,7 +123,7 @@ fn moment_or(t: Text, style: u8, clock: Clock, frame: u32, tick: u32) -> Text
 }
 
 // How a visit ended, in words.
-fn ended(t: Text, how: u8) -> Text
+pub fn ended(t: Text, how: u8) -> Text
     ensures { λ r. ⌜ told r ≡ take room (told t ++ endedText how) ⌝ }
 {
     if how == SILENCE {
@@ -260,9 +260,9 @@ pub fn written(style: u8, clock: Clock, row: Row) -> Text
 
 // Whether a character is a decimal digit.
 fn is_digit(c: u8) -> bool
-    ensures { λ r. ⌜ r ≡ (leb 48 c && leb c 57) ⌝ }
+    ensures { λ r. ⌜ r ≡ (leb 48 c && leb c nine) ⌝ }
 {
-    (48 <= c) & (c <= 57)
+    (b'0' <= c) & (c <= b'9')
 }
 
 // The number of the two decimal digits at an index of a word; 100 where there are none.

@@ -43,7 +43,7 @@ pub struct Form {
 }
 
 // The tick of a frame by the ticks up to it: the first tick is tick 0.
-fn tick_of(ticks: u32) -> u32 {
+pub(super) fn tick_of(ticks: u32) -> u32 {
     if ticks == 0 {
         return 0;
     }
@@ -61,14 +61,22 @@ fn ticks_with(ticks: u32, kind: u8) -> u32 {
 }
 
 // A run with another book, and a row of a closed visit written.
-fn closed(run: Run, form: Form, change: visit::Change, frame: u32, tick: u32, how: u8) -> Run {
+fn closed(
+    run: Run,
+    form: Form,
+    kept: &mut [u8; bars::SIZE],
+    change: visit::Change,
+    frame: u32,
+    tick: u32,
+    how: u8,
+) -> Run {
     let book = change.rows;
     let v = change.visit;
     let mut rows = run.rows;
     let mut goes = run.goes;
     if change.closed {
         let clock = form.clock;
-        goes = rows::show(form.style, clock, rows, v, frame, tick, how);
+        goes = rows::show(form.style, clock, kept, rows, v, frame, tick, how);
         rows = std::num::wrapping_add_u64(rows, 1);
     }
     Run {
@@ -89,7 +97,14 @@ fn how_of(kind: u8) -> u8 {
 }
 
 // The events of an answer.
-fn walk(run: Run, form: Form, answer: &[u8], kind: u8, frame: u32) -> Run {
+fn walk(
+    run: Run,
+    form: Form,
+    kept: &mut [u8; bars::SIZE],
+    answer: &[u8],
+    kind: u8,
+    frame: u32,
+) -> Run {
     let n = answer.len();
     let mut now = run;
     let mut at = 0;
@@ -98,7 +113,7 @@ fn walk(run: Run, form: Form, answer: &[u8], kind: u8, frame: u32) -> Run {
         let book = now.book;
         let tick = tick_of(now.ticks);
         let change = visit::follow(book, &answer[at..e], frame, tick);
-        let next = closed(now, form, change, frame, tick, how_of(kind));
+        let next = closed(now, form, kept, change, frame, tick, how_of(kind));
         now = next;
         at = e;
     }
@@ -106,14 +121,22 @@ fn walk(run: Run, form: Form, answer: &[u8], kind: u8, frame: u32) -> Run {
 }
 
 // The visits of a range of keys closed, at most as many as the book has.
-pub(super) fn close_all(run: Run, form: Form, low: u64, high: u64, frame: u32, how: u8) -> Run {
+pub(super) fn close_all(
+    run: Run,
+    form: Form,
+    kept: &mut [u8; bars::SIZE],
+    low: u64,
+    high: u64,
+    frame: u32,
+    how: u8,
+) -> Run {
     let mut now = run;
     let mut i = 0;
     while i < State::PAIRS {
         let book = now.book;
         let tick = tick_of(now.ticks);
         let change = visit::close(book, low, high);
-        let next = closed(now, form, change, frame, tick, how);
+        let next = closed(now, form, kept, change, frame, tick, how);
         now = next;
         i += 1;
     }
@@ -121,7 +144,14 @@ pub(super) fn close_all(run: Run, form: Form, low: u64, high: u64, frame: u32, h
 }
 
 // A command: where it cancelled a monitor, its visits are closed.
-fn commanded(run: Run, form: Form, frame: &[u8], answer: &[u8], number: u32) -> Run {
+fn commanded(
+    run: Run,
+    form: Form,
+    kept: &mut [u8; bars::SIZE],
+    frame: &[u8],
+    answer: &[u8],
+    number: u32,
+) -> Run {
     if octets::get8(frame, SUB_AT) != CANCEL {
         return run;
     }
@@ -136,6 +166,7 @@ fn commanded(run: Run, form: Form, frame: &[u8], answer: &[u8], number: u32) -> 
     close_all(
         run,
         form,
+        kept,
         low,
         low + (DEVICES - 1),
         number,
@@ -163,7 +194,13 @@ fn heard(run: Run, frame: &[u8]) -> Run {
 }
 
 // What an executed frame does, by its kind.
-pub(super) fn by_kind(run: Run, form: Form, frame: &[u8], answer: &[u8]) -> Run {
+pub(super) fn by_kind(
+    run: Run,
+    form: Form,
+    kept: &mut [u8; bars::SIZE],
+    frame: &[u8],
+    answer: &[u8],
+) -> Run {
     let kind = octets::get8(frame, 0);
     let number = octets::get32(frame, 1);
     let book = run.book;
@@ -174,12 +211,12 @@ pub(super) fn by_kind(run: Run, form: Form, frame: &[u8], answer: &[u8]) -> Run 
         rows: run.rows,
         goes: run.goes,
     };
-    let walked = walk(ticked, form, answer, kind, number);
+    let walked = walk(ticked, form, kept, answer, kind, number);
     if kind == TICK {
         return walked;
     }
     if kind == COMMAND {
-        return commanded(walked, form, frame, answer, number);
+        return commanded(walked, form, kept, frame, answer, number);
     }
     heard(walked, frame)
 }

@@ -1,8 +1,12 @@
-// The program `visits [--csv|--json] [--from TIME] IMAGE JOURNAL`: restores the image, replays the journal and writes the service record, a row
+// The program `visits [--csv|--json|--svg] [--from TIME] IMAGE JOURNAL`: restores the image, replays the journal and writes the service record, a row
 // for each visit of a device (man/visits.1). What a visit is, is the crate visit's, and its row the crate stays'; here are files and words
 // of the command.
+mod axis;
+mod drawing;
 mod effects;
 mod journal;
+mod legend;
+mod picture;
 mod rows;
 
 use libc::STDERR_FILENO;
@@ -23,7 +27,7 @@ const MOST: usize = 8;
 fn usage() {
     io::write_all(
         STDERR_FILENO,
-        b"usage: visits [--csv|--json] [--from TIME] IMAGE JOURNAL\n",
+        b"usage: visits [--csv|--json|--svg] [--from TIME] IMAGE JOURNAL\n",
     );
     shell::status(shell::USAGE);
 }
@@ -91,6 +95,9 @@ fn styled(progress: bool, at: usize) -> Asked {
     }
     if shell::is(at, b"--json") {
         return clocked(progress, stays::JSON, at + 1);
+    }
+    if shell::is(at, b"--svg") {
+        return clocked(progress, rows::SVG, at + 1);
     }
     clocked(progress, stays::TABLE, at)
 }

@@ -1,24 +1,26 @@
 // The program of the service desk: `watchers IMAGE ADDRESS [TYPE]` restores the image and says how many monitors watch the device and the lowest
 // handle, or that there is none (document 02, T-02). The address is as people write it, the type `public`, which is taken where none is
 // given, or `random`. A refused image gives the refusal's number. What is asked and said is the crate desk's; here are files and
-// arguments. A program has no exit status: bin/watchers gives one.
+// arguments.
 use engine::Loaded;
+use index::Watch;
 use index::Whole;
 use libc::STDERR_FILENO;
-use libc::STDIN_FILENO;
 use libc::STDOUT_FILENO;
 use refusals::Refusal;
 use reports::Text;
 
-// Writes a text to one of the two outputs.
-fn put(fd: i32, text: Text) {
+// The exit status where no monitor watches the device.
+const NOBODY: u8 = 1;
+
+// Writes a text to one of the two outputs; whether it was written.
+fn put(fd: i32, text: Text) -> bool {
     let octets = text.octets;
     let n = text.count;
     if n <= reports::ROOM {
-        if !io::write_all(fd, &octets[..n]) {
-            os::fail(b"output");
-        }
+        return io::write_all(fd, &octets[..n]);
     }
+    false
 }
 
 fn usage() {
@@ -26,6 +28,7 @@ fn usage() {
         STDERR_FILENO,
         b"usage: watchers IMAGE ADDRESS [public|random]\n",
     );
+    shell::status(shell::USAGE);
 }
 
 // A refused image: the refusal's number, and the message behind the file's name.
@@ -35,32 +38,31 @@ fn refuse(image: &[u8], x: Refusal) {
     io::write_all(STDOUT_FILENO, b"\n");
     io::write_all(STDERR_FILENO, image);
     put(STDERR_FILENO, reports::refused(x));
+    shell::status(shell::REFUSED);
+}
+
+// The exit status of an answer.
+fn status_of(w: Watch) -> u8 {
+    match w {
+        Watch::Nobody => NOBODY,
+        _ => shell::THROUGH,
+    }
 }
 
 // Asks the restored state.
 fn answer(state: Whole, kind: u8, address: [u8; 6]) {
     let block = state.block;
-    put(
-        STDOUT_FILENO,
-        desk::sentence(index::ask(&block, kind, &address)),
-    );
-}
-
-// Whether an open file can be read at all: a directory cannot. The reason is on standard error.
-fn reads(fd: i32, image: &[u8]) -> bool {
-    let mut text = [0u8; 1];
-    if libc::read(fd, &mut text[..0]) < 0 {
-        os::fail(image);
-        return false;
+    let w = index::ask(&block, kind, &address);
+    if !put(STDOUT_FILENO, desk::sentence(w)) {
+        os::fail(b"standard output");
+        shell::status(shell::FAILED);
+        return;
     }
-    true
+    shell::status(status_of(w));
 }
 
 // The image of an open file, restored and asked.
 fn ask(fd: i32, image: &[u8], kind: u8, address: [u8; 6]) {
-    if !reads(fd, image) {
-        return;
-    }
     let mut text = [0u8; reports::IMAGE_ROOM];
     let n = io::read_full(fd, &mut text);
     libc::close(fd);
@@ -75,16 +77,10 @@ fn ask(fd: i32, image: &[u8], kind: u8, address: [u8; 6]) {
 
 // The image of a name, `-` for standard input.
 fn open(image: &[u8], kind: u8, address: [u8; 6]) {
-    if reports::is_dash(image) {
-        ask(STDIN_FILENO, image, kind, address);
-        return;
+    let fd = shell::open(image);
+    if fd >= 0 {
+        ask(fd, image, kind, address);
     }
-    let fd = os::open_read(image);
-    if fd < 0 {
-        os::fail(image);
-        return;
-    }
-    ask(fd, image, kind, address);
 }
 
 // The image, the address and the type's number.
@@ -108,6 +104,7 @@ fn with_type(kind: u8) {
     let n = os::arg(1, &mut image);
     if os::errno() != 0 {
         os::fail(b"the image's name");
+        shell::status(shell::FAILED);
         return;
     }
     let mut word = io::buffer();

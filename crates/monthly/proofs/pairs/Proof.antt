@@ -12,10 +12,10 @@ use Rattle.monthly.proofs.with_site.Reads as with-site-reads
 use Rattle.totals.proofs.no_rows.Reads as no-rows-reads
 
 abbrev Inv-loop : tie.InvT-loop
-Inv-loop first end all₀ at₀ all at = 0 ≤ at
+Inv-loop first end progress all₀ at₀ all at = 0 ≤ at
 
 abbrev μ-loop : tie.MeasureT-loop
-μ-loop first end all₀ at₀ all at = end - at
+μ-loop first end progress all₀ at₀ all at = end - at
 
 -- src/main.rt:97:15
 no-rows-requires : tie.Need-no-rows-requires Inv-loop μ-loop

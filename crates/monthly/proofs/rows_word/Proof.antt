@@ -6,7 +6,7 @@ use Rattle.monthly.proofs.rows_word.Statement.{statement}
 use Rattle.monthly.proofs.rows_word.Tie as tie
 use Rattle.monthly.proofs.rows_word.Reads as reads
 use Rattle.monthly.proofs.rows_word.Lts as lts
-use Rattle.monthly.proofs.is.Reads as is-reads
+use Rattle.shell.proofs.is.Reads as is-reads
 
 abbrev Inv-loop : tie.InvT-loop
 Inv-loop first words at₀ t4 at = 0 ≤ at

@@ -8,7 +8,6 @@ use Rattle.watchers.proofs.put.Tie as tie
 use Rattle.watchers.proofs.put.Reads as reads
 use Rattle.watchers.proofs.put.Lts as lts
 use Rattle.io.proofs.write_all.Reads as write-all-reads
-use Rattle.os.proofs.fail.Reads as fail-reads
 
 -- src/main.rt:18:31
 array-share-prefix-octets : tie.Need-array-share-prefix-octets
@@ -22,14 +21,6 @@ slice-aggregate-write-all c = let l : length (c .before .before .before .args .t
 write-all-requires : tie.Need-write-all-requires
 write-all-requires c κs = search needs
 
--- src/main.rt:19:22
-slice-aggregate-fail : tie.Need-slice-aggregate-fail
-slice-aggregate-fail c = search needs
-
--- src/main.rt:19:13
-fail-requires : tie.Need-fail-requires
-fail-requires c κs = search needs
-
 -- src/main.rt:14:1
 returns : tie.Need-returns
 returns c = search needs
@@ -38,10 +29,6 @@ returns c = search needs
 returns-2 : tie.Need-returns-2
 returns-2 c = search needs
 
--- src/main.rt:14:1
-returns-3 : tie.Need-returns-3
-returns-3 c = search needs
-
 pub put-spec : {M : Type 1} → statement M
 put-spec =
     tie.close
@@ -49,8 +36,5 @@ put-spec =
     array-share-prefix-octets
     slice-aggregate-write-all
     write-all-requires
-    slice-aggregate-fail
-    fail-requires
     returns
-    returns-2
-    returns-3)
+    returns-2)

@@ -1,35 +1,38 @@
-use lib.Seq.{length-take-le}
-use mathlib.Core.Path.{_≡_, sym}
 use Rattle.sheets.specs.Writing.{again-low}
+use Prim.Native.Nat.{ℕ, _+_, _-_, _≤_}
+use mathlib.Core.Path.{_≡_, refl, sym}
+use native.Mathlib.Omega.{arith}
+use lib.ListN.{length}
+use lib.Seq.{length-take-le}
 use borrow.Author.Needs.{needs}
 use Rattle.monthly.proofs.rows.put_text.Statement.{statement}
 use Rattle.monthly.proofs.rows.put_text.Tie as tie
 use Rattle.monthly.proofs.rows.put_text.Reads as reads
 use Rattle.monthly.proofs.rows.put_text.Lts as lts
-use Rattle.monthly.proofs.rows.put.Reads as put-reads
+use Rattle.io.proofs.write_all.Reads as write-all-reads
 use Rattle.sheets.proofs.write.Reads as write-reads
 
--- src/rows.rt:28:27
+-- src/rows.rt:22:27
 slice-aggregate-write : tie.Need-slice-aggregate-write
 slice-aggregate-write c = search needs
 
--- src/rows.rt:28:9
+-- src/rows.rt:22:9
 write-requires : tie.Need-write-requires
 write-requires c κs = search needs
 
--- src/rows.rt:29:9
+-- src/rows.rt:23:34
 array-share-prefix-text : tie.Need-array-share-prefix-text
 array-share-prefix-text c = again-low _ _ (c .before .write .ensures)
 
--- src/rows.rt:29:9
-slice-aggregate-put : tie.Need-slice-aggregate-put
-slice-aggregate-put c = sym (length-take-le _ _ (again-low _ _ (c .before .before .write .ensures)))
+-- src/rows.rt:23:34
+slice-aggregate-write-all : tie.Need-slice-aggregate-write-all
+slice-aggregate-write-all c = sym (length-take-le _ _ (again-low _ _ (c .before .before .write .ensures)))
 
--- src/rows.rt:29:5
-put-requires : tie.Need-put-requires
-put-requires c κs = search needs
+-- src/rows.rt:23:5
+write-all-requires : tie.Need-write-all-requires
+write-all-requires c κs = search needs
 
--- src/rows.rt:26:1
+-- src/rows.rt:20:1
 returns : tie.Need-returns
 returns c = search needs
 
@@ -40,6 +43,6 @@ put-text-spec =
     slice-aggregate-write
     write-requires
     array-share-prefix-text
-    slice-aggregate-put
-    put-requires
+    slice-aggregate-write-all
+    write-all-requires
     returns)

@@ -10,10 +10,10 @@ use Rattle.visits.proofs.effects.closed.Reads as closed-reads
 use Rattle.visits.proofs.effects.tick_of.Reads as tick-of-reads
 
 abbrev Inv-loop : tie.InvT-loop
-Inv-loop form low high frame how now₀ i₀ now i = i ≤ 64
+Inv-loop form kept₀ low high frame how now₀ i₀ kept now i = i ≤ 64
 
 abbrev μ-loop : tie.MeasureT-loop
-μ-loop form low high frame how now₀ i₀ now i = 64 - i
+μ-loop form kept₀ low high frame how now₀ i₀ kept now i = 64 - i
 
 -- src/effects.rt:112:5
 loop-holds : tie.Need-loop-holds Inv-loop μ-loop

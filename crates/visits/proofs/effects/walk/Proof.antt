@@ -13,10 +13,10 @@ use Rattle.visits.proofs.effects.how_of.Reads as how-of-reads
 use Rattle.visits.proofs.effects.tick_of.Reads as tick-of-reads
 
 abbrev Inv-loop : tie.InvT-loop
-Inv-loop form answer kind frame n now₀ at₀ now at = at ≤ length answer
+Inv-loop form kept₀ answer kind frame n now₀ at₀ kept now at = at ≤ length answer
 
 abbrev μ-loop : tie.MeasureT-loop
-μ-loop form answer kind frame n now₀ at₀ now at = n - at
+μ-loop form kept₀ answer kind frame n now₀ at₀ kept now at = n - at
 
 -- src/effects.rt:96:5
 loop-holds : tie.Need-loop-holds Inv-loop μ-loop
@@ -60,11 +60,11 @@ closed-requires c κs = search needs
 
 -- src/effects.rt:96:5
 loop-less : tie.Need-loop-less Inv-loop μ-loop
-loop-less c = omega (arith, c .before .before .before .before .before .before .event-octets .ensures .1 (omega arith), c .before .before .before .before .before .before .event-octets .ensures .2 (omega arith))
+loop-less c = omega (arith, c .before .before .before .before .before .before .before .event-octets .ensures .1 (omega arith), c .before .before .before .before .before .before .before .event-octets .ensures .2 (omega arith))
 
 -- src/effects.rt:96:5
 loop-again : tie.Need-loop-again Inv-loop μ-loop
-loop-again c = omega (arith, c .before .before .before .before .before .before .event-octets .ensures .1 (omega arith), c .before .before .before .before .before .before .event-octets .ensures .2 (omega arith))
+loop-again c = omega (arith, c .before .before .before .before .before .before .before .event-octets .ensures .1 (omega arith), c .before .before .before .before .before .before .before .event-octets .ensures .2 (omega arith))
 
 -- src/effects.rt:92:1
 returns : tie.Need-returns Inv-loop μ-loop

@@ -1,0 +1,3 @@
+-- The service record as a picture: the axis, and the rows that are kept for it.
+pub mod Axis
+pub mod Kept

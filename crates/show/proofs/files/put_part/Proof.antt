@@ -1,0 +1,29 @@
+use mathlib.Core.Path.{_≡_, refl, sym, ap, _∙_}
+use lib.ListN.{length}
+use lib.Seq.{length-take-le}
+use native.Mathlib.Omega.{arith}
+use borrow.Author.Needs.{needs}
+use Rattle.show.proofs.files.put_part.Statement.{statement}
+use Rattle.show.proofs.files.put_part.Tie as tie
+use Rattle.show.proofs.files.put_part.Reads as reads
+use Rattle.show.proofs.files.put_part.Lts as lts
+use Rattle.io.proofs.write_all.Reads as write-all-reads
+
+-- src/files.rt:16:9
+returns : tie.Need-returns
+returns c = search needs
+
+-- src/files.rt:18:23
+slice-aggregate-write-all : tie.Need-slice-aggregate-write-all
+slice-aggregate-write-all c = sym (length-take-le _ _ (omega arith))
+
+-- src/files.rt:18:5
+write-all-requires : tie.Need-write-all-requires
+write-all-requires c κs = search needs
+
+-- src/files.rt:14:1
+returns-2 : tie.Need-returns-2
+returns-2 c = search needs
+
+pub put-part-spec : {M : Type 1} → statement M
+put-part-spec = tie.close (tie.spec returns slice-aggregate-write-all write-all-requires returns-2)

@@ -1,0 +1,2 @@
+-- A line in words.
+pub mod Says
