@@ -51,13 +51,13 @@ fn is_alike(s: &[u8], ask: u8, j: usize, h: usize) -> bool
 }
 
 // The first handle up to h that is asked and has the type and the condition of h: h itself where no other does.
-fn first_alike(s: &[u8], held: &[u8], strength: u8, h: usize) -> usize
+fn first_alike(s: &[u8], held: &[u8], reach: u16, h: usize) -> usize
     requires { ⌜ (length (now s) ≡ blockSize) × (length (now held) ≡ mostMonitors) × (h < mostMonitors) ⌝ }
-    ensures { λ r. ⌜ (r ≤ h) × (r < h → (getD (askedOf (now (held .entry)) (now (s .entry)) strength) r 0 ≡ 0 → ⊥) × Alike (now (s .entry)) r h) ⌝ }
+    ensures { λ r. ⌜ (r ≤ h) × (r < h → (getD (askedOf (now (held .entry)) (now (s .entry)) reach) r 0 ≡ 0 → ⊥) × Alike (now (s .entry)) r h) ⌝ }
 {
     let mut j = 0;
     while j < h {
-        let ask = asks::ask_at(s, j, held[j], strength);
+        let ask = asks::ask_at(s, j, held[j], reach);
         if is_alike(s, ask, j, h) {
             return j;
         }
@@ -79,19 +79,19 @@ fn resolved_at(s: &[u8], h: usize, payload: &[u8]) -> bool
 
 // Whether the key at a handle that is asked resolves the packet's address, as 1 or 0; met has it of the keys before. What was found for a key
 // is not worked out again for another handle with the same key.
-fn met_key(met: &[u8], s: &[u8], held: &[u8], strength: u8, h: usize, payload: &[u8]) -> u8
+fn met_key(met: &[u8], s: &[u8], held: &[u8], reach: u16, h: usize, payload: &[u8]) -> u8
     requires { ⌜ (length (now met) ≡ mostMonitors) × (length (now s) ≡ blockSize) × (length (now held) ≡ mostMonitors) × (h < mostMonitors)
-        × Framed (now payload) × (privateOf (now payload) ≡ true) × Keyed (now met) (now s) (askedOf (now held) (now s) strength) (now payload) h ⌝ }
-    ensures { λ r. ⌜ ((getD (askedOf (now (held .entry)) (now (s .entry)) strength) h 0 ≡ 0 → ⊥) → KeyAt (now (s .entry)) h → r ≡ flag (meetsCondition (monitorIn (row monitorSize h (drop monitorsAt (now (s .entry)))) .1) (packetOf (now (payload .entry))))) ⌝ }
+        × Framed (now payload) × (privateOf (now payload) ≡ true) × Keyed (now met) (now s) (askedOf (now held) (now s) reach) (now payload) h ⌝ }
+    ensures { λ r. ⌜ ((getD (askedOf (now (held .entry)) (now (s .entry)) reach) h 0 ≡ 0 → ⊥) → KeyAt (now (s .entry)) h → r ≡ flag (meetsCondition (monitorIn (row monitorSize h (drop monitorsAt (now (s .entry)))) .1) (packetOf (now (payload .entry))))) ⌝ }
 {
-    if asks::ask_at(s, h, held[h], strength) == 0 {
+    if asks::ask_at(s, h, held[h], reach) == 0 {
         return 0;
     }
     let at = State::MONITORS_AT + State::MONITOR_ROW * h;
     if s[at + State::TYPE_AT] != advert::IRK {
         return 0;
     }
-    let j = first_alike(s, held, strength, h);
+    let j = first_alike(s, held, reach, h);
     if j < h {
         return met[j];
     }
@@ -99,14 +99,14 @@ fn met_key(met: &[u8], s: &[u8], held: &[u8], strength: u8, h: usize, payload: &
 }
 
 // The same of every handle with a key that is asked.
-pub(super) fn met_keys(met: &mut [u8], s: &[u8], held: &[u8], strength: u8, payload: &[u8])
+pub(super) fn met_keys(met: &mut [u8], s: &[u8], held: &[u8], reach: u16, payload: &[u8])
     requires { ⌜ (length (now met) ≡ mostMonitors) × (length (now s) ≡ blockSize) × (length (now held) ≡ mostMonitors) × Framed (now payload)
         × (privateOf (now payload) ≡ true) ⌝ }
-    ensures { λ _. ⌜ Keyed (now (met .exit)) (now (s .entry)) (askedOf (now (held .entry)) (now (s .entry)) strength) (now (payload .entry)) mostMonitors ⌝ }
+    ensures { λ _. ⌜ Keyed (now (met .exit)) (now (s .entry)) (askedOf (now (held .entry)) (now (s .entry)) reach) (now (payload .entry)) mostMonitors ⌝ }
 {
     let mut h = 0;
     while h < State::MONITORS {
-        let m = met_key(met, s, held, strength, h, payload);
+        let m = met_key(met, s, held, reach, h, payload);
         met[h] = m;
         h += 1;
     }

@@ -139,18 +139,18 @@ fn mark_each(
     met: &[u8],
     s: &[u8],
     held: &[u8],
-    strength: u8,
+    reach: u16,
     payload: &[u8],
     private: bool,
 )
     requires { ⌜ (length (now acts) ≡ mostMonitors) × (length (now met) ≡ mostMonitors) × (length (now s) ≡ blockSize)
-        × (length (now held) ≡ mostMonitors) × Framed (now payload) × ToldAll private (now met) (now s) (askedOf (now held) (now s) strength) (now payload) ⌝ }
-    ensures { λ _. ⌜ now (acts .exit) ≡ marksIf (askedOf (now (held .entry)) (now (s .entry)) strength) (now (s .entry)) (packetOf (now (payload .entry))) ⌝ }
+        × (length (now held) ≡ mostMonitors) × Framed (now payload) × ToldAll private (now met) (now s) (askedOf (now held) (now s) reach) (now payload) ⌝ }
+    ensures { λ _. ⌜ now (acts .exit) ≡ marksIf (askedOf (now (held .entry)) (now (s .entry)) reach) (now (s .entry)) (packetOf (now (payload .entry))) ⌝ }
 {
     let scan = scan_at(payload);
     let mut h = 0;
     while h < State::MONITORS {
-        let ask = asks::ask_at(s, h, held[h], strength);
+        let ask = asks::ask_at(s, h, held[h], reach);
         acts[h] = mark_asked(met, s, h, payload, scan, private, ask);
         h += 1;
     }
@@ -165,27 +165,27 @@ fn is_private(payload: &[u8]) -> bool
 }
 
 // For a resolvable private address the keys are asked first, so that the cipher runs once a key.
-fn mark_private(acts: &mut [u8], s: &[u8], held: &[u8], strength: u8, payload: &[u8])
+fn mark_private(acts: &mut [u8], s: &[u8], held: &[u8], reach: u16, payload: &[u8])
     requires { ⌜ (length (now acts) ≡ mostMonitors) × (length (now s) ≡ blockSize) × (length (now held) ≡ mostMonitors) × Framed (now payload)
         × (privateOf (now payload) ≡ true) ⌝ }
-    ensures { λ _. ⌜ now (acts .exit) ≡ marksIf (askedOf (now (held .entry)) (now (s .entry)) strength) (now (s .entry)) (packetOf (now (payload .entry))) ⌝ }
+    ensures { λ _. ⌜ now (acts .exit) ≡ marksIf (askedOf (now (held .entry)) (now (s .entry)) reach) (now (s .entry)) (packetOf (now (payload .entry))) ⌝ }
 {
     let mut met = [0u8; State::MONITORS];
-    keys::met_keys(&mut met, s, held, strength, payload);
-    mark_each(acts, &met, s, held, strength, payload, true);
+    keys::met_keys(&mut met, s, held, reach, payload);
+    mark_each(acts, &met, s, held, reach, payload, true);
 }
 
 // The octets of the handles that are asked, 0 of the others.
-fn mark_in(acts: &mut [u8], s: &[u8], held: &[u8], strength: u8, payload: &[u8])
+fn mark_in(acts: &mut [u8], s: &[u8], held: &[u8], reach: u16, payload: &[u8])
     requires { ⌜ (length (now acts) ≡ mostMonitors) × (length (now s) ≡ blockSize) × (length (now held) ≡ mostMonitors) × Framed (now payload) ⌝ }
-    ensures { λ _. ⌜ now (acts .exit) ≡ marksIf (askedOf (now (held .entry)) (now (s .entry)) strength) (now (s .entry)) (packetOf (now (payload .entry))) ⌝ }
+    ensures { λ _. ⌜ now (acts .exit) ≡ marksIf (askedOf (now (held .entry)) (now (s .entry)) reach) (now (s .entry)) (packetOf (now (payload .entry))) ⌝ }
 {
     if is_private(payload) {
-        mark_private(acts, s, held, strength, payload);
+        mark_private(acts, s, held, reach, payload);
         return;
     }
     let met = [0u8; State::MONITORS];
-    mark_each(acts, &met, s, held, strength, payload, false);
+    mark_each(acts, &met, s, held, reach, payload, false);
 }
 
 // Where the scan response of a packet frame's payload begins. A payload of kind 02 has none: there the RSSI stands.
@@ -247,11 +247,11 @@ pub fn mark_all(acts: &mut [u8], s: &[u8], payload: &[u8]) -> bool
     true
 }
 
-// The same of the handles alone whose pair of the packet's device is held, by an octet a handle that is not 0, and of those that the packet is
-// strong enough to start: the others' octets are 0, and of their monitors no more than the high threshold is read. Where held is not of 16 octets,
-// too, nothing is written and the answer is false.
-pub fn mark_held(acts: &mut [u8], s: &[u8], payload: &[u8], held: &[u8]) -> bool
-    ensures { λ r. ⌜ (r ≡ heldFit (now (held .entry)) (now (acts .entry)) (now (s .entry)) (now (payload .entry))) × (now (acts .exit) ≡ markedFor r (now (held .entry)) (now (acts .entry)) (now (s .entry)) (now (payload .entry))) ⌝ }
+// The same of the handles alone whose pair of the packet's device is held, by an octet a handle that is not 0, and, where a pair may start, of those
+// whose high threshold the packet reaches: the others' octets are 0, and of their monitors no more than the high threshold is read. Where held is not of 16
+// octets, too, nothing is written and the answer is false.
+pub fn mark_held(acts: &mut [u8], s: &[u8], payload: &[u8], held: &[u8], may: bool) -> bool
+    ensures { λ r. ⌜ (r ≡ heldFit (now (held .entry)) (now (acts .entry)) (now (s .entry)) (now (payload .entry))) × (now (acts .exit) ≡ markedFor r may (now (held .entry)) (now (acts .entry)) (now (s .entry)) (now (payload .entry))) ⌝ }
 {
     if held.len() != State::MONITORS {
         return false;
@@ -259,7 +259,7 @@ pub fn mark_held(acts: &mut [u8], s: &[u8], payload: &[u8], held: &[u8]) -> bool
     if !is_fit(acts.len(), s, payload) {
         return false;
     }
-    let strength = state::level_of(payload[payload.len() - 1]);
-    mark_in(acts, s, held, strength, payload);
+    let reach = asks::reach_of(may, payload[payload.len() - 1]);
+    mark_in(acts, s, held, reach, payload);
     true
 }

@@ -33,11 +33,13 @@ use Rattle.model.specs.Layout.{mostMonitors}
 abbrev pub Firm : Packet → ℕ → Pair → Type 0
 Firm p h q = isPair h (deviceOf p) q ≡ true → level (p .rssi) ≤ level (q .kept)
 
--- what the turns are given: the octets of the handles, and of which of them pairs of the packet's device are held, those of handles that may start
--- one firm
+-- what the turns are given: whether a pair may start, the octets of the handles, and of which of them pairs of the packet's device are held, those of
+-- handles that may start one firm
 pub record Settled (m : Model) (p : Packet) (acts under : List ℕ) (dev : ℕ) : Type 0 where
   pub sender : Sender p dev
-  pub octets : (h : ℕ) → h < mostMonitors → getD acts h 0 ≡ spared (getD under h 0) (mark (find (m .mons) h) p)
+  pub may : Bool
+  pub shut : may ≡ false → fits (p .rssi) (m .pairs) ≡ false
+  pub octets : (h : ℕ) → h < mostMonitors → getD acts h 0 ≡ spared may (getD under h 0) (mark (find (m .mons) h) p)
   pub flags : (h : ℕ) → h < mostMonitors → getD under h 0 ≡ flag (holds (m .pairs) h (deviceOf p))
   pub firm : (h : ℕ) → opens (mark (find (m .mons) h) p) ≡ true → All (Firm p h) (m .pairs)
 
@@ -121,7 +123,7 @@ unfolding mark opens
 opens-keeps none p e = absurd (false≢true e)
 opens-keeps (some m) p e = mark-keeps m p ∙ and-left (matches m p) (strong m p) (sym (mark-opens m p) ∙ e)
 
-recalled-kept : (a : ℕ) (p : Packet) (q : Pair) → recalled a p q .kept ≡ q .kept
+pub recalled-kept : (a : ℕ) (p : Packet) (q : Pair) → recalled a p q .kept ≡ q .kept
 unfolding recalled withLatest pick
 recalled-kept a p q = go (sifted a && allowed a)
   where
@@ -129,7 +131,7 @@ recalled-kept a p q = go (sifted a && allowed a)
     go true = refl
     go false = refl
 
-freshened-kept : (a : ℕ) (q : Pair) → freshened a q .kept ≡ q .kept
+pub freshened-kept : (a : ℕ) (q : Pair) → freshened a q .kept ≡ q .kept
 unfolding freshened withSilent pick
 freshened-kept a q = go (refreshes a)
   where

@@ -11,8 +11,8 @@ use Rattle.laws.specs.Tests.{pick}
 use lib.ListN.{length, getD, length-append}
 use lib.Dec.{eqb}
 use borrow.Author.Tests.{eqb-false}
-use Rattle.laws.specs.Tests.{and-right, cases-eq}
-use Rattle.laws.specs.Loops.{some as someOf, when}
+use Rattle.laws.specs.Tests.{pick-false, and-right, and-not-left, and-not-right, cases-eq}
+use Rattle.laws.specs.Loops.{some as someOf, when, when-false}
 use Rattle.laws.specs.Put.{put-nil}
 use Rattle.rule.specs.Base.{All, all-append}
 use Rattle.rule.specs.Engine.{find}
@@ -26,11 +26,12 @@ use Rattle.blocks.specs.Updates.{measured-pairs}
 use Rattle.steps.specs.Typed.{pick-both, Sent}
 use Rattle.steps.specs.Drops.{stays-fewer, stays-all}
 use Rattle.marks.specs.Marks.{flag, opens, sifted, allowed, mark}
-use Rattle.marks.specs.Asked.{spared, spared-opens, spared-open}
+use Rattle.marks.specs.Asked.{spared, spared-cases, spared-opened}
 use Rattle.packets.specs.Changes.{some-append, started, starts, after, told, turn-after, answer-told, start-told}
 use Rattle.packets.specs.Writes.{Wrote, fits-start}
 use Rattle.packets.specs.Firm.{Settled, turns-holds}
 use Rattle.packets.specs.Starts.{Holding, Turned, Told, wrote-both, wrote-is}
+use Rattle.packets.specs.Shut.{turns-shut}
 use Rattle.model.specs.Layout.{mostMonitors, mostPairs}
 
 -- the pairs stay ones that fit, at most 64
@@ -68,14 +69,25 @@ record Same (prefix : List ℕ) (a c h : ℕ) (p : Packet) (qs : List Pair) : Ty
   octets : told prefix a h p qs ≡ told prefix c h p qs
   tells : (starts a h p qs && allowed a) ≡ (starts c h p qs && allowed c)
 
--- an octet that is left out where it says nothing of a start
-spared-same : (prefix : List ℕ) (k c h : ℕ) (p : Packet) (qs : List Pair) → Same prefix (spared k c) c h p qs
-unfolding after told starts pick when
-spared-same prefix k c h p qs = go (opens c) refl
-  where
-    go : (t : Bool) → opens c ≡ t → Same prefix (spared k c) c h p qs
-    go true e = rw (spared-open k c e) (record { pairs = refl; octets = refl; tells = refl })
-    go false e = record { pairs = rw (spared-opens k c, e); octets = rw (spared-opens k c, e); tells = rw (spared-opens k c, e) }
+none-same : (prefix : List ℕ) (a c h : ℕ) (p : Packet) (qs : List Pair) → starts a h p qs ≡ false → starts c h p qs ≡ false
+    → Same prefix a c h p qs
+unfolding after told
+none-same prefix a c h p qs x y =
+    record {
+      pairs = pick-false _ qs x ∙ sym (pick-false _ qs y);
+      octets = when-false _ x ∙ sym (when-false _ y);
+      tells = ap (λ (t : Bool). t && allowed a) x ∙ ap (λ (t : Bool). t && allowed c) (sym y);
+    }
+
+-- an octet that is left out where it says nothing of a start, or where no pair can start
+spared-same : (prefix : List ℕ) (may : Bool) (k c h : ℕ) (p : Packet) (qs : List Pair) → (may ≡ false → fits (p .rssi) qs ≡ false)
+    → Same prefix (spared may k c) c h p qs
+unfolding starts opens
+spared-same prefix may k c h p qs w =
+    spared-cases may k c (λ e. subst (λ (z : ℕ). Same prefix z c h p qs) (sym e) (record { pairs = refl; octets = refl; tells = refl }))
+    (λ e u. subst (λ (z : ℕ). Same prefix z c h p qs) (sym e)
+    (none-same prefix 0 c h p qs refl (and-not-right (opens c) _ (and-not-right (not (holds qs h (deviceOf p))) _ (w u)))))
+    (λ e u. subst (λ (z : ℕ). Same prefix z c h p qs) (sym e) (none-same prefix 0 c h p qs refl (and-not-left (opens c) _ u)))
 
 -- no octet below an index says that its handle may start a pair
 abbrev pub NoStart : List ℕ → ℕ → Type 0
@@ -130,9 +142,11 @@ module _ (m : Model) (p : Packet) (f : Measured m) (t : Sent p) where
       let g : Model = withLists m (m .mons) qs in
       let d : Holding g s n = record { measured = turns-measured h (omega arith); block = x .turned .block; count = x .turned .count } in
       let c : ℕ = mark (find (m .mons) h) p in
-      let ac : a ≡ spared (getD under h 0) c = za ∙ e .octets h b in
-      let same : Same (m .prefix) a c h p qs = rw ac (spared-same (m .prefix) (getD under h 0) c h p qs) in
-      let opened : opens a ≡ true → opens c ≡ true = λ z. sym (spared-opens (getD under h 0) c) ∙ ap opens (sym ac) ∙ z in
+      let ac : a ≡ spared (e .may) (getD under h 0) c = za ∙ e .octets h b in
+      let none : e .may ≡ false → fits (p .rssi) qs ≡ false =
+      λ z. ap (fits (p .rssi)) (turns-shut (m .mons) p h (m .pairs) (e .shut z)) ∙ e .shut z in
+      let same : Same (m .prefix) a c h p qs = rw ac (spared-same (m .prefix) (e .may) (getD under h 0) c h p qs none) in
+      let opened : opens a ≡ true → opens c ≡ true = λ z. spared-opened (e .may) (getD under h 0) c (ap opens (sym ac) ∙ z) in
       let held : opens a ≡ true → k ≡ flag (holds qs h (deviceOf p)) =
       λ z. zk ∙ e .flags h b ∙ ap flag (sym (turns-holds p h (m .mons) (m .pairs) (e .firm h (opened z)))) in
       let i : after a h p qs ≡ turns (m .mons) p (h + 1) (m .pairs) =

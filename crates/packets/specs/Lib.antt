@@ -9,6 +9,7 @@ pub mod Device
 pub mod Held
 pub mod Firm
 pub mod Starts
+pub mod Shut
 pub mod Handles
 pub mod Begins
 pub mod Latest

@@ -85,14 +85,14 @@ wrote-is out at ys zs e x =
 
 -- the levels that rows keep are those of the pairs, and the weakest row is the weakest pair's
 module _ (m : Model) (s : List ℕ) (n : ℕ) (w : Holding m s n) where
-  level-is : (j : ℕ) → j < length (m .pairs) → levelAt s j ≡ levelIn (m .pairs) j
+  pub level-is : (j : ℕ) → j < length (m .pairs) → levelAt s j ≡ levelIn (m .pairs) j
   unfolding levelAt levelIn pairAt
   level-is j b =
       let x : AtPair m s j = record { measured = w .measured; block = w .block; within = b } in
       ap (λ (l : List ℕ). level (getD l (pairsAt + pairSize * j + rssiAt) 0)) (w .block)
       ∙ ap level (read-kept m (w .measured) j noPair b (pair-fits x))
 
-  full-pairs : mostPairs ≤ n → length (m .pairs) ≡ mostPairs
+  pub full-pairs : mostPairs ≤ n → length (m .pairs) ≡ mostPairs
   full-pairs f = omega (arith, w .count, w .measured .pairs-most)
 
   weakest-pair : mostPairs ≤ n → (i : ℕ) → i ≡ weakestBelow s mostPairs

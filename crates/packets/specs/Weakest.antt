@@ -94,7 +94,7 @@ weakest-low s (suc n) = go (ltb (levelAt s (suc n)) (levelAt s (weakestBelow s (
 unfoldable pub levelIn : List Pair → ℕ → ℕ
 levelIn qs j = level (getD qs j noPair .kept)
 
-smaller-low : (k a b : ℕ) → k ≤ level a → k ≤ level b → k ≤ level (smaller a b)
+pub smaller-low : (k a b : ℕ) → k ≤ level a → k ≤ level b → k ≤ level (smaller a b)
 unfolding smaller pick
 smaller-low k a b x y = go (ltZ (dBm a) (dBm b))
   where

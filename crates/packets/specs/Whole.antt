@@ -35,6 +35,7 @@ use Rattle.packets.specs.Firm.{Settled, moved-holds, moved-firm}
 use Rattle.packets.specs.Held.{Given, Roomy}
 use Rattle.packets.specs.Writes.{noPair, Wrote}
 use Rattle.packets.specs.Starts.{Holding, wrote-both}
+use Rattle.packets.specs.Shut.{Shut, moved-shut}
 use Rattle.packets.specs.Handles.{Turns, turns-measured}
 use Rattle.packets.specs.Reports.{turnsOf, heldTold, startsTold, reported-off, reported-on}
 use Rattle.marks.specs.Fields.{Clamped, Framed, packet-framed}
@@ -60,6 +61,12 @@ roomy-all m h (q ∷ qs) e =
     let w : Window (m .position) q = window-facts (m .position) (s .mon) q (s .fields .window) (s .fields .empty) in
     (omega (arith, w .packets-most), roomy-all m h qs (and-right (soundPair m q) (every (soundPair m) qs) e))
 
+-- the octets of the monitors that were asked, and whether a pair may start: where not, only the monitors of held pairs were
+pub record Acts (s l held : List ℕ) (n : ℕ) (acts : List ℕ) : Type 0 where
+  pub may : Bool
+  pub shut : may ≡ false → Shut s n (packetOf l .rssi)
+  pub octets : acts ≡ marksFor may held s (packetOf l)
+
 -- what a sound state's block and a packet frame give the loops: held says of which handles pairs of the packet's device are held, acts what the
 -- monitors say that were asked
 pub record Begun (m : Model) (s l acts held : List ℕ) (dev n : ℕ) : Type 0 where
@@ -69,7 +76,9 @@ pub record Begun (m : Model) (s l acts held : List ℕ) (dev n : ℕ) : Type 0 w
   pub below : m .position < 4294967295
   pub roomy : Roomy (m .pairs)
   pub sender : Sender (packetOf l) dev
-  pub octets : (h : ℕ) → h < mostMonitors → getD acts h 0 ≡ spared (getD held h 0) (mark (find (m .mons) h) (packetOf l))
+  pub may : Bool
+  pub shut : may ≡ false → Shut s n (packetOf l .rssi)
+  pub octets : (h : ℕ) → h < mostMonitors → getD acts h 0 ≡ spared may (getD held h 0) (mark (find (m .mons) h) (packetOf l))
   pub flags : (h : ℕ) → h < mostMonitors → getD held h 0 ≡ flag (holds (m .pairs) h (deviceOf (packetOf l)))
   pub count : n ≡ length (m .pairs)
 
@@ -88,7 +97,7 @@ packet-sender l dev o k d =
     record { sent = packet-sent l (octets-known l o) k; number = d ∙ payload-device l (omega arith) (o 0) }
 
 pub begun : (m : Model) (s l acts held : List ℕ) (dev n to : ℕ) → soundModel m ≡ true → m .position < 4294967295
-    → Holding m s n → Sender (packetOf l) dev → acts ≡ marksFor held s (packetOf l) → to ≤ n → NoneFrom (m .pairs) (packetOf l) to
+    → Holding m s n → Sender (packetOf l) dev → Acts s l held n acts → to ≤ n → NoneFrom (m .pairs) (packetOf l) to
     → ((h : ℕ) → h < mostMonitors → getD held h 0 ≡ flag (holds (take to (m .pairs)) h (deviceOf (packetOf l))))
     → Begun m s l acts held dev n
 begun m s l acts held dev n to e h w t a b x y =
@@ -100,8 +109,10 @@ begun m s l acts held dev n to e h w t a b x y =
       below = h;
       roomy = roomy-all m h (m .pairs) (f .pairs-sound);
       sender = t;
-      octets = λ i c. ap (λ (z : List ℕ). getD z i 0) (a ∙ ap (λ (z : List ℕ). marksFor held z (packetOf l)) (w .block))
-          ∙ spared-padded m (packetOf l) f held i c;
+      may = a .may;
+      shut = a .shut;
+      octets = λ i c. ap (λ (z : List ℕ). getD z i 0) (a .octets ∙ ap (λ (z : List ℕ). marksFor (a .may) held z (packetOf l)) (w .block))
+          ∙ spared-padded (a .may) m (packetOf l) f held i c;
       flags = λ i c. y i c ∙ flags-all m s n (packetOf l) dev w t i to c b x;
       count = w .count;
     }
@@ -147,7 +158,7 @@ module _ (m : Model) (s l acts held : List ℕ) (dev n : ℕ) (b : Begun m s l a
             pair-true (packetOf l) (b .sender .sent) (q .handle) q f (f .handle-most) (omega arith) in
             let z : getD held (q .handle) 0 ≡ 1 =
             b .flags (q .handle) (f .handle-most) ∙ ap flag (one-flag (q .handle) i (omega (arith, b .count)) y) in
-            b .octets (q .handle) (f .handle-most) ∙ spared-held (getD held (q .handle) 0) _ (λ u. omega arith);
+            b .octets (q .handle) (f .handle-most) ∙ spared-held (b .may) (getD held (q .handle) 0) _ (λ u. omega arith);
       }
 
   -- what the loop over the handles is given
@@ -172,6 +183,8 @@ module _ (m : Model) (s l acts held : List ℕ) (dev n : ℕ) (b : Begun m s l a
   moves-settled =
       record {
         sender = b .sender;
+        may = b .may;
+        shut = λ e. moved-shut m s n (packetOf l) (record { measured = b .measured; block = b .block; count = b .count }) (b .shut e);
         octets = b .octets;
         flags = λ h c. b .flags h c ∙ ap flag (sym (moved-holds (m .mons) (packetOf l) h (deviceOf (packetOf l)) (m .pairs)));
         firm = λ h e. moved-firm (m .mons) (packetOf l) h (m .pairs) e;

@@ -27,7 +27,7 @@ ghost use Rattle.packets.specs.Moves.{AtPair, pairAt, withPair};
 ghost use Rattle.packets.specs.Held.{Given};
 ghost use Rattle.packets.specs.Device.{Spans};
 ghost use Rattle.packets.specs.Starts.{Holding};
-ghost use Rattle.packets.specs.Whole.{Begun, afterMoves, afterStarts};
+ghost use Rattle.packets.specs.Whole.{Acts, Begun, afterMoves, afterStarts};
 ghost use Rattle.packets.specs.Reports.{heldTold, startsTold};
 ghost use Rattle.model.specs.Layout.{blockSize, mostMonitors, mostPairs, pairSize, pairsAt};
 
@@ -195,6 +195,15 @@ fn is_told(s: &[u8], held: bool, start: bool) -> bool
     held | start
 }
 
+// What the monitors of the device's pairs say of the packet and, where it may start a pair behind the n that are held, those that it is strong enough for.
+fn ask(acts: &mut [u8], s: &[u8], n: usize, payload: &[u8], held: &[u8])
+    requires { ⌜ (length (now acts) ≡ mostMonitors) × (length (now s) ≡ blockSize) × Framed (now payload) × (length (now held) ≡ mostMonitors) ⌝ }
+    ensures { λ _. ⌜ Acts (now (s .entry)) (now (payload .entry)) (now (held .entry)) n (now (acts .exit)) ⌝ }
+{
+    let may = starts::may_start(s, n, payload[payload.len() - 1]);
+    marks::mark_held(acts, s, payload, held, may);
+}
+
 // A packet frame on a block of the right length.
 fn step(s: &mut [u8], payload: &[u8], out: &mut [u8]) -> usize
     requires { ⌜ (length (now s) ≡ blockSize) × (answerRoom ≤ length (now out)) × Framed (now payload) ⌝ }
@@ -206,7 +215,7 @@ fn step(s: &mut [u8], payload: &[u8], out: &mut [u8]) -> usize
     let to = device::end_of(s, from, n, dev);
     let held = device::held_in(s, from, to, dev);
     let mut acts = [0u8; State::MONITORS];
-    marks::mark_held(&mut acts, s, payload, &held);
+    ask(&mut acts, s, n, payload, &held);
     let reason = move_rows(s, from, to, &acts, payload, dev);
     let turn = starts::start_all(s, n, &acts, &held, dev, payload, out);
     let told = is_told(s, reason, turn.told);

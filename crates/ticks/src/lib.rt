@@ -28,10 +28,7 @@ ghost use Rattle.model.specs.Layout.{blockSize, headSize, monitorSize, mostMoni
 fn stays(silent: Ticks, run: Ticks) -> bool
     ensures { λ r. ⌜ r ≡ ltb (silent .0 + 1) (run .0) ⌝ }
 {
-    if silent.0 < run.0 {
-        return silent.0 + 1 < run.0;
-    }
-    false
+    silent.0 as u32 + 1 < run.0 as u32
 }
 
 // Empties the window of a row: its ticks, packets and sum, and the latest packet. The kept RSSI between them stays.

@@ -25,10 +25,7 @@ pub(super) fn closes(period: u8, ticks: u8) -> bool
     ensures { λ r. ⌜ r ≡ closesAt period ticks ⌝ }
 {
     let some = windowed(period);
-    if ticks < period {
-        return some & (period <= ticks + 1);
-    }
-    some
+    some & (period as u16 <= ticks as u16 + 1)
 }
 
 // The mean RSSI of a window's packets: the greatest whole number not above sum / packets, as an octet. A sum below 0 is

@@ -21,10 +21,10 @@ use Rattle.marks.proofs.mark_asked.Reads as mark-asked-reads
 use Rattle.marks.proofs.scan_at.Reads as scan-at-reads
 
 abbrev Inv-loop : tie.InvT-loop
-Inv-loop acts₀ met s held strength payload private scan h₀ acts h = (h ≤ mostMonitors) × (length acts ≡ length acts₀) × (acts ≡ put acts₀ 0 (upTo (λ g. markIf (getD (askedOf held s strength) g 0) (markRow (row monitorSize g (drop monitorsAt s)) (packetOf payload)) ∷ []) h))
+Inv-loop acts₀ met s held reach payload private scan h₀ acts h = (h ≤ mostMonitors) × (length acts ≡ length acts₀) × (acts ≡ put acts₀ 0 (upTo (λ g. markIf (getD (askedOf held s reach) g 0) (markRow (row monitorSize g (drop monitorsAt s)) (packetOf payload)) ∷ []) h))
 
 abbrev μ-loop : tie.MeasureT-loop
-μ-loop acts₀ met s held strength payload private scan h₀ acts h = mostMonitors - h
+μ-loop acts₀ met s held reach payload private scan h₀ acts h = mostMonitors - h
 
 -- src/lib.rt:150:9
 scan-at-requires : tie.Need-scan-at-requires Inv-loop μ-loop
@@ -51,8 +51,8 @@ mark-asked-requires c κs = let a = c .before .before .before .before .before .b
   omega arith,
   p .4,
   search needs,
-  λ n. told-at (a .met .now) (a .s .now) (askedOf (a .held .now) (a .s .now) (a .strength)) (a .payload .now) (l .h) (omega arith) (p .5)
-      (λ e. n (ask-said (a .held .now) (a .s .now) (a .strength) (l .h) (omega arith) (c .ask-at .ensures) ∙ e)),
+  λ n. told-at (a .met .now) (a .s .now) (askedOf (a .held .now) (a .s .now) (a .reach)) (a .payload .now) (l .h) (omega arith) (p .5)
+      (λ e. n (ask-said (a .held .now) (a .s .now) (a .reach) (l .h) (omega arith) (c .ask-at .ensures) ∙ e)),
 )
 
 -- src/lib.rt:154:9
@@ -72,8 +72,8 @@ loop-again : tie.Need-loop-again Inv-loop μ-loop
 loop-again c = let a = c .before .before .before .before .before .before .before .before .before .before .before .args in let l = c .before .before .before .before .loop in (
   omega arith,
   simp length-set (l .inv .1),
-  rw (c .mark-asked .ensures, ask-said (a .held .now) (a .s .now) (a .strength) (l .h) (omega arith) (c .before .ask-at .ensures))
-      (marks-turn (λ g. markIf (getD (askedOf (a .held .now) (a .s .now) (a .strength)) g 0) (markRow (row monitorSize g (drop monitorsAt (a .s .now))) (packetOf (a .payload .now)))) (a .acts .now) (l .h)
+  rw (c .mark-asked .ensures, ask-said (a .held .now) (a .s .now) (a .reach) (l .h) (omega arith) (c .before .ask-at .ensures))
+      (marks-turn (λ g. markIf (getD (askedOf (a .held .now) (a .s .now) (a .reach)) g 0) (markRow (row monitorSize g (drop monitorsAt (a .s .now))) (packetOf (a .payload .now)))) (a .acts .now) (l .h)
       (omega arith) (omega arith) (l .inv .2)),
 )
 
@@ -86,7 +86,7 @@ returns : tie.Need-returns Inv-loop μ-loop
 unfolding marksIf
 returns c = let a = c .before .before .before .before .before .before .before .before .args in let l = c .before .loop in
     let e : l .h ≡ mostMonitors = omega arith in
-    rw e at (l .inv .2) ∙ marks-if-end (askedOf (a .held .now) (a .s .now) (a .strength)) (a .s .now) (packetOf (a .payload .now)) (a .acts .now) (omega arith)
+    rw e at (l .inv .2) ∙ marks-if-end (askedOf (a .held .now) (a .s .now) (a .reach)) (a .s .now) (packetOf (a .payload .now)) (a .acts .now) (omega arith)
 
 pub mark-each-spec : {M : Type 1} → statement M
 mark-each-spec =

@@ -14,11 +14,11 @@ use Rattle.marks.proofs.mark_held.Reads as reads
 use Rattle.marks.proofs.mark_held.Lts as lts
 use Rattle.marks.proofs.is_fit.Reads as is-fit-reads
 use Rattle.marks.proofs.mark_in.Reads as mark-in-reads
-use Rattle.state.proofs.level_of.Reads as level-of-reads
+use Rattle.marks.proofs.asks.reach_of.Reads as reach-of-reads
 
 -- src/lib.rt:257:9
 returns : tie.Need-returns
-returns c = let a = c .before .before .before .before .before .args in held-short (a .held .now) (a .acts .now) (a .s .now) (a .payload .now) (c .if1 .taken)
+returns c = let a = c .before .before .before .before .before .args in held-short (a .may) (a .held .now) (a .acts .now) (a .s .now) (a .payload .now) (c .if1 .taken)
 
 -- src/lib.rt:259:9
 is-fit-requires : tie.Need-is-fit-requires
@@ -26,19 +26,19 @@ is-fit-requires c κs = search needs
 
 -- src/lib.rt:260:9
 returns-2 : tie.Need-returns-2
-returns-2 c = let a = c .before .before .before .before .before .before .before .args in held-not (a .held .now) (a .acts .now) (a .s .now) (a .payload .now) (c .before .is-fit .ensures) (not-true (c .before .is-fit .result) (c .if2 .taken))
+returns-2 c = let a = c .before .before .before .before .before .before .before .args in held-not (a .may) (a .held .now) (a .acts .now) (a .s .now) (a .payload .now) (c .before .is-fit .ensures) (not-true (c .before .is-fit .result) (c .if2 .taken))
 
 -- src/lib.rt:262:44
-sub-level-of : tie.Need-sub-level-of
-sub-level-of c = let a = c .before .before .before .before .before .before .before .args in let f = fits-facts (length (a .acts .now)) (a .s .now) (a .payload .now) (sym (c .before .is-fit .ensures) ∙ not-false (c .before .is-fit .result) (c .if2 .left)) in omega (arith, f .2 .0)
+sub-reach-of : tie.Need-sub-reach-of
+sub-reach-of c = let a = c .before .before .before .before .before .before .before .args in let f = fits-facts (length (a .acts .now)) (a .s .now) (a .payload .now) (sym (c .before .is-fit .ensures) ∙ not-false (c .before .is-fit .result) (c .if2 .left)) in omega (arith, f .2 .0)
 
 -- src/lib.rt:262:36
-shared-slice-read-level-of : tie.Need-shared-slice-read-level-of
-shared-slice-read-level-of c = let a = c .before .before .before .before .before .before .before .before .args in let f = fits-facts (length (a .acts .now)) (a .s .now) (a .payload .now) (sym (c .before .before .is-fit .ensures) ∙ not-false (c .before .before .is-fit .result) (c .before .if2 .left)) in omega (arith, f .2 .0)
+shared-slice-read-reach-of : tie.Need-shared-slice-read-reach-of
+shared-slice-read-reach-of c = let a = c .before .before .before .before .before .before .before .before .args in let f = fits-facts (length (a .acts .now)) (a .s .now) (a .payload .now) (sym (c .before .before .is-fit .ensures) ∙ not-false (c .before .before .is-fit .result) (c .before .if2 .left)) in omega (arith, f .2 .0)
 
 -- src/lib.rt:262:9
-level-of-requires : tie.Need-level-of-requires
-level-of-requires c κs = search needs
+reach-of-requires : tie.Need-reach-of-requires
+reach-of-requires c κs = search needs
 
 -- src/lib.rt:263:5
 mark-in-requires : tie.Need-mark-in-requires
@@ -53,10 +53,10 @@ returns-3 : tie.Need-returns-3
 unfolding packetOf
 returns-3 c = let a = c .before .before .before .before .before .before .before .before .before .before .before .before .before .args in
     let l : List ℕ = a .payload .now in
-    held-done (a .held .now) (a .acts .now) (a .s .now) l (omega (arith, c .before .before .before .before .before .before .before .before .if1 .left)) (c .before .before .before .before .before .before .before .is-fit .ensures)
+    held-done (a .may) (a .held .now) (a .acts .now) (a .s .now) l (omega (arith, c .before .before .before .before .before .before .before .before .if1 .left)) (c .before .before .before .before .before .before .before .is-fit .ensures)
     (not-false (c .before .before .before .before .before .before .before .is-fit .result) (c .before .before .before .before .before .before .if2 .left))
-    (c .before .before .mark-in .ensures ∙ ap (λ (x : ℕ). marksIf (askedOf (a .held .now) (a .s .now) x) (a .s .now) (packetOf l)) (c .before .before .before .before .level-of .ensures)
-    ∙ asked-for (a .held .now) (a .s .now) (packetOf l))
+    (c .before .before .mark-in .ensures ∙ ap (λ (x : ℕ). marksIf (askedOf (a .held .now) (a .s .now) x) (a .s .now) (packetOf l)) (c .before .before .before .before .reach-of .ensures)
+    ∙ asked-for (a .may) (a .held .now) (a .s .now) (packetOf l))
 
 pub mark-held-spec : {M : Type 1} → statement M
 mark-held-spec =
@@ -65,9 +65,9 @@ mark-held-spec =
     returns
     is-fit-requires
     returns-2
-    sub-level-of
-    shared-slice-read-level-of
-    level-of-requires
+    sub-reach-of
+    shared-slice-read-reach-of
+    reach-of-requires
     mark-in-requires
     same-length
     returns-3)

@@ -8,7 +8,6 @@ use Rattle.model.specs.Types.{Packet}
 use Rattle.model.specs.Frames.{packetOf}
 use Rattle.sessions.specs.Machine.{lastNumber}
 use Rattle.marks.specs.Fields.{clamped}
-use Rattle.marks.specs.Asked.{marksFor, held-of}
 use Rattle.packets.specs.Device.{Sender}
 use Rattle.packets.specs.Starts.{Holding}
 use Rattle.packets.specs.Whole.{Begun, begun, block-holding, packet-sender, afterMoves, moves-holding, moves-settled, starts-holding, turns-wrote, turns-told, packet-stepped, answer-within}
@@ -17,7 +16,7 @@ use Rattle.packets.proofs.step.Statement.{statement}
 use Rattle.packets.proofs.step.Tie as tie
 use Rattle.packets.proofs.step.Reads as reads
 use Rattle.packets.proofs.step.Lts as lts
-use Rattle.marks.proofs.mark_held.Reads as mark-held-reads
+use Rattle.packets.proofs.ask.Reads as ask-reads
 use Rattle.octets.proofs.at_most.Reads as at-most-reads
 use Rattle.octets.proofs.get64.Reads as get64-reads
 use Rattle.packets.proofs.device.end_of.Reads as end-of-reads
@@ -54,16 +53,16 @@ held-in-requires : tie.Need-held-in-requires
 held-in-requires c κs = search needs
 
 -- src/lib.rt:209:22
-slice-aggregate-mark-held : tie.Need-slice-aggregate-mark-held
-slice-aggregate-mark-held c = search needs
+slice-aggregate-ask : tie.Need-slice-aggregate-ask
+slice-aggregate-ask c = search needs
 
 -- src/lib.rt:209:45
-slice-aggregate-mark-held-2 : tie.Need-slice-aggregate-mark-held-2
-slice-aggregate-mark-held-2 c = search needs
+slice-aggregate-ask-2 : tie.Need-slice-aggregate-ask-2
+slice-aggregate-ask-2 c = search needs
 
 -- src/lib.rt:209:5
-mark-held-requires : tie.Need-mark-held-requires
-mark-held-requires c κs = search needs
+ask-requires : tie.Need-ask-requires
+ask-requires c κs = search needs
 
 -- src/lib.rt:210:41
 slice-aggregate-move-rows : tie.Need-slice-aggregate-move-rows
@@ -71,7 +70,7 @@ slice-aggregate-move-rows c = search needs
 
 -- src/lib.rt:210:9
 move-rows-requires : tie.Need-move-rows-requires
-move-rows-requires c κs = let p = c .before .before .before .before .before .before .before .before .before .before .before .before .before .before .before .before .before .before .before .pre in (p .0, c .before .before .before .before .before .before .before .before .before .end-of .ensures .0, omega (arith, c .before .before .before .before .before .before .before .before .before .end-of .ensures .1, c .before .before .before .before .before .before .before .before .before .before .before .before .before .at-most .ensures .1), c .before .before .before .mark-held .kept .0, p .2)
+move-rows-requires c κs = let p = c .before .before .before .before .before .before .before .before .before .before .before .before .before .before .before .before .before .before .before .pre in (p .0, c .before .before .before .before .before .before .before .before .before .end-of .ensures .0, omega (arith, c .before .before .before .before .before .before .before .before .before .end-of .ensures .1, c .before .before .before .before .before .before .before .before .before .before .before .before .before .at-most .ensures .1), c .before .before .before .ask .kept .0, p .2)
 
 -- src/lib.rt:211:40
 slice-aggregate-start-all : tie.Need-slice-aggregate-start-all
@@ -84,7 +83,7 @@ slice-aggregate-start-all-2 c = search needs
 -- src/lib.rt:211:9
 start-all-requires : tie.Need-start-all-requires
 start-all-requires c κs = let p = c .before .before .before .before .before .before .before .before .before .before .before .before .before .before .before .before .before .before .before .before .before .before .before .before .before .before .pre in
-    (c .before .before .before .before .before .before .move-rows .kept .0 ∙ p .0, c .before .before .before .before .before .before .before .before .before .before .before .before .before .before .before .before .before .before .before .before .at-most .ensures .1, c .before .before .before .before .before .before .before .before .before .before .mark-held .kept .0, c .before .before .before .before .before .before .before .before .before .before .before .before .before .before .held-in .ensures .0, omega arith, p .1, p .2)
+    (c .before .before .before .before .before .before .move-rows .kept .0 ∙ p .0, c .before .before .before .before .before .before .before .before .before .before .before .before .before .before .before .before .before .before .before .before .at-most .ensures .1, c .before .before .before .before .before .before .before .before .before .before .ask .kept .0, c .before .before .before .before .before .before .before .before .before .before .before .before .before .before .held-in .ensures .0, omega arith, p .1, p .2)
 
 -- src/lib.rt:212:9
 is-told-requires : tie.Need-is-told-requires
@@ -120,7 +119,7 @@ returns c = let a = c .before .before .before .before .before .before .before .b
     let s : List ℕ = a .s .now in
     let l : List ℕ = a .payload .now in
     let p : Packet = packetOf l in
-    let acts : List ℕ = c .before .before .before .before .before .before .before .before .before .before .before .before .before .before .before .before .before .before .before .before .before .before .before .before .before .before .mark-held .last .0 in
+    let acts : List ℕ = c .before .before .before .before .before .before .before .before .before .before .before .before .before .before .before .before .before .before .before .before .before .before .before .before .before .before .ask .last .0 in
     let held : List ℕ = c .before .before .before .before .before .before .before .before .before .before .before .before .before .before .before .before .before .before .before .before .before .before .before .before .before .before .before .before .before .before .held-in .result in
     let dev : ℕ = c .before .before .before .before .before .before .before .before .before .before .before .before .before .before .before .before .before .before .before .before .before .before .before .before .before .before .before .before .before .before .before .before .before .before .before .before .before .before .get64 .result / 256 in
     let n : ℕ = c .before .before .before .before .before .before .before .before .before .before .before .before .before .before .before .before .before .before .before .before .before .before .before .before .before .before .before .before .before .before .before .before .before .before .before .before .at-most .result in
@@ -137,7 +136,7 @@ returns c = let a = c .before .before .before .before .before .before .before .b
           let over = c .before .before .before .before .before .before .before .before .before .before .before .before .before .before .before .before .before .before .before .before .before .before .before .before .before .before .before .before .before .before .before .before .end-of .ensures .2 m p w t in
           let most : to ≤ n = c .before .before .before .before .before .before .before .before .before .before .before .before .before .before .before .before .before .before .before .before .before .before .before .before .before .before .before .before .before .before .before .before .end-of .ensures .1 in
           let flags = c .before .before .before .before .before .before .before .before .before .before .before .before .before .before .before .before .before .before .before .before .before .before .before .before .before .before .before .before .before .before .held-in .ensures .1 m p n w t most none in
-          let marks : acts ≡ marksFor held s p = held-of held _ s l (c .before .before .before .before .before .before .before .before .before .before .before .before .before .before .before .before .before .before .before .before .before .before .before .before .before .before .before .before .before .before .held-in .ensures .0) refl (pre .0) (pre .2) (c .before .before .before .before .before .before .before .before .before .before .before .before .before .before .before .before .before .before .before .before .before .before .before .before .before .before .mark-held .ensures) in
+          let marks = c .before .before .before .before .before .before .before .before .before .before .before .before .before .before .before .before .before .before .before .before .before .before .before .before .before .before .ask .ensures in
           let g : Begun m s l acts held dev n = begun m s l acts held dev n to e h w t marks most over flags in
           let v = c .before .before .before .before .before .before .before .before .before .before .before .before .before .before .before .before .before .before .before .before .before .before .move-rows .ensures m held n g (record { most = omega (arith, w .count); below = none; behind = over }) in
           let hm = moves-holding m s l acts held dev n g (v .1) in
@@ -157,9 +156,9 @@ step-spec =
     first-of-requires
     end-of-requires
     held-in-requires
-    slice-aggregate-mark-held
-    slice-aggregate-mark-held-2
-    mark-held-requires
+    slice-aggregate-ask
+    slice-aggregate-ask-2
+    ask-requires
     slice-aggregate-move-rows
     move-rows-requires
     slice-aggregate-start-all

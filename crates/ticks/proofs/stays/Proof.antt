@@ -1,21 +1,20 @@
-use Rattle.ticks.specs.Written.{stays-over}
 use borrow.Author.Needs.{needs}
 use Rattle.ticks.proofs.stays.Statement.{statement}
 use Rattle.ticks.proofs.stays.Tie as tie
 use Rattle.ticks.proofs.stays.Reads as reads
 use Rattle.ticks.proofs.stays.Lts as lts
 
--- src/lib.rt:23:16
+cast-result : tie.Need-cast-result
+cast-result c = search needs
+
 add-result : tie.Need-add-result
 add-result c = search needs
 
--- src/lib.rt:23:9
+cast-result-2 : tie.Need-cast-result-2
+cast-result-2 c = search needs
+
 returns : tie.Need-returns
 returns c = search needs
 
--- src/lib.rt:19:1
-returns-2 : tie.Need-returns-2
-returns-2 c = stays-over _ _ (c .if1 .left)
-
 pub stays-spec : {M : Type 1} → statement M
-stays-spec = tie.close (tie.spec add-result returns returns-2)
+stays-spec = tie.close (tie.spec cast-result add-result cast-result-2 returns)

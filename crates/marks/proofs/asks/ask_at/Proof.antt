@@ -1,7 +1,7 @@
 use Prim.Native.Nat.{ℕ}
 use mathlib.Core.Bool.{_||_, not}
 use mathlib.Core.Path.{ap, _∙_}
-use lib.Dec.{eqb, leb}
+use lib.Dec.{eqb, ltb}
 use Rattle.marks.specs.Marks.{flag}
 use Rattle.marks.specs.Asked.{askAt}
 use borrow.Author.Needs.{needs}
@@ -33,13 +33,16 @@ level-of-requires : tie.Need-level-of-requires
 level-of-requires c κs = search needs
 
 -- src/asks.rt:18:5
+cast-bit : tie.Need-cast-bit
+cast-bit c = search needs
+
 bit-requires : tie.Need-bit-requires
 bit-requires c κs = search needs
 
 -- src/asks.rt:13:1
 returns : tie.Need-returns
 unfolding askAt
-returns c = let a = c .before .before .before .before .args in c .bit .ensures .0 ∙ ap (λ (x : ℕ). flag (not (eqb (a .held) 0) || leb x (a .strength))) (c .before .level-of .ensures)
+returns c = let a = c .before .before .before .before .args in c .bit .ensures .0 ∙ ap (λ (x : ℕ). flag (not (eqb (a .held) 0) || ltb x (a .reach))) (c .before .level-of .ensures)
 
 pub ask-at-spec : {M : Type 1} → statement M
 ask-at-spec =
@@ -50,5 +53,6 @@ ask-at-spec =
     add-level-of-2
     shared-slice-read-level-of
     level-of-requires
+    cast-bit
     bit-requires
     returns)

@@ -11,10 +11,10 @@ use Rattle.marks.proofs.asks.ask_at.Reads as ask-at-reads
 use Rattle.marks.proofs.keys.is_alike.Reads as is-alike-reads
 
 abbrev Inv-loop : tie.InvT-loop
-Inv-loop s held strength h j₀ j = j ≤ h
+Inv-loop s held reach h j₀ j = j ≤ h
 
 abbrev μ-loop : tie.MeasureT-loop
-μ-loop s held strength h j₀ j = h - j
+μ-loop s held reach h j₀ j = h - j
 
 -- src/keys.rt:59:5
 loop-holds : tie.Need-loop-holds Inv-loop μ-loop
@@ -35,7 +35,7 @@ is-alike-requires c κs = search needs
 -- src/keys.rt:62:13
 returns : tie.Need-returns Inv-loop μ-loop
 returns c = let a = c .before .before .before .before .before .before .before .before .args in let l = c .before .before .before .before .before .loop in let x = c .before .is-alike .ensures (c .if1 .taken) in
-    (omega arith, λ z. (λ e. x .0 (ask-said (a .held .now) (a .s .now) (a .strength) (l .j) (omega arith) (c .before .before .ask-at .ensures) ∙ e), x .1))
+    (omega arith, λ z. (λ e. x .0 (ask-said (a .held .now) (a .s .now) (a .reach) (l .j) (omega arith) (c .before .before .ask-at .ensures) ∙ e), x .1))
 
 -- src/keys.rt:64:9
 add-j : tie.Need-add-j Inv-loop μ-loop

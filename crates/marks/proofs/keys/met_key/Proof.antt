@@ -25,7 +25,7 @@ ask-at-requires c κs = search needs
 -- src/keys.rt:88:9
 returns : tie.Need-returns
 returns c = let a = c .before .before .before .before .before .before .before .args in
-    λ n k. absurd (n (sym (ask-said (a .held .now) (a .s .now) (a .strength) (a .h) (omega arith) (c .before .ask-at .ensures)) ∙ c .if1 .taken))
+    λ n k. absurd (n (sym (ask-said (a .held .now) (a .s .now) (a .reach) (a .h) (omega arith) (c .before .ask-at .ensures)) ∙ c .if1 .taken))
 
 -- src/keys.rt:90:35
 mul-at : tie.Need-mul-at

@@ -13,10 +13,10 @@ use Rattle.marks.proofs.keys.met_keys.Lts as lts
 use Rattle.marks.proofs.keys.met_key.Reads as met-key-reads
 
 abbrev Inv-loop : tie.InvT-loop
-Inv-loop met₀ s held strength payload h₀ met h = (h ≤ mostMonitors) × (length met ≡ length met₀) × Keyed met s (askedOf held s strength) payload h
+Inv-loop met₀ s held reach payload h₀ met h = (h ≤ mostMonitors) × (length met ≡ length met₀) × Keyed met s (askedOf held s reach) payload h
 
 abbrev μ-loop : tie.MeasureT-loop
-μ-loop met₀ s held strength payload h₀ met h = mostMonitors - h
+μ-loop met₀ s held reach payload h₀ met h = mostMonitors - h
 
 -- src/keys.rt:105:5
 loop-holds : tie.Need-loop-holds Inv-loop μ-loop
@@ -43,7 +43,7 @@ loop-again : tie.Need-loop-again Inv-loop μ-loop
 loop-again c = let a = c .before .before .before .before .before .before .before .before .args in let l = c .before .before .before .loop in (
   omega arith,
   simp length-set (l .inv .1),
-  keyed-turn (l .met) (a .s .now) (askedOf (a .held .now) (a .s .now) (a .strength)) (a .payload .now) (l .h) (c .met-key .result) (omega arith) (l .inv .2) (c .met-key .ensures),
+  keyed-turn (l .met) (a .s .now) (askedOf (a .held .now) (a .s .now) (a .reach)) (a .payload .now) (l .h) (c .met-key .result) (omega arith) (l .inv .2) (c .met-key .ensures),
 )
 
 -- src/keys.rt:99:1

@@ -1,9 +1,8 @@
-use Rattle.ticks.specs.Written.{closes-past}
 use Rattle.ticks.specs.Row.{closesAt}
 use Prim.Native.Nat.{_+_}
 use lib.Dec.{leb}
 use mathlib.Core.Bool.{Bool, _&&_}
-use mathlib.Core.Path.{_∙_, ap}
+use mathlib.Core.Path.{ap}
 use borrow.Author.Needs.{needs}
 use Rattle.ticks.proofs.tells.closes.Statement.{statement}
 use Rattle.ticks.proofs.tells.closes.Tie as tie
@@ -11,22 +10,18 @@ use Rattle.ticks.proofs.tells.closes.Reads as reads
 use Rattle.ticks.proofs.tells.closes.Lts as lts
 use Rattle.ticks.proofs.tells.windowed.Reads as windowed-reads
 
--- src/lib.rt:39:9
+-- src/tells.rt:27:9
 windowed-requires : tie.Need-windowed-requires
 windowed-requires c κs = search needs
 
--- src/lib.rt:41:34
+-- src/tells.rt:28:30
 add-result : tie.Need-add-result
 add-result c = search needs
 
--- src/lib.rt:41:9
+-- src/tells.rt:24:1
 returns : tie.Need-returns
 unfolding closesAt
-returns c = ap (λ (b : Bool). b && leb (c .before .before .args .period) (c .before .before .args .ticks + 1)) (c .before .windowed .ensures)
-
--- src/lib.rt:36:1
-returns-2 : tie.Need-returns-2
-returns-2 c = c .before .windowed .ensures ∙ closes-past (c .before .before .args .period) (c .before .before .args .ticks) (c .if1 .left)
+returns c = ap (λ (b : Bool). b && leb (c .before .args .period) (c .before .args .ticks + 1)) (c .windowed .ensures)
 
 pub closes-spec : {M : Type 1} → statement M
-closes-spec = tie.close (tie.spec windowed-requires add-result returns returns-2)
+closes-spec = tie.close (tie.spec windowed-requires add-result returns)
