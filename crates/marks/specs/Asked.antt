@@ -8,12 +8,13 @@ use mathlib.Core.List.{List, [], _∷_}
 use native.Mathlib.Omega.{arith}
 use lib.Dec.{leb, ltb, eqb}
 use lib.Signed.{leZ}
-use lib.ListN.{length, drop, getD}
+use lib.ListN.{length, drop, getD, replicate}
 use borrow.Author.Tests.{eq-eqb, ne-eqb, leb-true, leb-false, lt-ltb, le-ltb}
 use Rattle.laws.specs.Tests.{pick, pick-true, pick-false, and-right, and-both, and-not-left, and-not-right}
-use Rattle.laws.specs.Loops.{upTo}
+use Rattle.laws.specs.Loops.{every, every-at, upTo}
 use Rattle.laws.specs.Rows.{row, put-whole}
 use Rattle.laws.specs.Put.{put}
+use Rattle.parts.specs.Parts.{isZero}
 use Rattle.rule.specs.Engine.{find}
 use Rattle.blocks.specs.Tables.{places-same}
 use Rattle.blocks.specs.Facts.{SoundModel}
@@ -157,6 +158,14 @@ spared-padded may m p f held h b =
     getD-singles (λ j. spared may (getD held j 0) (g j)) mostMonitors h b
     ∙ ap (spared may (getD held h 0)) (sym (getD-singles g mostMonitors h b) ∙ ap (λ (l : List ℕ). getD l h 0) (marks-padded m p f)
     ∙ getD-marks (m .mons) p h b)
+
+-- where no pair may start and none is held, nobody is asked
+pub none-asked : (held s : List ℕ) (p : Packet) → length held ≡ mostMonitors → every isZero held ≡ true
+    → replicate mostMonitors 0 ≡ marksFor false held s p
+unfolding marksFor spared upTo
+none-asked held s p n e =
+    sym (places-same (λ h. spared false (getD held h 0) (markRow (row monitorSize h (drop monitorsAt s)) p) ∷ []) (λ h. 0 ∷ []) mostMonitors
+    (λ h b. ap (λ (n : ℕ). n ∷ []) (pick-false _ 0 (ap (λ (t : Bool). not t || false) (every-at isZero held h 0 e (omega arith))))))
 
 -- such an octet is the handle's own, or it is 0
 pub spared-held : (may : Bool) (k a : ℕ) → (k ≡ 0 → ⊥) → spared may k a ≡ a

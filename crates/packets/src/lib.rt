@@ -12,7 +12,7 @@ ghost use Prim.Native.Nat.{ℕ, _+_, _*_, _≤_, _<_};
 ghost use mathlib.Core.Path.{_≡_};
 ghost use mathlib.Core.Bool.{true, false};
 ghost use mathlib.Core.List.{List};
-ghost use lib.ListN.{length};
+ghost use lib.ListN.{length, replicate};
 ghost use Rattle.octets.specs.Numbers.{numberAt};
 ghost use Rattle.model.specs.Types.{Model, Packet};
 ghost use Rattle.sessions.specs.Machine.{answerRoom};
@@ -196,11 +196,17 @@ fn is_told(s: &[u8], held: bool, start: bool) -> bool
 }
 
 // What the monitors of the device's pairs say of the packet and, where it may start a pair behind the n that are held, those that it is strong enough for.
+// A packet that concerns nobody asks none.
 fn ask(acts: &mut [u8], s: &[u8], n: usize, payload: &[u8], held: &[u8])
-    requires { ⌜ (length (now acts) ≡ mostMonitors) × (length (now s) ≡ blockSize) × Framed (now payload) × (length (now held) ≡ mostMonitors) ⌝ }
+    requires { ⌜ (now acts ≡ replicate mostMonitors 0) × (length (now s) ≡ blockSize) × Framed (now payload) × (length (now held) ≡ mostMonitors) ⌝ }
     ensures { λ _. ⌜ Acts (now (s .entry)) (now (payload .entry)) (now (held .entry)) n (now (acts .exit)) ⌝ }
 {
     let may = starts::may_start(s, n, payload[payload.len() - 1]);
+    if !may {
+        if parts::zeros(held) {
+            return;
+        }
+    }
     marks::mark_held(acts, s, payload, held, may);
 }
 
