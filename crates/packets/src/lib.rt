@@ -4,6 +4,7 @@
 // start pairs behind them, and the reports are written.
 mod device;
 mod reports;
+mod room;
 mod starts;
 mod windows;
 
@@ -201,7 +202,7 @@ fn ask(acts: &mut [u8], s: &[u8], n: usize, payload: &[u8], held: &[u8])
     requires { ⌜ (now acts ≡ replicate mostMonitors 0) × (length (now s) ≡ blockSize) × Framed (now payload) × (length (now held) ≡ mostMonitors) ⌝ }
     ensures { λ _. ⌜ Acts (now (s .entry)) (now (payload .entry)) (now (held .entry)) n (now (acts .exit)) ⌝ }
 {
-    let may = starts::may_start(s, n, payload[payload.len() - 1]);
+    let may = room::may_start(s, n, payload[payload.len() - 1]);
     if !may {
         if parts::zeros(held) {
             return;

@@ -30,7 +30,6 @@ ghost use Rattle.packets.specs.Device.{Sender};
 ghost use Rattle.packets.specs.Firm.{Settled};
 ghost use Rattle.packets.specs.Starts.{Holding, Asked, Told};
 ghost use Rattle.packets.specs.Handles.{Turns, NoStart};
-ghost use Rattle.packets.specs.Shut.{NoneLess, Shut};
 ghost use Rattle.model.specs.Layout.{blockSize, countAt, eventMost, mostMonitors, mostPairs, pairSize, pairsAt, turnMost, turnsMost};
 
 // What turns leave: how many pairs are held, how many octets were written, and whether the report of a start is let through.
@@ -90,7 +89,7 @@ struct Weak {
 }
 
 // The level that pair i keeps.
-fn kept_at(s: &[u8], i: usize) -> u8
+pub(super) fn kept_at(s: &[u8], i: usize) -> u8
     requires { ⌜ (length (now s) ≡ blockSize) × (i < mostPairs) ⌝ }
     ensures { λ r. ⌜ r ≡ levelAt (now (s .entry)) i ⌝ }
 {
@@ -122,31 +121,6 @@ fn weakest(s: &[u8]) -> Weak
         j += 1;
     }
     Weak { at: i, least }
-}
-
-// Whether some of 64 pairs keeps less than a level.
-fn is_weaker(s: &[u8], level: u8) -> bool
-    requires { ⌜ length (now s) ≡ blockSize ⌝ }
-    ensures { λ r. ⌜ (r ≡ false → NoneLess (now (s .entry)) level mostPairs) ⌝ }
-{
-    let mut some = false;
-    let mut j = 0;
-    while j < State::PAIRS {
-        some = some | (kept_at(s, j) < level);
-        j += 1;
-    }
-    some
-}
-
-// Whether a packet of an RSSI may start a pair: there is room behind the n pairs held, or one keeps less.
-pub(super) fn may_start(s: &[u8], n: usize, rssi: u8) -> bool
-    requires { ⌜ length (now s) ≡ blockSize ⌝ }
-    ensures { λ r. ⌜ (r ≡ false → Shut (now (s .entry)) n rssi) ⌝ }
-{
-    if State::PAIRS <= n {
-        return is_weaker(s, state::level_of(rssi));
-    }
-    true
 }
 
 // A start behind the n pairs held. Answers how many octets were written.

@@ -11,7 +11,7 @@ use Rattle.packets.proofs.ask.Tie as tie
 use Rattle.packets.proofs.ask.Reads as reads
 use Rattle.packets.proofs.ask.Lts as lts
 use Rattle.marks.proofs.mark_held.Reads as mark-held-reads
-use Rattle.packets.proofs.starts.may_start.Reads as may-start-reads
+use Rattle.packets.proofs.room.may_start.Reads as may-start-reads
 use Rattle.parts.proofs.zeros.Reads as zeros-reads
 
 -- src/lib.rt:204:47

@@ -5,10 +5,10 @@ use native.Mathlib.Omega.{arith}
 use borrow.Author.Needs.{needs}
 use Rattle.model.specs.Layout.{mostPairs}
 use Rattle.packets.specs.Shut.{NoneLess, none-less-more}
-use Rattle.packets.proofs.starts.is_weaker.Statement.{statement}
-use Rattle.packets.proofs.starts.is_weaker.Tie as tie
-use Rattle.packets.proofs.starts.is_weaker.Reads as reads
-use Rattle.packets.proofs.starts.is_weaker.Lts as lts
+use Rattle.packets.proofs.room.is_weaker.Statement.{statement}
+use Rattle.packets.proofs.room.is_weaker.Tie as tie
+use Rattle.packets.proofs.room.is_weaker.Reads as reads
+use Rattle.packets.proofs.room.is_weaker.Lts as lts
 use Rattle.packets.proofs.starts.kept_at.Reads as kept-at-reads
 
 abbrev Inv-loop : tie.InvT-loop

@@ -4,11 +4,11 @@ use mathlib.Core.Bool.{false≢true}
 use native.Mathlib.Omega.{arith}
 use Rattle.packets.specs.Weakest.{levelAt}
 use borrow.Author.Needs.{needs}
-use Rattle.packets.proofs.starts.may_start.Statement.{statement}
-use Rattle.packets.proofs.starts.may_start.Tie as tie
-use Rattle.packets.proofs.starts.may_start.Reads as reads
-use Rattle.packets.proofs.starts.may_start.Lts as lts
-use Rattle.packets.proofs.starts.is_weaker.Reads as is-weaker-reads
+use Rattle.packets.proofs.room.may_start.Statement.{statement}
+use Rattle.packets.proofs.room.may_start.Tie as tie
+use Rattle.packets.proofs.room.may_start.Reads as reads
+use Rattle.packets.proofs.room.may_start.Lts as lts
+use Rattle.packets.proofs.room.is_weaker.Reads as is-weaker-reads
 use Rattle.state.proofs.level_of.Reads as level-of-reads
 
 level-of-requires : tie.Need-level-of-requires
