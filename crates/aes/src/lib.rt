@@ -1,16 +1,15 @@
 // AES-128 encryption after FIPS 197. A column of the state is a number: its octet in row r is at place 256^r. Look-ups
 // go by the octets of key and block, so the time of a call may depend on them.
 ghost use mathlib.Core.Path.{_≡_};
-ghost use mathlib.Core.List.{[], _∷_};
+ghost use mathlib.Core.List.{[], _∷_, map};
 ghost use Prim.Native.Nat.{_<_};
 ghost use Rattle.fips197.specs.Field.{xtimes, substitute};
 ghost use Rattle.fips197.specs.Words.{octet, octets, sums, turn};
-ghost use Rattle.fips197.specs.Tables.{IsTable, IsMixedTable, mixedOf};
+ghost use Rattle.fips197.specs.Tables.{IsTable};
 ghost use Rattle.fips197.specs.Cipher.{mixColumn, mixColumns, shiftRows, subBytes, addRoundKey, cipher};
 ghost use Rattle.fips197.specs.Laws.{nextKey};
 ghost use Rattle.aes.specs.Blocks.{blockOctets, subColumn};
 
-mod mixed_table;
 mod sbox_table;
 
 // The rounds that mix columns: all but the last.
@@ -29,13 +28,6 @@ fn substitutes() -> [u8; 256]
     ensures { λ r. ⌜ IsTable r ⌝ }
 {
     sbox_table::SBOX
-}
-
-// The rule of the table of mixed columns, for the whole table at once.
-fn mixed_columns() -> [u32; 256]
-    ensures { λ r. ⌜ IsMixedTable r ⌝ }
-{
-    mixed_table::MIXED
 }
 
 fn wide(x: u8) -> u32
@@ -117,14 +109,6 @@ fn sub(t: &[u8; 256], i: usize) -> u8
     t[i]
 }
 
-// What an octet adds to a mixed column, from the table.
-fn mixed(t: &[u32; 256], i: usize) -> u32
-    requires { ⌜ (IsMixedTable (now t)) × (i < 256) ⌝ }
-    ensures { λ r. ⌜ octets r ≡ mixedOf i ⌝ }
-{
-    t[i]
-}
-
 // A column of SubBytes and ShiftRows: row 0 of a, row 1 of b, row 2 of c, row 3 of d.
 fn sub_word(t: &[u8; 256], a: u32, b: u32, c: u32, d: u32) -> u32
     requires { ⌜ IsTable (now t) ⌝ }
@@ -137,17 +121,30 @@ fn sub_word(t: &[u8; 256], a: u32, b: u32, c: u32, d: u32) -> u32
     column(p, q, u, v)
 }
 
+// The products of a column's octets with {02}, all four at once: what is above bit 7 of an octet is taken away before the bits move up.
+fn double_word(w: u32) -> u32
+    ensures { λ r. ⌜ octets r ≡ map xtimes (octets w) ⌝ }
+{
+    let high = w & 0x80808080;
+    ((w - high) * 2) ^ (high / 128 * 27)
+}
+
+// FIPS 197, 5.1.3: a column of MixColumns.
+fn mix_column(w: u32) -> u32
+    ensures { λ r. ⌜ octets r ≡ mixColumn (octet 0 w) (octet 1 w) (octet 2 w) (octet 3 w) ⌝ }
+{
+    let v = double_word(w);
+    let u = turn1(sum(w, v));
+    sum(sum(sum(v, u), turn2(w)), turn3(w))
+}
+
 // A column of SubBytes, ShiftRows and MixColumns.
-fn mix_word(t: &[u32; 256], a: u32, b: u32, c: u32, d: u32) -> u32
-    requires { ⌜ IsMixedTable (now t) ⌝ }
+fn mix_word(t: &[u8; 256], a: u32, b: u32, c: u32, d: u32) -> u32
+    requires { ⌜ IsTable (now t) ⌝ }
     ensures { λ r. ⌜ octets r ≡ mixColumn (substitute (octet 0 a)) (substitute (octet 1 b)) (substitute (octet 2 c))
         (substitute (octet 3 d)) ⌝ }
 {
-    let p = mixed(t, octet0(a));
-    let q = turn3(mixed(t, octet1(b)));
-    let u = turn2(mixed(t, octet2(c)));
-    let v = turn1(mixed(t, octet3(d)));
-    sum(sum(sum(p, q), u), v)
+    mix_column(sub_word(t, a, b, c, d))
 }
 
 // FIPS 197, 5.1.4: AddRoundKey.
@@ -184,14 +181,14 @@ fn sub_shift(t: &[u8; 256], s: Block) -> Block
 }
 
 // SubBytes, then ShiftRows, then MixColumns.
-fn mix_shift(m: &[u32; 256], s: Block) -> Block
-    requires { ⌜ IsMixedTable (now m) ⌝ }
+fn mix_shift(t: &[u8; 256], s: Block) -> Block
+    requires { ⌜ IsTable (now t) ⌝ }
     ensures { λ r. ⌜ blockOctets r ≡ mixColumns (shiftRows (subBytes (blockOctets s))) ⌝ }
 {
-    let a = mix_word(m, s.a, s.b, s.c, s.d);
-    let b = mix_word(m, s.b, s.c, s.d, s.a);
-    let c = mix_word(m, s.c, s.d, s.a, s.b);
-    let d = mix_word(m, s.d, s.a, s.b, s.c);
+    let a = mix_word(t, s.a, s.b, s.c, s.d);
+    let b = mix_word(t, s.b, s.c, s.d, s.a);
+    let c = mix_word(t, s.c, s.d, s.a, s.b);
+    let d = mix_word(t, s.d, s.a, s.b, s.c);
     Block {
         a: a,
         b: b,
@@ -227,9 +224,9 @@ fn last_round(t: &[u8; 256], s: Block, k: Block) -> Block
     add_round_key(sub_shift(t, s), k)
 }
 
-// The cipher, with both tables lent.
-fn encrypt_with(t: &[u8; 256], m: &[u32; 256], key: Block, block: Block) -> Block
-    requires { ⌜ (IsTable (now t)) × (IsMixedTable (now m)) ⌝ }
+// The cipher, with the table lent.
+fn encrypt_with(t: &[u8; 256], key: Block, block: Block) -> Block
+    requires { ⌜ IsTable (now t) ⌝ }
     ensures { λ r. ⌜ blockOctets r ≡ cipher (blockOctets key) (blockOctets block) ⌝ }
 {
     let mut k = key;
@@ -238,7 +235,7 @@ fn encrypt_with(t: &[u8; 256], m: &[u32; 256], key: Block, block: Block) -> Bloc
     let mut n = 0u8;
     while n < ROUNDS {
         k = next_key(t, k, rc);
-        s = add_round_key(mix_shift(m, s), k);
+        s = add_round_key(mix_shift(t, s), k);
         rc = double(rc);
         n += 1;
     }
@@ -250,6 +247,5 @@ pub fn encrypt(key: Block, block: Block) -> Block
     ensures { λ r. ⌜ blockOctets r ≡ cipher (blockOctets key) (blockOctets block) ⌝ }
 {
     let t = substitutes();
-    let m = mixed_columns();
-    encrypt_with(&t, &m, key, block)
+    encrypt_with(&t, key, block)
 }

@@ -61,7 +61,7 @@ joined : (w x y z p q u v : ℕ) → w ≡ x * 256 + p → x ≡ y * 256 + q →
 joined w x y z p q u v a b c d = omega arith
 
 -- a number is made of its octets
-word-octets : (w : ℕ) → w < 2 ^ 32 → w ≡ octet 0 w + 256 * octet 1 w + 65536 * octet 2 w + 16777216 * octet 3 w
+pub word-octets : (w : ℕ) → w < 2 ^ 32 → w ≡ octet 0 w + 256 * octet 1 w + 65536 * octet 2 w + 16777216 * octet 3 w
 word-octets w h =
     let d2 : w / 256 / 256 ≡ w / 65536 = div-div-eq-div-mul w 256 256 in
     let d3 : w / 65536 / 256 ≡ w / 16777216 = div-div-eq-div-mul w 65536 256 in

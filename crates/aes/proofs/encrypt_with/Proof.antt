@@ -9,11 +9,11 @@ use Rattle.aes.proofs.encrypt_with.Statement.{statement}
 use Rattle.aes.proofs.encrypt_with.Tie as tie
 
 abbrev Inv-loop : tie.InvT-loop
-Inv-loop t m k₀ s₀ rc₀ n₀ k s rc n = (n ≤ 9) × (rc ≡ powerOfX n) × (blockOctets k ≡ roundKey (blockOctets k₀) n)
+Inv-loop t k₀ s₀ rc₀ n₀ k s rc n = (n ≤ 9) × (rc ≡ powerOfX n) × (blockOctets k ≡ roundKey (blockOctets k₀) n)
     × (blockOctets s ≡ rounds (blockOctets k₀) (blockOctets s₀) n)
 
 abbrev μ-loop : tie.MeasureT-loop
-μ-loop t m k₀ s₀ rc₀ n₀ k s rc n = 9 - n
+μ-loop t k₀ s₀ rc₀ n₀ k s rc n = 9 - n
 
 add-round-key-requires : tie.Need-add-round-key-requires Inv-loop μ-loop
 add-round-key-requires c κs = search needs
