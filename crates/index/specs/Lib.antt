@@ -7,5 +7,6 @@ pub mod Found
 pub mod Written
 pub mod Built
 pub mod Renewed
+pub mod InPlace
 pub mod Watching
 pub mod Begun

@@ -11,13 +11,14 @@ ghost use Rattle.octets.specs.Little.{value};
 ghost use Rattle.state.specs.Start.{settingsOf};
 ghost use Rattle.model.specs.Types.{device};
 ghost use Rattle.model.specs.Block.{held};
-ghost use Rattle.model.specs.Layout.{addressSize, blockSize};
-ghost use Rattle.wholes.specs.Layout.{indexSize, wholeSize};
+ghost use Rattle.model.specs.Layout.{addressSize, blockSize, mostPairs};
+ghost use Rattle.wholes.specs.Layout.{entriesSize, indexSize, wholeSize};
 ghost use Rattle.wholes.specs.Index.{indexBlock, maskFor, handlesOf};
 ghost use Rattle.wholes.specs.Whole.{whole};
 ghost use Rattle.wholes.specs.Engine.{begin, blankOn};
 ghost use Rattle.index.specs.Begun.{firstIn, begunIn, blankIn};
 ghost use Rattle.index.specs.Asked.{watchOf};
+ghost use Rattle.index.specs.InPlace.{tableIn, Stands};
 ghost use Rattle.index.specs.Renewed.{isIndexed, isMoved, followed, renewed};
 
 // The octet that opens an event of a pair.
@@ -200,16 +201,40 @@ pub fn is_indexed(s: &[u8]) -> bool
     parts::same(&index, &s[Whole::INDEX_AT..Whole::EDITIONS_AT])
 }
 
-// The index of a block worked out afresh; a block of another size is left as it is.
+// The first n pairs of a block noted one by one in its own index, which holds zeros. Answers how many entries there are.
+fn note_all(s: &mut [u8], n: usize) -> usize
+    requires { ⌜ (length (now s) ≡ wholeSize) × (n ≤ mostPairs) × (tableIn (now s) ≡ replicate entriesSize 0) ⌝ }
+    ensures { λ r. ⌜ (r ≤ n) × Stands n r (now (s .entry)) (now (s .exit)) ⌝ }
+{
+    let mut seen = [0u8; table::MARKS];
+    let mut k = 0;
+    let mut i = 0;
+    while i < n {
+        let key = table::key_at(&s[State::PAIRS_AT..State::COUNT_AT], i);
+        let h = (key % 256) as u8;
+        k = table::note_marked(
+            &mut s[Whole::INDEX_AT..Whole::COUNT_AT],
+            &mut seen,
+            k,
+            key / 256,
+            h,
+        );
+        i += 1;
+    }
+    k
+}
+
+// The index of a block worked out afresh, in its place; a block of another size is left as it is.
 pub fn renew(s: &mut [u8])
     ensures { λ _. ⌜ now (s .exit) ≡ renewed (now (s .entry)) ⌝ }
 {
     if s.len() != Whole::SIZE {
         return;
     }
-    let mut index = [0u8; Whole::INDEX];
-    work_out(s, &mut index);
-    parts::copy(s, Whole::INDEX_AT, &index);
+    let n = octets::at_most(s[State::COUNT_AT], State::PAIRS);
+    parts::fill(s, Whole::INDEX_AT, Whole::INDEX, 0);
+    let k = note_all(s, n);
+    s[Whole::COUNT_AT] = k as u8;
 }
 
 // Whether a frame that wrote n octets at an output's start, with so many pairs held before it, started or ended a pair: another number is

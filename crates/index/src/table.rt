@@ -19,7 +19,7 @@ ghost use Rattle.index.specs.Seen.{marks, markOf, Kept};
 const DEVICES: u64 = 72057594037927936;
 
 // How many marks a device may have.
-const MARKS: usize = 256;
+pub(super) const MARKS: usize = 256;
 
 // The device of entry j, as a number.
 fn device_at(table: &[u8], j: usize) -> u64
@@ -113,7 +113,7 @@ fn mark_of(dev: u64) -> usize
 }
 
 // The same by the marks of the entries' devices: a device without a mark has no entry, and none is searched for.
-fn note_marked(table: &mut [u8], seen: &mut [u8], k: usize, dev: u64, h: u8) -> usize
+pub(super) fn note_marked(table: &mut [u8], seen: &mut [u8], k: usize, dev: u64, h: u8) -> usize
     requires { ⌜ (length (now table) ≡ entriesSize) × (length (now seen) ≡ marks) × (k < mostPairs) × (dev < 72057594037927936) ⌝ }
     ensures { λ r. ⌜ (r ≤ k + 1) × ((es : List Entry) (d : List ℕ) → Kept es k (now (table .entry)) (now (seen .entry)) → Seven d → dev ≡ value d → Kept (noted d h es) r (now (table .exit)) (now (seen .exit))) ⌝ }
 {
@@ -127,7 +127,7 @@ fn note_marked(table: &mut [u8], seen: &mut [u8], k: usize, dev: u64, h: u8) -> 
 }
 
 // The key of pair i: its handle and its device.
-fn key_at(pairs: &[u8], i: usize) -> u64
+pub(super) fn key_at(pairs: &[u8], i: usize) -> u64
     requires { ⌜ (length (now pairs) ≡ pairsSize) × (i < mostPairs) ⌝ }
     ensures { λ r. ⌜ r ≡ little 8 (now (pairs .entry)) (pairSize * i) ⌝ }
 {

@@ -1,49 +1,56 @@
+use mathlib.Core.Path.{refl, _∙_}
 use native.Mathlib.Omega.{arith}
-use Rattle.index.specs.Renewed.{renewed-not, renewed-is}
+use lib.ListN.{length-set}
+use Rattle.index.specs.Renewed.{renewed-not}
+use Rattle.index.specs.InPlace.{cleared, renewed-in}
 use borrow.Author.Needs.{needs}
 use Rattle.index.proofs.renew.Statement.{statement}
 use Rattle.index.proofs.renew.Tie as tie
-use Rattle.index.proofs.renew.Reads as reads
-use Rattle.index.proofs.renew.Lts as lts
-use Rattle.index.proofs.work_out.Reads as work-out-reads
-use Rattle.parts.proofs.copy.Reads as copy-reads
 
--- src/lib.rt:158:9
 returns : tie.Need-returns
 returns c = renewed-not (c .before .before .args .s .now) (c .if1 .taken)
 
--- src/lib.rt:161:17
-slice-aggregate-work-out : tie.Need-slice-aggregate-work-out
-slice-aggregate-work-out c = search needs
+slice-read-at-most : tie.Need-slice-read-at-most
+slice-read-at-most c = search needs
 
--- src/lib.rt:161:5
-work-out-requires : tie.Need-work-out-requires
-work-out-requires c κs = search needs
+at-most-requires : tie.Need-at-most-requires
+at-most-requires c κs = search needs
 
--- src/lib.rt:162:37
-slice-aggregate-copy : tie.Need-slice-aggregate-copy
-slice-aggregate-copy c = search needs
+fill-requires : tie.Need-fill-requires
+fill-requires c κs = search needs
 
--- src/lib.rt:162:5
-copy-requires : tie.Need-copy-requires
-copy-requires c κs = search needs
+note-all-requires : tie.Need-note-all-requires
+note-all-requires c κs =
+    let f = c .before .before .before .fill .ensures in
+    let q = cleared (c .before .before .before .before .before .before .before .before .before .args .s .now) (omega arith) (f .0) (f .1) in
+    (q .0, omega arith, q .1)
 
--- src/lib.rt:154:1
+cast-s : tie.Need-cast-s
+cast-s c = search needs
+
+slice-write-s : tie.Need-slice-write-s
+slice-write-s c = search needs
+
 same-length : tie.Need-same-length
-same-length c = search needs
+same-length c = simp length-set (c .before .before .note-all .kept .0 ∙ c .before .before .before .before .before .before .fill .kept .0)
 
--- src/lib.rt:154:1
 returns-2 : tie.Need-returns-2
-returns-2 c = let a = c .before .before .before .before .before .before .before .before .before .before .before in renewed-is (a .args .s .now) (omega arith) _ (c .before .before .before .before .before .before .work-out .ensures) (omega arith) (c .before .before .copy .ensures .0) (c .before .before .copy .ensures .1)
+returns-2 c =
+    let m = c .before .before .before .before .before .before .before .before .at-most in
+    let f = c .before .before .before .before .before .before .fill .ensures in
+    let k = c .before .before .note-all in
+    renewed-in (c .before .before .before .before .before .before .before .before .before .before .before .before .args .s .now) (omega arith) (m .result) (k .result) _ (m .ensures .0) refl (f .0) (f .1) (k .ensures .1)
 
 pub renew-spec : {M : Type 1} → statement M
 renew-spec =
     tie.close
     (tie.spec
     returns
-    slice-aggregate-work-out
-    work-out-requires
-    slice-aggregate-copy
-    copy-requires
+    slice-read-at-most
+    at-most-requires
+    fill-requires
+    note-all-requires
+    cast-s
+    slice-write-s
     same-length
     returns-2)
