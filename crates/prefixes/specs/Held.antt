@@ -118,7 +118,7 @@ module _ (s : List ℕ) where
   listed-end = let n = listed-count in lib.ListN.drop-of-length-le (listed s) {i = countIn s} (omega arith)
 
   module _ (i : ℕ) (l : length s ≡ wholeSize) (b : i < mostEditions) where
-    row-long : length (rowIn s i) ≡ editionSize
+    pub row-long : length (rowIn s i) ≡ editionSize
     unfolding rowIn
     row-long = length-row editionSize i mostEditions (drop editionsAt s) b (simp length-drop (omega arith))
 

@@ -31,7 +31,7 @@ use Rattle.wholes.specs.Whole.{laidWith}
 use Rattle.wholes.specs.Laid.{laid-length, laid-editions}
 use Rattle.prefixes.specs.Held.{listed, countIn, editionAt, listed-count, listed-take, listed-all, count-most}
 use Rattle.prefixes.specs.Force.{zeros-behind}
-use Rattle.prefixes.specs.Sound.{placed, rowsOf, row-fits, rows-more}
+use Rattle.prefixes.specs.Laid.{placed, rowsOf, row-fits, rows-more}
 
 -- the number of the last edition of a block; 0 where there is none or the block has another size
 unfoldable pub lastIn : List ℕ → ℕ

@@ -4,18 +4,20 @@ use index::Whole;
 use state::State;
 ghost use Prim.Native.Nat.{_+_, _*_, _≤_, _<_};
 ghost use mathlib.Core.Path.{_≡_};
-ghost use lib.ListN.{length, replicate};
+ghost use lib.ListN.{length, drop, replicate};
 ghost use lib.Dec.{leb};
 ghost use Rattle.laws.specs.Put.{put};
+ghost use Rattle.laws.specs.Tests.{sames};
 ghost use Rattle.octets.specs.Little.{little};
 ghost use Rattle.model.specs.Layout.{mostPrefix};
 ghost use Rattle.editions.specs.Editions.{prefixFor, editionRow, lastFrom, mostEditions};
-ghost use Rattle.editions.specs.Block.{editionSize, editionsSize, editionBlock};
+ghost use Rattle.editions.specs.Block.{editionSize, editionBlock};
 ghost use Rattle.wholes.specs.Layout.{editionsAt, wholeSize};
 ghost use Rattle.wholes.specs.Heads.{prefixSize, prefixRow};
-ghost use Rattle.prefixes.specs.Held.{listed, countIn, editionAt};
+ghost use Rattle.prefixes.specs.Held.{listed, countIn, rowIn, editionAt};
 ghost use Rattle.prefixes.specs.Force.{InForce, enforced, startsAt};
 ghost use Rattle.prefixes.specs.Sound.{startsRising, isPrefixed};
+ghost use Rattle.prefixes.specs.Laid.{placed};
 ghost use Rattle.prefixes.specs.More.{lastIn, canPush, pushed};
 
 // How many editions a block holds.
@@ -129,33 +131,51 @@ fn is_rising(s: &[u8]) -> bool
     true
 }
 
-// The row of edition i as an image's line has it, written into a lent table.
-fn put_row(table: &mut [u8], s: &[u8], i: usize)
-    requires { ⌜ (length (now s) ≡ wholeSize) × (i < mostEditions) × (length (now table) ≡ editionsSize) ⌝ }
-    ensures { λ _. ⌜ now (table .exit) ≡ put (now (table .entry)) (editionSize * i) (editionRow (editionAt (now (s .entry)) i)) ⌝ }
+// The row of edition i as an image's line has it, written into a lent row.
+fn put_row(row: &mut [u8], s: &[u8], i: usize)
+    requires { ⌜ (length (now s) ≡ wholeSize) × (i < mostEditions) × (length (now row) ≡ editionSize) ⌝ }
+    ensures { λ _. ⌜ now (row .exit) ≡ put (now (row .entry)) 0 (editionRow (editionAt (now (s .entry)) i)) ⌝ }
 {
     let at = Whole::EDITION * i;
     let behind = Whole::EDITIONS_AT + at + 4;
     let k = octets::at_most(s[behind], State::PREFIX);
     let from = behind + 1;
     let to = from + k;
-    octets::put32(table, at, number_at(s, i));
-    octets::put8(table, at + 4, k as u8);
-    parts::copy(table, at + 5, &s[from..to]);
+    octets::put32(row, 0, number_at(s, i));
+    octets::put8(row, 4, k as u8);
+    parts::copy(row, 5, &s[from..to]);
 }
 
-// The editions that a block holds, as they ought to stand in it, into a lent table of zeros.
-fn put_rows(table: &mut [u8], s: &[u8])
-    requires { ⌜ (length (now s) ≡ wholeSize) × (now table ≡ replicate editionsSize 0) × (length (now table) ≡ editionsSize) ⌝ }
-    ensures { λ _. ⌜ now (table .exit) ≡ editionBlock (listed (now (s .entry))) ⌝ }
+// Whether the row of edition i stands in a block as it ought to, with zeros behind its prefix.
+fn is_row(s: &[u8], i: usize) -> bool
+    requires { ⌜ (length (now s) ≡ wholeSize) × (i < mostEditions) ⌝ }
+    ensures { λ r. ⌜ r ≡ sames (placed (editionAt (now (s .entry)) i)) (rowIn (now (s .entry)) i) ⌝ }
+{
+    let mut row = [0u8; Whole::EDITION];
+    put_row(&mut row, s, i);
+    let from = Whole::EDITIONS_AT + Whole::EDITION * i;
+    let to = from + Whole::EDITION;
+    parts::same(&row, &s[from..to])
+}
+
+// Whether the editions that a block holds stand in it as they ought to: row by row, zeros behind them, and their number.
+fn is_laid(s: &[u8]) -> bool
+    requires { ⌜ length (now s) ≡ wholeSize ⌝ }
+    ensures { λ r. ⌜ r ≡ sames (editionBlock (listed (now (s .entry)))) (drop editionsAt (now (s .entry))) ⌝ }
 {
     let count = count_of(s);
     let mut i = 0;
     while i < count {
-        put_row(table, s, i);
+        if !is_row(s, i) {
+            return false;
+        }
         i += 1;
     }
-    table[Whole::EDITION * Whole::EDITIONS] = count as u8;
+    if octets::wide(s[Whole::EDITION_COUNT_AT]) != count {
+        return false;
+    }
+    let from = Whole::EDITIONS_AT + Whole::EDITION * count;
+    parts::zeros(&s[from..Whole::EDITION_COUNT_AT])
 }
 
 // Whether a block has its size, its editions are sound, and its head has the prefix in force at the position.
@@ -168,9 +188,7 @@ pub fn is_prefixed(s: &[u8]) -> bool
     if !is_rising(s) {
         return false;
     }
-    let mut table = [0u8; Whole::SIZE - Whole::EDITIONS_AT];
-    put_rows(&mut table, s);
-    if !parts::same(&table, &s[Whole::EDITIONS_AT..]) {
+    if !is_laid(s) {
         return false;
     }
     let mut row = [0u8; State::HEAD - State::PREFIX_LENGTH_AT];

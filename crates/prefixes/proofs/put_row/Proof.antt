@@ -3,7 +3,7 @@ use Rattle.editions.specs.Block.{editionSize}
 use Rattle.wholes.specs.Layout.{editionsAt}
 use native.Mathlib.Omega.{arith}
 use mathlib.Core.Path.{refl}
-use Rattle.prefixes.specs.Sound.{row-put}
+use Rattle.prefixes.specs.Laid.{row-put}
 use borrow.Author.Needs.{needs}
 use Rattle.prefixes.proofs.put_row.Statement.{statement}
 use Rattle.prefixes.proofs.put_row.Tie as tie
@@ -51,10 +51,6 @@ number-at-requires c κs = search needs
 put32-requires : tie.Need-put32-requires
 put32-requires c κs = search needs
 
--- src/lib.rt:143:25
-add-put8 : tie.Need-add-put8
-add-put8 c = search needs
-
 -- src/lib.rt:143:33
 cast-put8 : tie.Need-cast-put8
 cast-put8 c = search needs
@@ -62,10 +58,6 @@ cast-put8 c = search needs
 -- src/lib.rt:143:5
 put8-requires : tie.Need-put8-requires
 put8-requires c κs = search needs
-
--- src/lib.rt:144:24
-add-copy : tie.Need-add-copy
-add-copy c = search needs
 
 -- src/lib.rt:144:32
 sub-copy : tie.Need-sub-copy
@@ -89,7 +81,7 @@ same-length c = search needs
 
 -- src/lib.rt:133:1
 returns : tie.Need-returns
-returns c = let a = c .before .before .before .before .before .before .before .before .before .before .before .before .before .before .before .before .before .before in row-put (a .args .s .now) (a .args .table .now) (a .args .i) (c .before .before .before .before .before .before .before .before .before .before .before .before .before .before .at-most .result) _ (c .before .before .before .before .before .before .before .before .before .before .before .before .number-at .result) (a .pre .0) (a .pre .1) (a .pre .2) (c .before .before .before .before .before .before .before .before .before .before .before .before .number-at .ensures) (c .before .before .before .before .before .before .before .before .before .before .before .before .before .before .at-most .ensures .0) refl (editionsAt + editionSize * a .args .i + 4 + 1 + c .before .before .before .before .before .before .before .before .before .before .before .before .before .before .at-most .result - (editionsAt + editionSize * a .args .i + 4 + 1)) (omega arith) (c .before .before .before .before .before .before .before .before .before .before .before .put32 .ensures .0) (c .before .before .before .before .before .before .before .before .before .before .before .put32 .ensures .1) (c .before .before .before .before .before .before .before .put8 .ensures .0) (c .before .before .before .before .before .before .before .put8 .ensures .1) (c .before .before .copy .ensures .0) (c .before .before .copy .ensures .1)
+returns c = let a = c .before .before .before .before .before .before .before .before .before .before .before .before .before .before .before .before .before .before in row-put (a .args .s .now) (a .args .row .now) (a .args .i) (c .before .before .before .before .before .before .before .before .before .before .before .before .before .before .at-most .result) _ (c .before .before .before .before .before .before .before .before .before .before .before .before .number-at .result) (a .pre .0) (a .pre .1) (a .pre .2) (c .before .before .before .before .before .before .before .before .before .before .before .before .number-at .ensures) (c .before .before .before .before .before .before .before .before .before .before .before .before .before .before .at-most .ensures .0) refl (editionsAt + editionSize * a .args .i + 4 + 1 + c .before .before .before .before .before .before .before .before .before .before .before .before .before .before .at-most .result - (editionsAt + editionSize * a .args .i + 4 + 1)) (omega arith) (c .before .before .before .before .before .before .before .before .before .before .before .put32 .ensures .0) (c .before .before .before .before .before .before .before .before .before .before .before .put32 .ensures .1) (c .before .before .before .before .before .before .before .put8 .ensures .0) (c .before .before .before .before .before .before .before .put8 .ensures .1) (c .before .before .copy .ensures .0) (c .before .before .copy .ensures .1)
 
 pub put-row-spec : {M : Type 1} → statement M
 put-row-spec =
@@ -104,10 +96,8 @@ put-row-spec =
     add-to
     number-at-requires
     put32-requires
-    add-put8
     cast-put8
     put8-requires
-    add-copy
     sub-copy
     part-copy-start
     part-copy-end
