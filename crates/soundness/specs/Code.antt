@@ -215,7 +215,7 @@ module _ (position interval sampling : ℕ) (sifting : Bool) (r : List ℕ) wher
   fields-long h = rw (lt-leb (getD r lengthAt 0) mostData h)
 
   pub fields-short : (n : ℕ) {z w e i : Bool} {v t p u : ℕ} → length r ≡ pairSize → n ≡ getD r lengthAt 0 → n ≤ mostData
-      → z ≡ every isZero (take (length r - (dataAt + n)) (drop (dataAt + n) r))
+      → z ≡ every isZero (drop (dataAt + n) r)
       → v ≡ numberAt 2 r 8 → t ≡ ticksOf interval → p ≡ numberAt 4 r packetsAt → u ≡ numberAt 8 r sumAt
       → w ≡ windowTest position sampling (getD r ticksAt 0) p u → e ≡ emptyTest sifting p u (getD r eventAt 0) (getD r lengthAt 0)
       → i ≡ inRange (getD r rssiAt 0)
@@ -225,4 +225,4 @@ module _ (position interval sampling : ℕ) (sifting : Bool) (r : List ℕ) wher
       let ev : v ≡ little 2 r 8 = number-of 2 r 8 dv (omega arith) in
       let ep : p ≡ little 4 r packetsAt = number-of 4 r 11 dp (omega arith) in
       let eu : u ≡ little 8 r sumAt = number-of 8 r 15 du (omega arith) in
-      rw (dz, dw, de, di, ev, ep, eu, dt, rest-of (dataAt + n) r, k, le-leb (getD r lengthAt 0) mostData (rw (← k) b))
+      rw (dz, dw, de, di, ev, ep, eu, dt, k, le-leb (getD r lengthAt 0) mostData (rw (← k) b))

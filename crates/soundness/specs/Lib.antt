@@ -15,3 +15,4 @@ pub mod Fields
 pub mod Code
 pub mod CodePairs
 pub mod Seen
+pub mod Tails

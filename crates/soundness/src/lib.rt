@@ -1,6 +1,7 @@
 // Whether a block of octets is a sound state (document 01, The image, "Sound"): in place, in bounded work, for any
 // octets. The rows are laid out as `State` says.
 mod keys;
+mod tails;
 
 use state::Seconds;
 use state::State;
@@ -165,7 +166,7 @@ fn fields_sound(r: &[u8], position: u32, interval: u8, sampling: u8, sifts: bool
         return false;
     }
     let a = State::DATA_AT + n;
-    let behind = parts::zeros(&r[a..]);
+    let behind = tails::zeros_from(r, a);
     let silent = Ticks(octets::get16(r, State::SILENT_AT));
     let packets = octets::get32(r, State::PACKETS_AT);
     let sum = octets::get64(r, State::SUM_AT);

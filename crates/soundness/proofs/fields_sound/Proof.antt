@@ -16,17 +16,8 @@ returns c = let a = c .before .before .before .before .args in fields-long (a .p
 add-a : tie.Need-add-a
 add-a c = search needs
 
-sub-zeros : tie.Need-sub-zeros
-sub-zeros c = search needs
-
-part-zeros-start : tie.Need-part-zeros-start
-part-zeros-start c = search needs
-
-part-zeros-end : tie.Need-part-zeros-end
-part-zeros-end c = search needs
-
-zeros-requires : tie.Need-zeros-requires
-zeros-requires c κs = search needs
+zeros-from-requires : tie.Need-zeros-from-requires
+zeros-from-requires c κs = search needs
 
 get16-requires : tie.Need-get16-requires
 get16-requires c κs = search needs
@@ -68,7 +59,7 @@ shared-slice-read-result : tie.Need-shared-slice-read-result
 shared-slice-read-result c = search needs
 
 returns-2 : tie.Need-returns-2
-returns-2 c = let a = c .before .before .before .before .before .before .before .before .before .before .before .before .before .before .before .before .before .before .before .args in rw (c .before .before .before .below .ensures) (fields-short (a .position) (a .interval) (a .sampling) (a .sifts) (a .r .now) (c .before .before .before .before .before .before .before .before .before .before .before .before .before .before .before .before .wide .result) (c .before .before .before .before .before .before .before .before .before .before .before .before .before .before .before .before .before .before .before .pre) (c .before .before .before .before .before .before .before .before .before .before .before .before .before .before .before .before .wide .ensures .0) (omega arith) (c .before .before .before .before .before .before .before .before .before .before .before .before .before .zeros .ensures) (c .before .before .before .before .before .before .before .before .before .before .before .before .get16 .ensures) (c .before .before .before .before .ticks .ensures) (c .before .before .before .before .before .before .before .before .before .before .before .get32 .ensures) (c .before .before .before .before .before .before .before .before .before .before .get64 .ensures) (c .before .before .before .before .before .before .before .before .window-sound .ensures) (c .before .before .before .before .before .empty-sound .ensures) (c .before .in-range .ensures))
+returns-2 c = let a = c .before .before .before .before .before .before .before .before .before .before .before .before .before .before .before .before .before .before .args in rw (c .before .before .before .below .ensures) (fields-short (a .position) (a .interval) (a .sampling) (a .sifts) (a .r .now) (c .before .before .before .before .before .before .before .before .before .before .before .before .before .before .before .wide .result) (c .before .before .before .before .before .before .before .before .before .before .before .before .before .before .before .before .before .before .pre) (c .before .before .before .before .before .before .before .before .before .before .before .before .before .before .before .wide .ensures .0) (omega arith) (c .before .before .before .before .before .before .before .before .before .before .before .before .before .zeros-from .ensures) (c .before .before .before .before .before .before .before .before .before .before .before .before .get16 .ensures) (c .before .before .before .before .ticks .ensures) (c .before .before .before .before .before .before .before .before .before .before .before .get32 .ensures) (c .before .before .before .before .before .before .before .before .before .before .get64 .ensures) (c .before .before .before .before .before .before .before .before .window-sound .ensures) (c .before .before .before .before .before .empty-sound .ensures) (c .before .in-range .ensures))
 
 pub fields-sound-spec : {M : Type 1} → statement M
 fields-sound-spec =
@@ -78,10 +69,7 @@ fields-sound-spec =
     wide-requires
     returns
     add-a
-    sub-zeros
-    part-zeros-start
-    part-zeros-end
-    zeros-requires
+    zeros-from-requires
     get16-requires
     get32-requires
     get64-requires
