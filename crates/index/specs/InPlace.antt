@@ -24,7 +24,7 @@ use Rattle.wholes.specs.Layout.{entriesSize, entryCountAt, indexAt, indexSize, 
 use Rattle.wholes.specs.Index.{Entry, entryTable, indexBlock, indexOf, noted}
 use Rattle.wholes.specs.Sizes.{Seven, length-entryTable}
 use Rattle.index.specs.Table.{Tabled}
-use Rattle.index.specs.Seen.{marks, Kept}
+use Rattle.index.specs.Seen.{words, Kept}
 use Rattle.index.specs.Built.{built-none, built-more}
 use Rattle.index.specs.Renewed.{renewed, pairs-held}
 
@@ -81,7 +81,7 @@ pub record Stands (n k : ℕ) (s₀ s : List ℕ) : Type 0 where
 
 pub record Noting (i k : ℕ) (s₀ s seen : List ℕ) : Type 0 where
   pub long : length s ≡ wholeSize
-  pub marked : length seen ≡ marks
+  pub marked : length seen ≡ words
   pub rest : s ≡ put s₀ indexAt (tableIn s)
   pub kept : Kept (indexOf (map pairIn (take i (rows pairSize mostPairs (pairsIn s₀))))) k (tableIn s) seen
 
@@ -91,7 +91,7 @@ table-long s l = length-take-le entriesSize (drop indexAt s) (simp length-drop (
 pub pairs-long : (s : List ℕ) → length s ≡ wholeSize → length (pairsIn s) ≡ pairsSize
 pairs-long s l = length-take-le pairsSize (drop pairsAt s) (simp length-drop (omega arith))
 
-pub noting-none : (s seen : List ℕ) → length s ≡ wholeSize → length seen ≡ marks → tableIn s ≡ replicate entriesSize 0 → Noting 0 0 s s seen
+pub noting-none : (s seen : List ℕ) → length s ≡ wholeSize → length seen ≡ words → tableIn s ≡ replicate entriesSize 0 → Noting 0 0 s s seen
 noting-none s seen l n z =
     record {
       long = l;

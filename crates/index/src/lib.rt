@@ -206,7 +206,7 @@ fn note_all(s: &mut [u8], n: usize) -> usize
     requires { ⌜ (length (now s) ≡ wholeSize) × (n ≤ mostPairs) × (tableIn (now s) ≡ replicate entriesSize 0) ⌝ }
     ensures { λ r. ⌜ (r ≤ n) × Stands n r (now (s .entry)) (now (s .exit)) ⌝ }
 {
-    let mut seen = [0u8; table::MARKS];
+    let mut seen = [0u64; table::MARKS];
     let mut k = 0;
     let mut i = 0;
     while i < n {

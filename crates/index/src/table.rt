@@ -13,13 +13,13 @@ ghost use Rattle.wholes.specs.Layout.{entriesSize, entrySize};
 ghost use Rattle.wholes.specs.Index.{Entry, bitOf, noted, indexOf, maskIn};
 ghost use Rattle.wholes.specs.Sizes.{Seven};
 ghost use Rattle.index.specs.Table.{placeIn, Tabled, withEntry, withBit};
-ghost use Rattle.index.specs.Seen.{marks, markOf, Kept};
+ghost use Rattle.index.specs.Seen.{marks, markOf, words, Kept};
 
 // Above every device's number: 7 octets.
 const DEVICES: u64 = 72057594037927936;
 
-// How many marks a device may have.
-pub(super) const MARKS: usize = 256;
+// A device has one of 256 marks. Those that were seen are bits of so many numbers.
+pub(super) const MARKS: usize = 4;
 
 // The device of entry j, as a number.
 fn device_at(table: &[u8], j: usize) -> u64
@@ -113,13 +113,15 @@ fn mark_of(dev: u64) -> usize
 }
 
 // The same by the marks of the entries' devices: a device without a mark has no entry, and none is searched for.
-pub(super) fn note_marked(table: &mut [u8], seen: &mut [u8], k: usize, dev: u64, h: u8) -> usize
-    requires { ⌜ (length (now table) ≡ entriesSize) × (length (now seen) ≡ marks) × (k < mostPairs) × (dev < 72057594037927936) ⌝ }
+pub(super) fn note_marked(table: &mut [u8], seen: &mut [u64], k: usize, dev: u64, h: u8) -> usize
+    requires { ⌜ (length (now table) ≡ entriesSize) × (length (now seen) ≡ words) × (k < mostPairs) × (dev < 72057594037927936) ⌝ }
     ensures { λ r. ⌜ (r ≤ k + 1) × ((es : List Entry) (d : List ℕ) → Kept es k (now (table .entry)) (now (seen .entry)) → Seven d → dev ≡ value d → Kept (noted d h es) r (now (table .exit)) (now (seen .exit))) ⌝ }
 {
     let m = mark_of(dev);
-    if seen[m] == 0 {
-        seen[m] = 1;
+    let w = m / 64;
+    let place = (m % 64) as u32;
+    if (seen[w] >> place) % 2 == 0 {
+        seen[w] = seen[w] | (1u64 << place);
         put_entry(table, k, dev, bit_of(h));
         return k + 1;
     }
@@ -141,7 +143,7 @@ pub(super) fn build(table: &mut [u8], pairs: &[u8], n: usize) -> usize
     requires { ⌜ (length (now table) ≡ entriesSize) × (now table ≡ replicate entriesSize 0) × (length (now pairs) ≡ pairsSize) × (n ≤ mostPairs) ⌝ }
     ensures { λ r. ⌜ (r ≤ n) × Tabled (indexOf (map pairIn (take n (rows pairSize mostPairs (now (pairs .entry)))))) r (now (table .exit)) ⌝ }
 {
-    let mut seen = [0u8; MARKS];
+    let mut seen = [0u64; MARKS];
     let mut k = 0;
     let mut i = 0;
     while i < n {

@@ -11,7 +11,7 @@ use Rattle.model.specs.Layout.{mostPairs, pairSize}
 use Rattle.wholes.specs.Index.{indexOf}
 use Rattle.wholes.specs.Layout.{entriesSize}
 use Rattle.index.specs.Table.{Tabled}
-use Rattle.index.specs.Seen.{marks, Kept}
+use Rattle.index.specs.Seen.{words, Kept}
 use Rattle.index.specs.Built.{built-none, built-more}
 use Rattle.index.proofs.table.build.Statement.{statement}
 use Rattle.index.proofs.table.build.Tie as tie
@@ -21,7 +21,7 @@ use Rattle.index.proofs.table.key_at.Reads as key-at-reads
 use Rattle.index.proofs.table.note_marked.Reads as note-marked-reads
 
 abbrev Inv-loop : tie.InvT-loop
-Inv-loop table₀ pairs n seen₀ k₀ i₀ table seen k i = (i ≤ n) × (k ≤ i) × (length table ≡ length table₀) × (length seen ≡ marks) × Kept (indexOf (map pairIn (take i (rows pairSize mostPairs pairs)))) k table seen
+Inv-loop table₀ pairs n seen₀ k₀ i₀ table seen k i = (i ≤ n) × (k ≤ i) × (length table ≡ length table₀) × (length seen ≡ words) × Kept (indexOf (map pairIn (take i (rows pairSize mostPairs pairs)))) k table seen
 
 abbrev μ-loop : tie.MeasureT-loop
 μ-loop table₀ pairs n seen₀ k₀ i₀ table seen k i = n - i
