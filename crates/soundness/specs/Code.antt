@@ -7,7 +7,7 @@ use mathlib.Core.List.{List}
 use native.Mathlib.Omega.{arith}
 use lib.Dec.{leb, ltb, eqb}
 use lib.ListN.{length, take, drop, getD, length-take, length-drop}
-use lib.Seq.{take-all, getD-take, drop-drop, take-add, drop-at, length-take-le}
+use lib.Seq.{getD-take, drop-drop, take-add, drop-at, length-take-le}
 use borrow.Author.Tests.{le-leb, lt-leb, eq-eqb, ne-eqb, not-true, not-false}
 use Rattle.laws.specs.Tests.{pick, pick-true, pick-false, and-both, and-not-left, and-not-right, cases-le}
 use Rattle.laws.specs.Loops.{every}
@@ -28,10 +28,7 @@ use Rattle.soundness.specs.Clauses.{monitorsTest}
 use Rattle.soundness.specs.Fields.{windowTest, emptyTest, fieldsTest, addedTest, formTest, row-accepts}
 use Rattle.model.specs.Layout.{blockSize, conditionAt, conditionLengthAt, dataAt, eventAt, extraAt, extraSize, filterAt, headSize, highAt, intervalAt, lengthAt, lowAt, monitorSize, monitorsAt, mostCondition, mostData, mostMonitors, mostPrefix, opcodeAt, packetsAt, pairSize, prefixAt, prefixLengthAt, rssiAt, samplingAt, sumAt, ticksAt, typeAt}
 
--- parts of a slice: the rest, and a part before an end
-pub rest-of : {A : Type 0} (a : ℕ) (l : List A) → take (length l - a) (drop a l) ≡ drop a l
-rest-of a l = take-all (length l - a) (drop a l) (rw (length-drop a l) (omega arith))
-
+-- a part of a slice before an end
 pub part-of : {A : Type 0} (a e : ℕ) (l : List A) → a ≤ e → e ≤ length l → take (e - a) (drop a l) ≡ drop a (take e l)
 part-of a e l h k =
     let v : a + (e - a) ≡ e = omega arith in
@@ -84,11 +81,10 @@ module _ (r : List ℕ) (l : length r ≡ monitorSize) where
   rest-added : take (length r - extraAt) (drop extraAt r) ≡ addedIn r
   rest-added = let k : length r - extraAt ≡ extraSize = omega arith in ap (λ (j : ℕ). take j (drop extraAt r)) k
 
-  pub added-none : {b : Bool} → getD r extraAt 0 ≡ 0 → b ≡ every isZero (take (length r - extraAt) (drop extraAt r))
-      → b ≡ addedTest r
+  pub added-none : {b : Bool} → getD r extraAt 0 ≡ 0 → b ≡ every isZero (drop extraAt r) → b ≡ addedTest r
   unfolding addedTest
   added-none e q =
-      q ∙ ap (every isZero) (rest-of extraAt r) ∙ sym (pick-true (every isZero (drop extraAt r)) _ (eq-eqb (getD r extraAt 0) 0 e))
+      q ∙ sym (pick-true (every isZero (drop extraAt r)) _ (eq-eqb (getD r extraAt 0) 0 e))
 
   pub added-some : {b : Bool} → (getD r extraAt 0 ≡ 0 → ⊥)
       → b ≡ (eqb (length (take (length r - extraAt) (drop extraAt r))) extraSize
@@ -112,13 +108,11 @@ module _ (h : ℕ) (r : List ℕ) where
       go false = refl
 
   pub held-short : (n k : ℕ) {z d a : Bool} → length r ≡ monitorSize → k ≡ getD r 0 0 → n ≡ getD r conditionLengthAt 0 → n ≤ mostCondition
-      → z ≡ every isZero (take (extraAt - (7 + n)) (drop (7 + n) r)) → d ≡ addedTest r → a ≡ formTest r
+      → z ≡ every isZero (drop (7 + n) (take extraAt r)) → d ≡ addedTest r → a ≡ formTest r
       → (eqb k h && z && d && a) ≡ heldTest h r
   unfolding heldTest
   held-short n k {z} {d} {a} l i e b p q f =
-      let u : every isZero (take (extraAt - (7 + n)) (drop (7 + n) r))
-      ≡ every isZero (drop (conditionAt + getD r conditionLengthAt 0) (take extraAt r)) =
-      ap (every isZero) (part-of (7 + n) extraAt r (omega arith) (omega arith)) ∙ rw e refl in
+      let u : every isZero (drop (7 + n) (take extraAt r)) ≡ every isZero (drop (conditionAt + getD r conditionLengthAt 0) (take extraAt r)) = rw e refl in
       let v : (d && a) ≡ (bareTest r && accepts (monitorIn r .1)) = rw (q, f) (row-accepts r l (omega arith)) in
       rw (p ∙ u, i, le-leb (getD r conditionLengthAt 0) mostCondition (rw (← e) b))
       (go (eqb (getD r 0 0) h) (every isZero (drop (conditionAt + getD r conditionLengthAt 0) (take extraAt r))) d a (bareTest r)

@@ -52,7 +52,7 @@ fn added_sound(r: &[u8]) -> bool
     ensures { λ b. ⌜ b ≡ addedTest (now (r .entry)) ⌝ }
 {
     if r[State::OPTIONS_AT] == 0 {
-        return parts::zeros(&r[State::OPTIONS_AT..]);
+        return tails::zeros_from(r, State::OPTIONS_AT);
     }
     statuses::is_allowed(
         &r[State::OPTIONS_AT..],
@@ -72,7 +72,7 @@ fn held_sound(r: &[u8], place: usize) -> bool
         return false;
     }
     let e = State::CONDITION_AT + n;
-    let behind = parts::zeros(&r[e..State::OPTIONS_AT]);
+    let behind = tails::zeros_from(&r[..State::OPTIONS_AT], e);
     let added = added_sound(r);
     let form = formed(r, n);
     (h == place) & behind & added & form

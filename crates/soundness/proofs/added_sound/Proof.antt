@@ -6,20 +6,11 @@ use Rattle.soundness.proofs.added_sound.Tie as tie
 shared-slice-read-if1 : tie.Need-shared-slice-read-if1
 shared-slice-read-if1 c = search needs
 
-sub-zeros : tie.Need-sub-zeros
-sub-zeros c = search needs
-
-part-zeros-start : tie.Need-part-zeros-start
-part-zeros-start c = search needs
-
-part-zeros-end : tie.Need-part-zeros-end
-part-zeros-end c = search needs
-
-zeros-requires : tie.Need-zeros-requires
-zeros-requires c κs = search needs
+zeros-from-requires : tie.Need-zeros-from-requires
+zeros-from-requires c κs = search needs
 
 returns : tie.Need-returns
-returns c = added-none (c .before .before .before .before .before .args .r .now) (c .before .before .before .before .before .pre) (c .before .before .if1 .taken) (c .zeros .ensures)
+returns c = added-none (c .before .before .before .before .args .r .now) (c .before .before .before .before .pre) (c .before .if1 .taken) (c .zeros-from .ensures)
 
 sub-is-allowed : tie.Need-sub-is-allowed
 sub-is-allowed c = search needs
@@ -47,10 +38,7 @@ added-sound-spec =
     tie.close
     (tie.spec
     shared-slice-read-if1
-    sub-zeros
-    part-zeros-start
-    part-zeros-end
-    zeros-requires
+    zeros-from-requires
     returns
     sub-is-allowed
     part-is-allowed-start

@@ -1,4 +1,7 @@
 use Rattle.soundness.specs.Code.{held-long, held-short}
+use Rattle.model.specs.Layout.{extraAt}
+use mathlib.Core.Path.{sym}
+use lib.Seq.{length-take-le}
 use native.Mathlib.Omega.{arith}
 use borrow.Author.Needs.{needs}
 use Rattle.soundness.proofs.held_sound.Statement.{statement}
@@ -22,17 +25,11 @@ returns c = let a = c .before .before .before .before .before .before .args in h
 add-e : tie.Need-add-e
 add-e c = search needs
 
-sub-zeros : tie.Need-sub-zeros
-sub-zeros c = search needs
+slice-aggregate-zeros-from : tie.Need-slice-aggregate-zeros-from
+slice-aggregate-zeros-from c = sym (length-take-le extraAt (c .before .before .before .before .before .before .before .args .r .now) (omega arith))
 
-part-zeros-start : tie.Need-part-zeros-start
-part-zeros-start c = search needs
-
-part-zeros-end : tie.Need-part-zeros-end
-part-zeros-end c = search needs
-
-zeros-requires : tie.Need-zeros-requires
-zeros-requires c κs = search needs
+zeros-from-requires : tie.Need-zeros-from-requires
+zeros-from-requires c κs = let n = length-take-le extraAt (c .before .before .before .before .before .before .before .args .r .now) (omega arith) in omega arith
 
 added-sound-requires : tie.Need-added-sound-requires
 added-sound-requires c κs = search needs
@@ -41,7 +38,7 @@ formed-requires : tie.Need-formed-requires
 formed-requires c κs = search needs
 
 returns-2 : tie.Need-returns-2
-returns-2 c = let a = c .before .before .before .before .before .before .before .before .before .before .args in held-short (a .place) (a .r .now) (c .before .before .before .before .before .wide2 .result) (c .before .before .before .before .before .before .before .wide .result) (c .before .before .before .before .before .before .before .before .before .before .pre) (c .before .before .before .before .before .before .before .wide .ensures .0) (c .before .before .before .before .before .wide2 .ensures .0) (omega arith) (c .before .before .zeros .ensures) (c .before .added-sound .ensures) (c .formed .ensures)
+returns-2 c = let a = c .before .before .before .before .before .before .before .before .before .before .args in held-short (a .place) (a .r .now) (c .before .before .before .before .before .wide2 .result) (c .before .before .before .before .before .before .before .wide .result) (c .before .before .before .before .before .before .before .before .before .before .pre) (c .before .before .before .before .before .before .before .wide .ensures .0) (c .before .before .before .before .before .wide2 .ensures .0) (omega arith) (c .before .before .zeros-from .ensures) (c .before .added-sound .ensures) (c .formed .ensures)
 
 pub held-sound-spec : {M : Type 1} → statement M
 held-sound-spec =
@@ -53,10 +50,8 @@ held-sound-spec =
     wide-requires-2
     returns
     add-e
-    sub-zeros
-    part-zeros-start
-    part-zeros-end
-    zeros-requires
+    slice-aggregate-zeros-from
+    zeros-from-requires
     added-sound-requires
     formed-requires
     returns-2)
