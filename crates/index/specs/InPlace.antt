@@ -25,6 +25,7 @@ use Rattle.wholes.specs.Index.{Entry, entryTable, indexBlock, indexOf, noted}
 use Rattle.wholes.specs.Sizes.{Seven, length-entryTable}
 use Rattle.index.specs.Table.{Tabled}
 use Rattle.index.specs.Seen.{words, Kept}
+use Rattle.index.specs.Written.{mid-put}
 use Rattle.index.specs.Built.{built-none, built-more}
 use Rattle.index.specs.Renewed.{renewed, pairs-held}
 
@@ -43,13 +44,7 @@ put-same xs at n h =
     rw (l, ← drop-drop n at xs) (append-assoc (take at xs) (take n (drop at xs)) (drop n (drop at xs))
     ∙ ap (λ (x : List ℕ). take at xs ++ x) (take-append-drop n (drop at xs)) ∙ take-append-drop at xs)
 
--- a lent part that comes back is a put
-mid-put : (at k : ℕ) (xs ys : List ℕ) → length ys ≡ k → putMid at k xs ys ≡ put xs at ys
-unfolding put
-mid-put at k xs ys l =
-    rw (← l) (ap (λ (x : List ℕ). take at xs ++ (ys ++ x)) (drop-drop (length ys) at xs) ∙ sym (append-assoc (take at xs) ys (drop (at + length ys) xs)))
-
--- .. and of two puts at one place, of the same length, the second is left
+-- of two puts at one place, of the same length, the second is left
 put-again : (xs : List ℕ) (at : ℕ) (ys zs : List ℕ) → length ys ≡ length zs → at + length ys ≤ length xs → put (put xs at ys) at zs ≡ put xs at zs
 unfolding put
 put-again xs at ys zs e h =

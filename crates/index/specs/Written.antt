@@ -6,14 +6,15 @@ use mathlib.Core.List.{List, [], _∷_, _++_, map, append-assoc, append-nil}
 use native.Mathlib.Nat.{add-zero, zero-add, mul-suc, one-mul, mod-eq-of-lt}
 use native.Mathlib.Omega.{arith}
 use borrow.Author.Tests.{lt-ltb, le-ltb}
+use borrow.Rule.Slice.PartMut.{putMid}
 use lib.Bits.{bitOr, or-lt}
 use lib.Dec.{leb, ltb}
 use lib.ListN.{length, take, drop, getD, replicate, length-append, length-replicate, replicate-append-replicate}
 use lib.Pow.{pow-lt}
-use lib.Seq.{take-at, drop-at, drop-append-seam}
+use lib.Seq.{take-at, drop-at, drop-append-seam, drop-drop}
 use Rattle.laws.specs.Put.{put, putIf, put-of, put-then, put-right}
 use Rattle.laws.specs.Tests.{pick, pick-true, pick-false}
-use Rattle.laws.specs.Rows.{flat, flat-append}
+use Rattle.laws.specs.Rows.{flat, flat-append, put-whole}
 use Rattle.octets.specs.Little.{little, value, octetsOf, isOctet, little-drop, little-value, length-octets, octets-add, octets-mod, octets-value, value-octets}
 use Rattle.octets.specs.Numbers.{numberAt, number-of}
 use Rattle.rule.specs.Base.{All}
@@ -83,34 +84,47 @@ all-snoc : (es : List Entry) (e : Entry) → All Fitting es → Fitting e → Al
 all-snoc [] e a f = (f, tt)
 all-snoc (x ∷ es) e a f = (a .0, all-snoc es e (a .1) f)
 
--- an entry more
-module _ (t : List ℕ) (k dev bit : ℕ) (l : length t ≡ entriesSize) (b : k < mostPairs) (small : dev < 72057594037927936) (w : bit < 65536)
-    {u v : List ℕ} {x y : Bool} (lu : length u ≡ length t)
-    (ex : x ≡ leb (entrySize * k + 8) (length t)) (eu : u ≡ putIf x t (entrySize * k) (octetsOf 8 (dev + 72057594037927936 * (bit % 256))))
-    (ey : y ≡ leb (entrySize * k + 8 + 1) (length u)) (ev : v ≡ putIf y u (entrySize * k + 8) (octetsOf 1 (bit / 256 % 256))) where
-  written : (d : List ℕ) → Seven d → dev ≡ value d → v ≡ put t (entrySize * k) (d ++ octetsOf 2 bit)
-  written d s n =
+-- a row that is written whole
+module _ (r : List ℕ) (dev bit : ℕ) (l : length r ≡ entrySize) (small : dev < 72057594037927936) (w : bit < 65536) {u v : List ℕ} {x y : Bool}
+    (lu : length u ≡ length r) (ex : x ≡ leb (0 + 8) (length r)) (eu : u ≡ putIf x r 0 (octetsOf 8 (dev + 72057594037927936 * (bit % 256))))
+    (ey : y ≡ leb (8 + 1) (length u)) (ev : v ≡ putIf y u 8 (octetsOf 1 (bit / 256 % 256))) where
+  pub row-written : (d : List ℕ) → Seven d → dev ≡ value d → v ≡ d ++ octetsOf 2 bit
+  row-written d s n =
       let a : List ℕ = octetsOf 8 (dev + 72057594037927936 * (bit % 256)) in
-      let p : u ≡ put t (entrySize * k) a = put-of t (entrySize * k) a 8 (length t) ex (omega arith) eu in
-      let q : v ≡ put u (entrySize * k + 8) (octetsOf 1 (bit / 256 % 256)) =
-      put-of u (entrySize * k + 8) (octetsOf 1 (bit / 256 % 256)) 1 (length u) ey (omega arith) ev in
-      put-then t (entrySize * k) a (entrySize * k + 8) (octetsOf 1 (bit / 256 % 256)) (omega arith) p
-      (let m : length a ≡ 8 = length-octets 8 (dev + 72057594037927936 * (bit % 256)) in omega arith) q (row-octets d dev bit s n small w)
+      let o : List ℕ = octetsOf 1 (bit / 256 % 256) in
+      let p : u ≡ put r 0 a = put-of r 0 a 8 (length r) ex (omega arith) eu in
+      let q : v ≡ put u 8 o = put-of u 8 o 1 (length u) ey (omega arith) ev in
+      put-then r 0 a 8 o (omega arith) p (let m : length a ≡ 8 = length-octets 8 (dev + 72057594037927936 * (bit % 256)) in omega arith) q
+      (row-octets d dev bit s n small w)
+      ∙ put-whole r (d ++ octetsOf 2 bit)
+      (let m : length (octetsOf 2 bit) ≡ 2 = length-octets 2 bit in let k = s .long in l ∙ sym (length-append d (octetsOf 2 bit) ∙ omega arith))
 
-  pub entry-written : (es : List Entry) (d : List ℕ) → Tabled es k t → Seven d → dev ≡ value d → Tabled (withEntry es d bit) (k + 1) v
-  unfolding withEntry entryRow
-  entry-written es d g s n =
-      let e : Entry = record { device = d; mask = bit } in
-      let f : Fitting e = record { device = s; mask = w } in
-      let c : k ≡ length es = g .count in
-      let m : length (es ++ (e ∷ [])) ≡ length es + 1 = length-append es (e ∷ []) in
-      record {
-        count = omega arith;
-        most = omega arith;
-        fits = all-snoc es e (g .fits) f;
-        table = written d s n ∙ ap (λ (i : ℕ). put t (entrySize * i) (d ++ octetsOf 2 bit)) c
-            ∙ ap (λ (x : List ℕ). put x (entrySize * length es) (d ++ octetsOf 2 bit)) (g .table) ∙ fill-free es e (g .fits) f (omega arith);
-      }
+-- a lent part that comes back is a put
+pub mid-put : (at k : ℕ) (xs ys : List ℕ) → length ys ≡ k → putMid at k xs ys ≡ put xs at ys
+unfolding put
+mid-put at k xs ys l =
+    rw (← l) (ap (λ (x : List ℕ). take at xs ++ (ys ++ x)) (drop-drop (length ys) at xs) ∙ sym (append-assoc (take at xs) ys (drop (at + length ys) xs)))
+
+-- an entry more
+pub entry-written : (t : List ℕ) (k dev bit n : ℕ) → k < mostPairs → bit < 65536 → n ≡ entrySize → (r v : List ℕ)
+    → ((d : List ℕ) → Seven d → dev ≡ value d → r ≡ d ++ octetsOf 2 bit) → v ≡ putMid (entrySize * k) n t r
+    → (es : List Entry) (d : List ℕ) → Tabled es k t → Seven d → dev ≡ value d → Tabled (withEntry es d bit) (k + 1) v
+unfolding withEntry entryRow
+entry-written t k dev bit n b w j r v f q es d g s z =
+    let e : Entry = record { device = d; mask = bit } in
+    let i : Fitting e = record { device = s; mask = w } in
+    let c : k ≡ length es = g .count in
+    let m : length (es ++ (e ∷ [])) ≡ length es + 1 = length-append es (e ∷ []) in
+    let y : r ≡ d ++ octetsOf 2 bit = f d s z in
+    let h : length r ≡ n =
+    let a : length (octetsOf 2 bit) ≡ 2 = length-octets 2 bit in let k = s .long in ap length y ∙ length-append d (octetsOf 2 bit) ∙ omega arith in
+    record {
+      count = omega arith;
+      most = omega arith;
+      fits = all-snoc es e (g .fits) i;
+      table = q ∙ mid-put (entrySize * k) n t r h ∙ ap (put t (entrySize * k)) y ∙ ap (λ (i : ℕ). put t (entrySize * i) (d ++ octetsOf 2 bit)) c
+          ∙ ap (λ (x : List ℕ). put x (entrySize * length es) (d ++ octetsOf 2 bit)) (g .table) ∙ fill-free es e (g .fits) i (omega arith);
+    }
 
 -- the mask of entry j
 unfoldable maskAtPlace : List Entry → ℕ → ℕ

@@ -3,10 +3,10 @@ use super::Whole;
 use state::State;
 ghost use Prim.Native.Nat.{ℕ, _+_, _*_, _≤_, _<_};
 ghost use mathlib.Core.Path.{_≡_};
-ghost use mathlib.Core.List.{List, map};
+ghost use mathlib.Core.List.{List, map, _++_};
 ghost use lib.ListN.{length, take, replicate};
 ghost use Rattle.laws.specs.Rows.{rows};
-ghost use Rattle.octets.specs.Little.{little, value};
+ghost use Rattle.octets.specs.Little.{little, octetsOf, value};
 ghost use Rattle.model.specs.Image.{pairIn};
 ghost use Rattle.model.specs.Layout.{mostPairs, pairSize, pairsSize};
 ghost use Rattle.wholes.specs.Layout.{entriesSize, entrySize};
@@ -68,16 +68,25 @@ fn bit_of(h: u8) -> u16
     0
 }
 
+// The row of an entry: a device, and a mask. It is lent alone, so that its end need not be asked for.
+fn put_row(row: &mut [u8], dev: u64, mask: u16)
+    requires { ⌜ (length (now row) ≡ entrySize) × (dev < 72057594037927936) ⌝ }
+    ensures { λ _. ⌜ ((d : List ℕ) → Seven d → dev ≡ value d → now (row .exit) ≡ d ++ octetsOf 2 mask) ⌝ }
+{
+    let low = (mask % 256) as u64;
+    let high = (mask / 256 % 256) as u8;
+    octets::put64(row, 0, dev + DEVICES * low);
+    octets::put8(row, 8, high);
+}
+
 // An entry for a device, with one handle.
 fn put_entry(table: &mut [u8], k: usize, dev: u64, bit: u16)
     requires { ⌜ (length (now table) ≡ entriesSize) × (k < mostPairs) × (dev < 72057594037927936) ⌝ }
     ensures { λ _. ⌜ ((es : List Entry) (d : List ℕ) → Tabled es k (now (table .entry)) → Seven d → dev ≡ value d → Tabled (withEntry es d bit) (k + 1) (now (table .exit))) ⌝ }
 {
-    let at = Whole::ENTRY * k;
-    let low = (bit % 256) as u64;
-    let high = (bit / 256 % 256) as u8;
-    octets::put64(table, at, dev + DEVICES * low);
-    octets::put8(table, at + 8, high);
+    let from = Whole::ENTRY * k;
+    let to = from + Whole::ENTRY;
+    put_row(&mut table[from..to], dev, bit);
 }
 
 // A handle more in entry j.

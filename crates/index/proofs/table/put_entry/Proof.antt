@@ -1,64 +1,50 @@
+use Prim.Native.Nat.{_+_, _-_, _*_}
+use mathlib.Core.Path.{refl}
 use native.Mathlib.Omega.{arith}
+use Rattle.wholes.specs.Layout.{entrySize}
 use Rattle.index.specs.Written.{entry-written}
 use borrow.Author.Needs.{needs}
 use Rattle.index.proofs.table.put_entry.Statement.{statement}
 use Rattle.index.proofs.table.put_entry.Tie as tie
-use Rattle.index.proofs.table.put_entry.Reads as reads
-use Rattle.index.proofs.table.put_entry.Lts as lts
-use Rattle.octets.proofs.put64.Reads as put64-reads
-use Rattle.octets.proofs.put8.Reads as put8-reads
 
--- src/table.rt:72:14
-mul-at : tie.Need-mul-at
-mul-at c = search needs
+mul-from : tie.Need-mul-from
+mul-from c = search needs
 
--- src/table.rt:73:15
-cast-low : tie.Need-cast-low
-cast-low c = search needs
+add-to : tie.Need-add-to
+add-to c = search needs
 
--- src/table.rt:74:16
-cast-high : tie.Need-cast-high
-cast-high c = search needs
+sub-put-row : tie.Need-sub-put-row
+sub-put-row c = search needs
 
--- src/table.rt:75:36
-mul-put64 : tie.Need-mul-put64
-mul-put64 c = search needs
+part-put-row-start : tie.Need-part-put-row-start
+part-put-row-start c = search needs
 
--- src/table.rt:75:30
-add-put64 : tie.Need-add-put64
-add-put64 c = search needs
+part-put-row-end : tie.Need-part-put-row-end
+part-put-row-end c = search needs
 
--- src/table.rt:75:5
-put64-requires : tie.Need-put64-requires
-put64-requires c κs = search needs
+put-row-requires : tie.Need-put-row-requires
+put-row-requires c κs = search needs
 
--- src/table.rt:76:25
-add-put8 : tie.Need-add-put8
-add-put8 c = search needs
-
--- src/table.rt:76:5
-put8-requires : tie.Need-put8-requires
-put8-requires c κs = search needs
-
--- src/table.rt:68:1
 same-length : tie.Need-same-length
 same-length c = search needs
 
--- src/table.rt:68:1
 returns : tie.Need-returns
-returns c = let a = c .before .before .before .before .before .before .before .before .before in entry-written (a .args .table .now) (a .args .k) (a .args .dev) (a .args .bit) (a .pre .0) (a .pre .1) (a .pre .2) (omega arith) (c .before .before .before .before .before .before .put64 .kept .0) (c .before .before .before .before .before .before .put64 .ensures .0) (c .before .before .before .before .before .before .put64 .ensures .1) (c .before .before .put8 .ensures .0) (c .before .before .put8 .ensures .1)
+returns c =
+    let a = c .before .before .before .before .before in
+    let from = entrySize * a .args .k in
+    let f = c .before .before .put-row in
+    entry-written (a .args .table .now) (a .args .k) (a .args .dev) (a .args .bit) (from + entrySize - from) (a .pre .1) (omega arith) (omega arith)
+    (f .last .0) _ (f .ensures) refl
 
 pub put-entry-spec : {M : Type 1} → statement M
 put-entry-spec =
     tie.close
     (tie.spec
-    mul-at
-    cast-low
-    cast-high
-    mul-put64
-    add-put64
-    put64-requires
-    add-put8
-    put8-requires
+    mul-from
+    add-to
+    sub-put-row
+    part-put-row-start
+    part-put-row-end
+    put-row-requires
     same-length
     returns)
