@@ -41,7 +41,7 @@ use Rattle.editions.specs.Facts.{Kept, kept-of, Parts, parts-of}
 use Rattle.editions.specs.Block.{editionSize, editionCountAt, editionsSize, editionBlock, length-editionBlock}
 use Rattle.editions.specs.Table.{tableOf}
 use Rattle.prefixes.specs.Force.{zeros-behind}
-use Rattle.prefixes.specs.Sound.{placed, row-fits, rows-more, rowsOf}
+use Rattle.prefixes.specs.Laid.{placed, row-fits, rows-more, rowsOf}
 use Rattle.wholes.specs.Layout.{editionsAt, editionsCountAt, indexAt, indexSize, wholeSize}
 use Rattle.wholes.specs.Index.{indexBlock}
 use Rattle.wholes.specs.Whole.{laidWith, whole}

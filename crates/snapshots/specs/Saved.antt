@@ -41,7 +41,7 @@ use Rattle.wholes.specs.Layout.{editionsAt, indexSize, wholeSize}
 use Rattle.wholes.specs.Index.{indexBlock}
 use Rattle.wholes.specs.Whole.{laidWith, whole}
 use Rattle.wholes.specs.Laid.{whole-core, whole-length, state-index, laid-editions}
-use Rattle.prefixes.specs.Sound.{row-fits}
+use Rattle.prefixes.specs.Laid.{row-fits}
 use Rattle.prefixes.specs.Held.{listed, countIn, rowIn, editionAt, listed-count, listed-take, listed-all, count-most, prefix-read, prefix-short, from-read}
 
 -- where edition i stands, how long its prefix is, and its line
