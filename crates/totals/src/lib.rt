@@ -1,14 +1,16 @@
 // Rows of totals (document 02, T-09 and T-10): a row's totals added with every test of 64 bits, rows joined, and the lent table of sixteen
 // rows. A walk by hand is needed of each function whose signature has the table; the work is done on rows by value.
 ghost use mathlib.Core.Path.{_≡_};
-ghost use mathlib.Core.Bool.{true};
+ghost use mathlib.Core.Bool.{true, _&&_};
 ghost use Prim.Native.Nat.{_+_};
 ghost use lib.IntN.{_+ℤ_};
-ghost use lib.ListN.{length, replicate};
+ghost use lib.ListN.{length, replicate, getD};
+ghost use mathlib.Core.List.{map};
 ghost use Rattle.totals.specs.Sums.{countFits, sumFits};
 ghost use Rattle.totals.specs.Two.{everyTwo, mapTwo};
 ghost use Rattle.totals.specs.Table.{empty, tableRows, rowFits, rowSum, addedRows, taken, placed};
 ghost use Rattle.totals.specs.Join.{joinOf};
+ghost use Rattle.totals.specs.Gains.{noGain, wideRow, keptRow, fitsIn, gainedIn};
 
 // The totals of a handle: matching packets, reports caused, ticks with a device under watch, the sum of the packets' RSSI. The mean is the
 // pair of the sum and the packets.
@@ -164,6 +166,123 @@ pub fn add_rows(t: [Row; Row::TABLE], d: [Row; Row::TABLE]) -> Added
         fits: false,
         rows: t,
     }
+}
+
+// What a frame adds to a handle's row: its matching packets, the reports it causes, its ticks, and the sum of the RSSI more 128.
+pub struct Gain {
+    pub packets: u8,
+    pub reports: u8,
+    pub ticks: u8,
+    pub level: u8,
+}
+
+// The gain of a handle for which a frame counts nothing.
+pub fn no_gain() -> Gain
+    ensures { λ r. ⌜ r ≡ noGain ⌝ }
+{
+    Gain {
+        packets: 0,
+        reports: 0,
+        ticks: 0,
+        level: 128,
+    }
+}
+
+// Sixteen of them.
+pub fn no_gains() -> [Gain; Row::TABLE]
+    ensures { λ r. ⌜ r ≡ replicate tableRows noGain ⌝ }
+{
+    let none = no_gain();
+    [none; Row::TABLE]
+}
+
+// A gain as the row that is added.
+fn wide(g: Gain) -> Row
+    ensures { λ r. ⌜ r ≡ wideRow g ⌝ }
+{
+    let level = g.level as i64;
+    Row {
+        packets: g.packets as u64,
+        reports: g.reports as u64,
+        ticks: g.ticks as u64,
+        sum: level - 128,
+    }
+}
+
+// The gain of a handle as the row that is added; of none past the last.
+fn wide_at(d: [Gain; Row::TABLE], i: usize) -> Row
+    ensures { λ r. ⌜ r ≡ wideRow (getD d i noGain) ⌝ }
+{
+    if i < Row::TABLE {
+        let g = d[i];
+        return wide(g);
+    }
+    let none = no_gain();
+    wide(none)
+}
+
+// Sixteen gains as the rows that are added.
+pub fn wide_all(d: [Gain; Row::TABLE]) -> [Row; Row::TABLE]
+    ensures { λ r. ⌜ r ≡ map wideRow d ⌝ }
+{
+    let mut rows = no_rows();
+    let mut i = 0;
+    while i < Row::TABLE {
+        let row = wide_at(d, i);
+        rows[i] = row;
+        i += 1;
+    }
+    rows
+}
+
+// A row's turn: the row after it, and whether its totals and those of the rows before add up within 64 bits.
+struct After {
+    row: Row,
+    fits: bool,
+}
+
+// The turn of row a, the i-th: it is added to only where it is to be and its totals fit.
+fn turn(a: Row, d: [Gain; Row::TABLE], i: usize, goes: bool, fitted: bool) -> After
+    ensures { λ r. ⌜ (r .row ≡ keptRow goes a (wideRow (getD d i noGain))) × (r .fits ≡ (fitted && rowFits a (wideRow (getD d i noGain)))) ⌝ }
+{
+    let g = wide_at(d, i);
+    if fits(a, g) {
+        if goes {
+            let sum = summed(a, g);
+            return After {
+                row: sum,
+                fits: fitted,
+            };
+        }
+        return After {
+            row: a,
+            fits: fitted,
+        };
+    }
+    After {
+        row: a,
+        fits: false,
+    }
+}
+
+// Adds sixteen gains to the lent table of sixteen rows, in place, where they are to be added, and tells whether every total stays within 64
+// bits. A row whose totals do not is left as it is, and so is a table of another length, of which it tells that they do not.
+pub fn add_gains(rows: &mut [Row], d: [Gain; Row::TABLE], goes: bool) -> bool
+    ensures { λ r. ⌜ (r ≡ fitsIn (now (rows .entry)) d) × (now (rows .exit) ≡ gainedIn goes (now (rows .entry)) d) ⌝ }
+{
+    if rows.len() != Row::TABLE {
+        return false;
+    }
+    let mut fitted = true;
+    let mut i = 0;
+    while i < Row::TABLE {
+        let r = rows[i];
+        let t = turn(r, d, i, goes, fitted);
+        rows[i] = t.row;
+        fitted = t.fits;
+        i += 1;
+    }
+    fitted
 }
 
 // Takes the rows out of the lent table of sixteen and puts others in their place. A table of another length is left as it
