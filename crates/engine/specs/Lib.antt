@@ -15,4 +15,5 @@ pub mod Placing
 pub mod Runs
 pub mod Judges
 pub mod Public
+pub mod Tries
 pub mod Added

@@ -46,22 +46,26 @@ long-frame raw h = go (isFrame raw) refl
     go false e = refl
     go true e = let b : length raw ≤ mostFrame = frame-most raw e in absurd (omega arith)
 
--- a text that does not hold octets enough for a frame, or is none, is refused by 4
-pub line-unread : (s t : List ℕ) (n : ℕ) (x : Refusal) → takeText t n ≡ Refused x → mostFrame ≤ n → judge (withIndex (indexOn s)) s (read text t) ≡ refused 4
-unfolding takeText read judge
-line-unread s t n x e h = go (isText t) refl (leb (length (octetsIn t)) n) refl e
+-- a text that does not hold octets enough for a frame, or is none, is not read, and is refused by 4
+pub text-none : (t : List ℕ) (n : ℕ) (x : Refusal) → takeText t n ≡ Refused x → mostFrame ≤ n → read text t ≡ none
+unfolding takeText read
+text-none t n x e h = go (isText t) refl (leb (length (octetsIn t)) n) refl e
   where
     go : (a : Bool) → isText t ≡ a → (b : Bool) → leb (length (octetsIn t)) n ≡ b
         → pick (a && b) (Done (length (octetsIn t))) (Refused Rattle.refusals.specs.declared.Refusal.the-variants.NotLine) ≡ Refused x
-        → judge (withIndex (indexOn s)) s (pick a (readRaw (octetsIn t)) none) ≡ refused 4
-    go false p b q z = ap (judge (withIndex (indexOn s)) s) (pick-false (readRaw (octetsIn t)) none refl)
+        → pick a (readRaw (octetsIn t)) none ≡ none
+    go false p b q z = pick-false (readRaw (octetsIn t)) none refl
     go true p false q z =
-        ap (judge (withIndex (indexOn s)) s) (pick-true (readRaw (octetsIn t)) none refl
-        ∙ read-none (octetsIn t) (long-frame (octetsIn t) (let g : n < length (octetsIn t) = leb-false (length (octetsIn t)) n q in omega arith)))
+        pick-true (readRaw (octetsIn t)) none refl
+        ∙ read-none (octetsIn t) (long-frame (octetsIn t) (let g : n < length (octetsIn t) = leb-false (length (octetsIn t)) n q in omega arith))
     go true p true q z = let c : _≡_ {A = ℕ} 0 1 = (clash (sym (pick-true (Done (length (octetsIn t))) (Refused Rattle.refusals.specs.declared.Refusal.the-variants.NotLine) refl) ∙ z)) in absurd (omega arith)
       where
         clash : Done (length (octetsIn t)) ≡ Refused x → _≡_ {A = ℕ} 0 1
         clash w = cc
+
+pub line-unread : (s t : List ℕ) (n : ℕ) (x : Refusal) → takeText t n ≡ Refused x → mostFrame ≤ n → judge (withIndex (indexOn s)) s (read text t) ≡ refused 4
+unfolding judge
+line-unread s t n x e h = ap (judge (withIndex (indexOn s)) s) (text-none t n x e h)
 
 -- a text that was read is judged as its octets
 pub line-read : (s t : List ℕ) (n k : ℕ) → takeText t n ≡ Done k → judge (withIndex (indexOn s)) s (read octets (octetsIn t)) ≡ judge (withIndex (indexOn s)) s (read text t)
