@@ -2,7 +2,6 @@ pub mod Room
 pub mod Causes
 pub mod Given
 pub mod Search
-pub mod Signed
 pub mod Ticks
 pub mod Turns
 pub mod Frames

@@ -19,6 +19,7 @@ use Rattle.octets.specs.Little.{little}
 use Rattle.rule.specs.Base.{each as moveEach, push}
 use Rattle.rule.specs.Engine.{find}
 use Rattle.rule.specs.Finds.{find-all}
+use Rattle.totals.specs.Gains.{wideRow}
 use Rattle.model.specs.Types.{Model, Monitor, Pair, ticksOf}
 use Rattle.model.specs.Monitors.{allows, filtering, letsThrough, parameters, runOf, windowed}
 use Rattle.model.specs.Image.{pairRow, pairIn, monitorRow}
@@ -370,11 +371,11 @@ module _ (m : Model) (h : ℕ) where
   pub closed-end : (i k : ℕ) → length (m .pairs) ≤ i → k ≡ length (keep (closedFor m h) (take i (m .pairs))) → k ≡ windows m h
   closed-end i k b e = e ∙ ap (λ (l : List Pair). length (keep (closedFor m h) l)) (take-all i (m .pairs) b) ∙ sym (windows-is m h)
 
--- a tick's row
-pub tick-row : (m : Model) (h : ℕ) {a b : ℕ} → a ≡ windows m h → b ≡ one (watching m h)
-    → record { packets = 0; reports = a; ticks = b; sum = pos 0 } ≡ rowIn m tick h
-unfolding rowIn packetsIn reportsIn ticksIn sumIn
-tick-row m h {a} {b} e f = λ i. record { packets = 0; reports = e i; ticks = f i; sum = pos 0 }
+-- what a tick adds
+pub tick-gain : (m : Model) (h : ℕ) {a b : ℕ} → a ≡ windows m h → b ≡ one (watching m h)
+    → wideRow (record { packets = 0; reports = a; ticks = b; level = 128 }) ≡ rowIn m tick h
+unfolding wideRow rowIn packetsIn reportsIn ticksIn sumIn
+tick-gain m h {a} {b} e f = λ i. record { packets = 0; reports = e i; ticks = f i; sum = pos 0 }
 
 -- what a sound state's block gives the loops
 pub known : (m : Model) (s : List ℕ) {n : ℕ} → soundModel m ≡ true → s ≡ padded m → Clamped (getD s countAt 0) mostPairs n

@@ -7,9 +7,7 @@ use mathlib.Core.Option.{Option, none, some}
 use native.Mathlib.Omega.{arith}
 use native.Mathlib.Numerals.{add-one}
 use lib.Dec.{eqb, leb, ltb}
-use lib.IntN.{ℤ, pos}
-use mir.Syntax.{w64}
-use mir.Val.{toZ, ofZ}
+use lib.IntN.{subℕ}
 use lib.ListN.{length, take, drop, getD, set, length-map}
 use lib.Seq.{take-suc-set, take-all}
 use borrow.Author.Tests.{eq-eqb, ne-eqb, le-leb, lt-leb, lt-ltb, le-ltb}
@@ -17,9 +15,11 @@ use Rattle.laws.specs.Tests.{pick, pick-true, pick-false, and-not-left, and-not
 use Rattle.laws.specs.Loops.{some as someOf, upTo, upTo-more}
 use Rattle.rule.specs.Engine.{find}
 use Rattle.totals.specs.declared.Row.{Row}
+use Rattle.totals.specs.declared.Gain.{Gain}
 use Rattle.totals.specs.Table.{empty}
+use Rattle.totals.specs.Gains.{wideRow, wide-set}
 use Rattle.model.specs.Types.{Model, Monitor, Packet, Pair, deviceOf, watched}
-use Rattle.model.specs.Level.{dBm}
+use Rattle.model.specs.Level.{dBm, level}
 use Rattle.model.specs.Frames.{packet, packetOf, scanOf}
 use Rattle.model.specs.Watch.{holds, packetMove, wants}
 use Rattle.model.specs.Layout.{mostMonitors, mostPairs}
@@ -29,7 +29,6 @@ use Rattle.counts.specs.Given.{Given}
 use Rattle.months.specs.Counts.{one, ofHandle, matchedBy, matching, causes, reportsBy, reportsOf, packetsIn, reportsIn, ticksIn, sumIn, rowIn}
 use Rattle.months.specs.Tables.{tableOf}
 use Rattle.counts.specs.Room.{begun, leftOf, room, weak}
-use Rattle.counts.specs.Signed.{dbm-back}
 use Rattle.counts.specs.Causes.{leftAt, startsAt, wanted, wantsFor, causes-by, left-more, mark-none}
 
 -- the row that a packet adds to a handle that it matches
@@ -54,13 +53,11 @@ pub left-no : (left : ℕ) {t : Bool} → t ≡ false → left ≡ left - pick t
 unfolding pick
 left-no left e = rw e (omega arith)
 
--- the row of a handle that the packet matches
-pub row-made : (cause : Bool) (l : List ℕ) {n : ℕ} {z : ℤ} → n ≡ pick cause (reportsOf (packetOf l)) 0 → z ≡ dBm (getD l (length l - 1) 0)
-    → record { packets = 1; reports = n; ticks = 0; sum = toZ w64 (ofZ w64 z) } ≡ matchedRow cause (packetOf l)
-unfolding matchedRow packetOf
-row-made cause l {n} {z} e f =
-    let y : toZ w64 (ofZ w64 z) ≡ dBm (getD l (length l - 1) 0) = dbm-back (getD l (length l - 1) 0) f in
-    λ i. record { packets = 1; reports = e i; ticks = 0; sum = y i }
+-- what a handle that the packet matches gains
+pub gain-made : (cause : Bool) (l : List ℕ) {n k : ℕ} → n ≡ pick cause (reportsOf (packetOf l)) 0 → k ≡ level (getD l (length l - 1) 0)
+    → wideRow (record { packets = 1; reports = n; ticks = 0; level = k }) ≡ matchedRow cause (packetOf l)
+unfolding wideRow matchedRow packetOf dBm
+gain-made cause l e f = λ i. record { packets = 1; reports = e i; ticks = 0; sum = subℕ (f i) 128 }
 
 -- the octet of a handle tells whether it matches
 matching-octet : (o : Option Monitor) (p : Packet) → matchedBy o p ≡ keeps (mark o p)
@@ -166,19 +163,23 @@ module _ (m : Model) (p : Packet) (h : ℕ) (acts : List ℕ) (dev a : ℕ) (g :
       (s ∙ ap₂ (λ (u v : ℕ). begun u (holds (m .pairs) h (deviceOf p)) v) octet-is l)
       ∙ sym (left-more m p h) ∙ ap (leftAt m p) (sym (add-one h))
 
--- the loop over the handles
-pub table-none : (f : ℕ → Row) (r : List Row) → take 0 r ≡ tableOf f 0
+-- the loop over the handles: the gains of the first h are the rows that are added to them
+pub table-none : (f : ℕ → Row) (r : List Gain) → take 0 (map wideRow r) ≡ tableOf f 0
 unfolding tableOf upTo
 table-none f r = refl
 
-pub table-turn : (f : ℕ → Row) (h : ℕ) (r : List Row) {x : Row} → x ≡ f h → h < length r → take h r ≡ tableOf f h
-    → take (h + 1) (set r h x) ≡ tableOf f (h + 1)
+pub table-turn : (f : ℕ → Row) (h : ℕ) (r : List Gain) (x : Gain) → wideRow x ≡ f h → h < length r → take h (map wideRow r) ≡ tableOf f h
+    → take (h + 1) (map wideRow (set r h x)) ≡ tableOf f (h + 1)
 unfolding tableOf
-table-turn f h r i b e = rw (i, upTo-more (λ j. f j ∷ []) h, ← e, add-one h) (take-suc-set r h (f h) b)
+table-turn f h r x i b e =
+    let n : length (map wideRow r) ≡ length r = length-map r wideRow in
+    ap (take (h + 1)) (wide-set r h x) ∙ rw (i, upTo-more (λ j. f j ∷ []) h, ← e, add-one h) (take-suc-set (map wideRow r) h (f h) (omega arith))
 
-pub table-end : (f : ℕ → Row) (h : ℕ) (r : List Row) → h ≡ mostMonitors → length r ≡ mostMonitors → take h r ≡ tableOf f h
-    → r ≡ tableOf f mostMonitors
-table-end f h r e l q = sym (take-all mostMonitors r (omega arith)) ∙ rw e at q
+pub table-end : (f : ℕ → Row) (h : ℕ) (r : List Gain) → h ≡ mostMonitors → length r ≡ mostMonitors → take h (map wideRow r) ≡ tableOf f h
+    → map wideRow r ≡ tableOf f mostMonitors
+table-end f h r e l q =
+    let n : length (map wideRow r) ≡ length r = length-map r wideRow in
+    sym (take-all mostMonitors (map wideRow r) (omega arith)) ∙ rw e at q
 
 -- the room before the first handle's turn
 pub room-first : (m : Model) (p : Packet) {n k : ℕ} → n ≡ length (m .pairs) → k ≡ weak (p .rssi) (map (packetMove (m .mons) p) (m .pairs))

@@ -1,5 +1,6 @@
-// A packet's rows: the monitors are asked once (crate marks), and each handle that matches looks for its pair.
+// A packet's gains: the monitors are asked once (crate marks), and each handle that matches looks for its pair.
 use state::State;
+use totals::Gain;
 use totals::Row;
 ghost use Prim.Native.Nat.{ℕ, _+_, _-_, _*_, _≤_, _<_};
 ghost use mathlib.Core.Path.{_≡_};
@@ -10,9 +11,10 @@ ghost use lib.ListN.{length, getD};
 ghost use Rattle.laws.specs.Tests.{pick};
 ghost use Rattle.octets.specs.Little.{little};
 ghost use Rattle.octets.specs.Numbers.{numberAt};
+ghost use Rattle.totals.specs.Gains.{wideRow};
 ghost use Rattle.sessions.specs.Machine.{lastNumber};
 ghost use Rattle.model.specs.Types.{Model, Packet, deviceOf};
-ghost use Rattle.model.specs.Level.{dBm, level};
+ghost use Rattle.model.specs.Level.{level};
 ghost use Rattle.model.specs.Frames.{hasPacket, packetOf, packet as packetFrame};
 ghost use Rattle.model.specs.Watch.{holds, packetMove};
 ghost use Rattle.model.specs.Sound.{soundModel};
@@ -30,9 +32,9 @@ ghost use Rattle.counts.specs.Room.{begun, weak, weakOf};
 ghost use Rattle.counts.specs.Turns.{matchedRow};
 ghost use Rattle.counts.specs.Causes.{leftAt, metBy, wanted, wantsFor};
 
-// A handle's row, and what is left of the room for starts behind its turn.
+// A handle's gain, and what is left of the room for starts behind its turn.
 struct Turn {
-    row: Row,
+    gain: Gain,
     left: usize,
 }
 
@@ -163,16 +165,8 @@ fn count_weak(s: &[u8], n: usize, acts: &[u8], dev: u64, least: u8) -> usize
     k
 }
 
-// An RSSI octet as a signed number.
-fn dbm_of(rssi: u8) -> i64
-    ensures { λ r. ⌜ r ≡ dBm rssi ⌝ }
-{
-    let n = state::level_of(rssi) as i64;
-    n - 128
-}
-
 // How many reports a packet has: with a scan response two.
-fn reports_of(payload: &[u8]) -> u64
+fn reports_of(payload: &[u8]) -> u8
     requires { ⌜ Framed (now payload) ⌝ }
     ensures { λ r. ⌜ r ≡ reportsOf (packetOf (now (payload .entry))) ⌝ }
 {
@@ -184,7 +178,7 @@ fn reports_of(payload: &[u8]) -> u64
 }
 
 // The reports that a packet counts for a handle.
-fn reports_if(cause: bool, payload: &[u8]) -> u64
+fn reports_if(cause: bool, payload: &[u8]) -> u8
     requires { ⌜ Framed (now payload) ⌝ }
     ensures { λ r. ⌜ r ≡ pick cause (reportsOf (packetOf (now (payload .entry)))) 0 ⌝ }
 {
@@ -194,19 +188,19 @@ fn reports_if(cause: bool, payload: &[u8]) -> u64
     0
 }
 
-// The row that a packet adds to a handle that it matches.
-fn row_of(cause: bool, payload: &[u8]) -> Row
+// What a packet adds to a handle that it matches.
+fn gain_of(cause: bool, payload: &[u8]) -> Gain
     requires { ⌜ Framed (now payload) ⌝ }
-    ensures { λ r. ⌜ r ≡ matchedRow cause (packetOf (now (payload .entry))) ⌝ }
+    ensures { λ r. ⌜ wideRow r ≡ matchedRow cause (packetOf (now (payload .entry))) ⌝ }
 {
     let reports = reports_if(cause, payload);
     let last = payload.len() - 1;
-    let sum = dbm_of(payload[last]);
-    Row {
+    let level = state::level_of(payload[last]);
+    Gain {
         packets: 1,
         reports,
         ticks: 0,
-        sum,
+        level,
     }
 }
 
@@ -251,18 +245,18 @@ fn left_after(left: usize, start: bool) -> usize
 // One handle's turn, by its octet.
 fn turn_at(s: &[u8], n: usize, h: usize, a: u8, dev: u64, payload: &[u8], left: usize) -> Turn
     requires { ⌜ (length (now s) ≡ blockSize) × (n ≤ mostPairs) × (h < mostMonitors) × (dev < 72057594037927936) × Framed (now payload) ⌝ }
-    ensures { λ r. ⌜ (r .left ≤ left) × ((m : Model) (acts : List ℕ) → Holding m (now (s .entry)) n → Given (m .mons) (packetOf (now (payload .entry))) acts dev → a ≡ getD acts h 0 → left ≡ leftAt m (packetOf (now (payload .entry))) h → (r .row ≡ rowIn m (packetFrame (packetOf (now (payload .entry)))) h) × (r .left ≡ leftAt m (packetOf (now (payload .entry))) (h + 1))) ⌝ }
+    ensures { λ r. ⌜ (r .left ≤ left) × ((m : Model) (acts : List ℕ) → Holding m (now (s .entry)) n → Given (m .mons) (packetOf (now (payload .entry))) acts dev → a ≡ getD acts h 0 → left ≡ leftAt m (packetOf (now (payload .entry))) h → (wideRow (r .gain) ≡ rowIn m (packetFrame (packetOf (now (payload .entry)))) h) × (r .left ≡ leftAt m (packetOf (now (payload .entry))) (h + 1))) ⌝ }
 {
     if a < marks::MATCHED {
-        let none = totals::no_row();
-        return Turn { row: none, left };
+        let none = totals::no_gain();
+        return Turn { gain: none, left };
     }
     let key = h as u64 + 256 * dev;
     let start = is_start(s, n, key, a, left);
     let cause = is_cause(s, n, key, a, payload, start);
-    let row = row_of(cause, payload);
+    let gain = gain_of(cause, payload);
     let rest = left_after(left, start);
-    Turn { row, left: rest }
+    Turn { gain, left: rest }
 }
 
 // The turns of the handles 0 to 15, with so much room for starts.
@@ -273,27 +267,27 @@ fn turn_all(
     dev: u64,
     payload: &[u8],
     room: usize,
-) -> [Row; Row::TABLE]
+) -> [Gain; Row::TABLE]
     requires { ⌜ (length (now s) ≡ blockSize) × (n ≤ mostPairs) × (length (now acts) ≡ mostMonitors) × (dev < 72057594037927936) × Framed (now payload) ⌝ }
-    ensures { λ r. ⌜ ((m : Model) → Holding m (now (s .entry)) n → Given (m .mons) (packetOf (now (payload .entry))) (now (acts .entry)) dev → room ≡ leftAt m (packetOf (now (payload .entry))) 0 → r ≡ tableOf (rowIn m (packetFrame (packetOf (now (payload .entry))))) mostMonitors) ⌝ }
+    ensures { λ r. ⌜ ((m : Model) → Holding m (now (s .entry)) n → Given (m .mons) (packetOf (now (payload .entry))) (now (acts .entry)) dev → room ≡ leftAt m (packetOf (now (payload .entry))) 0 → map wideRow r ≡ tableOf (rowIn m (packetFrame (packetOf (now (payload .entry))))) mostMonitors) ⌝ }
 {
-    let mut rows = totals::no_rows();
+    let mut gains = totals::no_gains();
     let mut left = room;
     let mut h = 0;
     while h < State::MONITORS {
         let turn = turn_at(s, n, h, acts[h], dev, payload, left);
-        let row = turn.row;
-        rows[h] = row;
+        let gain = turn.gain;
+        gains[h] = gain;
         left = turn.left;
         h += 1;
     }
-    rows
+    gains
 }
 
-// The rows of a packet frame's payload on a block of the right length.
-pub(super) fn rows_of(s: &[u8], payload: &[u8]) -> [Row; Row::TABLE]
+// The gains of a packet frame's payload on a block of the right length.
+pub(super) fn gains_of(s: &[u8], payload: &[u8]) -> [Gain; Row::TABLE]
     requires { ⌜ (length (now s) ≡ blockSize) × Framed (now payload) ⌝ }
-    ensures { λ r. ⌜ ((m : Model) → soundModel m ≡ true → now (s .entry) ≡ padded m → m .position < lastNumber → hasPacket (now (payload .entry)) ≡ true → r ≡ tableOf (rowIn m (packetFrame (packetOf (now (payload .entry))))) mostMonitors) ⌝ }
+    ensures { λ r. ⌜ ((m : Model) → soundModel m ≡ true → now (s .entry) ≡ padded m → m .position < lastNumber → hasPacket (now (payload .entry)) ≡ true → map wideRow r ≡ tableOf (rowIn m (packetFrame (packetOf (now (payload .entry))))) mostMonitors) ⌝ }
 {
     let mut acts = [0u8; State::MONITORS];
     marks::mark_all(&mut acts, s, payload);

@@ -1,14 +1,17 @@
-// A tick's rows: the pairs whose watch goes on over it, and the windows that close with a report.
+// A tick's gains: the pairs whose watch goes on over it, and the windows that close with a report.
 use state::Seconds;
 use state::State;
 use state::Ticks;
+use totals::Gain;
 use totals::Row;
 ghost use Prim.Native.Nat.{ℕ, _+_, _*_, _≤_, _<_};
 ghost use mathlib.Core.Path.{_≡_};
 ghost use mathlib.Core.Bool.{true};
+ghost use mathlib.Core.List.{map};
 ghost use lib.Dec.{ltb};
 ghost use lib.ListN.{length};
 ghost use Rattle.rule.specs.Engine.{find};
+ghost use Rattle.totals.specs.Gains.{wideRow};
 ghost use Rattle.model.specs.Types.{Model};
 ghost use Rattle.model.specs.Frames.{tick as aTick};
 ghost use Rattle.model.specs.Sound.{soundModel};
@@ -151,34 +154,34 @@ fn count_closed(s: &[u8], n: usize, h: usize) -> usize
     k
 }
 
-// The row that a tick adds to handle h.
-fn row_at(s: &[u8], n: usize, h: usize) -> Row
+// What a tick adds to handle h.
+fn gain_at(s: &[u8], n: usize, h: usize) -> Gain
     requires { ⌜ (length (now s) ≡ blockSize) × (n ≤ mostPairs) ⌝ }
-    ensures { λ r. ⌜ ((m : Model) → Known m (now (s .entry)) → Holding m (now (s .entry)) n → r ≡ rowIn m aTick h) ⌝ }
+    ensures { λ r. ⌜ ((m : Model) → Known m (now (s .entry)) → Holding m (now (s .entry)) n → wideRow r ≡ rowIn m aTick h) ⌝ }
 {
-    let reports = count_closed(s, n, h) as u64;
+    let reports = count_closed(s, n, h) as u8;
     let w = is_watching(s, n, h);
-    let ticks = super::flag(w) as u64;
-    Row {
+    let ticks = super::flag(w) as u8;
+    Gain {
         packets: 0,
         reports,
         ticks,
-        sum: 0,
+        level: 128,
     }
 }
 
-// The rows of a tick on a block of the right length.
-pub(super) fn rows_of(s: &[u8]) -> [Row; Row::TABLE]
+// The gains of a tick on a block of the right length.
+pub(super) fn gains_of(s: &[u8]) -> [Gain; Row::TABLE]
     requires { ⌜ length (now s) ≡ blockSize ⌝ }
-    ensures { λ r. ⌜ ((m : Model) → soundModel m ≡ true → now (s .entry) ≡ padded m → r ≡ tableOf (rowIn m aTick) mostMonitors) ⌝ }
+    ensures { λ r. ⌜ ((m : Model) → soundModel m ≡ true → now (s .entry) ≡ padded m → map wideRow r ≡ tableOf (rowIn m aTick) mostMonitors) ⌝ }
 {
     let n = octets::at_most(s[State::COUNT_AT], State::PAIRS);
-    let mut rows = totals::no_rows();
+    let mut gains = totals::no_gains();
     let mut h = 0;
     while h < State::MONITORS {
-        let row = row_at(s, n, h);
-        rows[h] = row;
+        let gain = gain_at(s, n, h);
+        gains[h] = gain;
         h += 1;
     }
-    rows
+    gains
 }

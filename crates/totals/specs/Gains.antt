@@ -9,7 +9,7 @@ use native.Mathlib.Omega.{arith}
 use lib.Dec.{eqb}
 use lib.IntN.{ℤ, pos, subℕ, _-ℤ_}
 use lib.Signed.{mag}
-use lib.ListN.{length, take, getD, set, length-map}
+use lib.ListN.{length, take, getD, set, replicate, length-map}
 use lib.Seq.{take-all}
 use mir.Syntax.{w64}
 use mir.Val.{SFits, toZ, ofZ}
@@ -64,6 +64,16 @@ pub wide-made : (g : Gain) {z : ℤ} → g .level < 256 → z ≡ subℕ (g .lev
     → record { packets = g .packets; reports = g .reports; ticks = g .ticks; sum = z } ≡ wideRow g
 unfolding wideRow
 wide-made g h e = λ i. record { packets = g .packets; reports = g .reports; ticks = g .ticks; sum = e i }
+
+-- no gains, and one gain put in its place
+pub no-gains-wide : {d : List Gain} → d ≡ replicate tableRows noGain → map wideRow d ≡ replicate tableRows empty
+unfolding wideRow
+no-gains-wide e = ap (map wideRow) e
+
+pub wide-set : (d : List Gain) (i : ℕ) (g : Gain) → map wideRow (set d i g) ≡ set (map wideRow d) i (wideRow g)
+wide-set [] i g = refl
+wide-set (x ∷ d) zero g = refl
+wide-set (x ∷ d) (suc i) g = ap (λ (l : List Row). wideRow x ∷ l) (wide-set d i g)
 
 -- the gain of a handle
 pub getD-wide : (d : List Gain) (i : ℕ) → getD (map wideRow d) i empty ≡ wideRow (getD d i noGain)

@@ -6,19 +6,19 @@ use Rattle.counts.proofs.added_by.Tie as tie
 use Rattle.counts.proofs.added_by.Reads as reads
 use Rattle.counts.proofs.added_by.Lts as lts
 use Rattle.counts.proofs.of_kind.Reads as of-kind-reads
-use Rattle.totals.proofs.no_rows.Reads as no-rows-reads
+use Rattle.totals.proofs.no_gains.Reads as no-gains-reads
 
 -- src/lib.rt:91:9
-no-rows-requires : tie.Need-no-rows-requires
-no-rows-requires c κs = search needs
+no-gains-requires : tie.Need-no-gains-requires
+no-gains-requires c κs = search needs
 
 -- src/lib.rt:91:9
 returns : tie.Need-returns
 returns c = let a = c .before .before .before .before .args in λ m e b h n. wrong-size (a .s .now) m (c .before .if1 .taken) e b
 
 -- src/lib.rt:94:9
-no-rows-requires-2 : tie.Need-no-rows-requires-2
-no-rows-requires-2 c κs = search needs
+no-gains-requires-2 : tie.Need-no-gains-requires-2
+no-gains-requires-2 c κs = search needs
 
 -- src/lib.rt:94:9
 returns-2 : tie.Need-returns-2
@@ -52,9 +52,9 @@ pub added-by-spec : {M : Type 1} → statement M
 added-by-spec =
     tie.close
     (tie.spec
-    no-rows-requires
+    no-gains-requires
     returns
-    no-rows-requires-2
+    no-gains-requires-2
     returns-2
     shared-slice-read-of-kind
     sub-of-kind

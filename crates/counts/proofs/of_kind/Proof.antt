@@ -1,4 +1,5 @@
 use Rattle.counts.specs.Frames.{adds-kind, adds-other}
+use Rattle.totals.specs.Gains.{no-gains-wide}
 use borrow.Author.Needs.{needs}
 use Rattle.counts.proofs.of_kind.Statement.{statement}
 use Rattle.counts.proofs.of_kind.Tie as tie
@@ -7,7 +8,7 @@ use Rattle.counts.proofs.of_kind.Lts as lts
 use Rattle.counts.proofs.of_packet.Reads as of-packet-reads
 use Rattle.counts.proofs.of_scanned.Reads as of-scanned-reads
 use Rattle.counts.proofs.of_tick.Reads as of-tick-reads
-use Rattle.totals.proofs.no_rows.Reads as no-rows-reads
+use Rattle.totals.proofs.no_gains.Reads as no-gains-reads
 
 -- src/lib.rt:74:9
 of-packet-requires : tie.Need-of-packet-requires
@@ -34,12 +35,12 @@ returns-3 : tie.Need-returns-3
 returns-3 c = let a = c .before .before .before .before .before .before .args in adds-kind (a .s .now) (a .payload .now) (a .kind) 4 (c .before .if3 .taken) (c .of-scanned .ensures)
 
 -- src/lib.rt:82:5
-no-rows-requires : tie.Need-no-rows-requires
-no-rows-requires c κs = search needs
+no-gains-requires : tie.Need-no-gains-requires
+no-gains-requires c κs = search needs
 
 -- src/lib.rt:69:1
 returns-4 : tie.Need-returns-4
-returns-4 c = let a = c .before .before .before .before .before .before .args in adds-other (a .s .now) (a .payload .now) (a .kind) (c .before .before .before .if1 .left) (c .before .before .if2 .left) (c .before .if3 .left) (c .no-rows .ensures)
+returns-4 c = let a = c .before .before .before .before .before .before .args in adds-other (a .s .now) (a .payload .now) (a .kind) (c .before .before .before .if1 .left) (c .before .before .if2 .left) (c .before .if3 .left) (no-gains-wide (c .no-gains .ensures))
 
 pub of-kind-spec : {M : Type 1} → statement M
 of-kind-spec =
@@ -51,5 +52,5 @@ of-kind-spec =
     returns-2
     of-scanned-requires
     returns-3
-    no-rows-requires
+    no-gains-requires
     returns-4)

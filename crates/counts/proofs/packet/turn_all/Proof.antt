@@ -2,6 +2,8 @@ use Prim.Native.Nat.{ℕ, _+_, _-_, _≤_}
 use mathlib.Core.Path.{_≡_, refl, ap}
 use native.Mathlib.Omega.{arith}
 use lib.ListN.{length, take, length-set}
+use mathlib.Core.List.{map}
+use Rattle.totals.specs.Gains.{wideRow}
 use borrow.Author.Needs.{needs}
 use Rattle.model.specs.Types.{Model}
 use Rattle.model.specs.Frames.{packetOf, packet as packetFrame}
@@ -17,23 +19,23 @@ use Rattle.counts.proofs.packet.turn_all.Tie as tie
 use Rattle.counts.proofs.packet.turn_all.Reads as reads
 use Rattle.counts.proofs.packet.turn_all.Lts as lts
 use Rattle.counts.proofs.packet.turn_at.Reads as turn-at-reads
-use Rattle.totals.proofs.no_rows.Reads as no-rows-reads
+use Rattle.totals.proofs.no_gains.Reads as no-gains-reads
 
 abbrev Inv-loop : tie.InvT-loop
-Inv-loop s n acts dev payload room rows₀ left₀ h₀ rows left h =
-    (h ≤ mostMonitors) × (length rows ≡ mostMonitors) × ((m : Model) → Holding m s n → Given (m .mons) (packetOf payload) acts dev → room ≡ leftAt m (packetOf payload) 0
-    → (left ≡ leftAt m (packetOf payload) h) × (take h rows ≡ tableOf (rowIn m (packetFrame (packetOf payload))) h))
+Inv-loop s n acts dev payload room gains₀ left₀ h₀ gains left h =
+    (h ≤ mostMonitors) × (length gains ≡ mostMonitors) × ((m : Model) → Holding m s n → Given (m .mons) (packetOf payload) acts dev → room ≡ leftAt m (packetOf payload) 0
+    → (left ≡ leftAt m (packetOf payload) h) × (take h (map wideRow gains) ≡ tableOf (rowIn m (packetFrame (packetOf payload))) h))
 
 abbrev μ-loop : tie.MeasureT-loop
-μ-loop s n acts dev payload room rows₀ left₀ h₀ rows left h = mostMonitors - h
+μ-loop s n acts dev payload room gains₀ left₀ h₀ gains left h = mostMonitors - h
 
 -- src/packet.rt:283:20
-no-rows-requires : tie.Need-no-rows-requires Inv-loop μ-loop
-no-rows-requires c κs = tt
+no-gains-requires : tie.Need-no-gains-requires Inv-loop μ-loop
+no-gains-requires c κs = tt
 
 -- src/packet.rt:286:5
 loop-holds : tie.Need-loop-holds Inv-loop μ-loop
-loop-holds c = (omega arith, ap length (c .no-rows .ensures), λ m w g e. (e, table-none (rowIn m (packetFrame (packetOf (c .before .before .before .before .args .payload .now)))) (c .no-rows .result)))
+loop-holds c = (omega arith, ap length (c .no-gains .ensures), λ m w g e. (e, table-none (rowIn m (packetFrame (packetOf (c .before .before .before .before .args .payload .now)))) (c .no-gains .result)))
 
 -- src/packet.rt:287:37
 shared-slice-read-turn-at : tie.Need-shared-slice-read-turn-at Inv-loop μ-loop
@@ -44,12 +46,12 @@ turn-at-requires : tie.Need-turn-at-requires Inv-loop μ-loop
 turn-at-requires c κs = search needs
 
 -- src/packet.rt:289:9
-mul-rows : tie.Need-mul-rows Inv-loop μ-loop
-mul-rows c = search needs
+mul-gains : tie.Need-mul-gains Inv-loop μ-loop
+mul-gains c = search needs
 
 -- src/packet.rt:289:9
-array-set-from-rows : tie.Need-array-set-from-rows Inv-loop μ-loop
-array-set-from-rows c = search needs
+array-set-from-gains : tie.Need-array-set-from-gains Inv-loop μ-loop
+array-set-from-gains c = search needs
 
 -- src/packet.rt:291:9
 add-h : tie.Need-add-h Inv-loop μ-loop
@@ -67,13 +69,13 @@ loop-again c = let a = c .before .before .before .before .before .before .before
   λ m w g e.
       let x = l .inv .2 m w g e in
       let t = c .before .turn-at .ensures .1 m (a .acts .now) w g refl (x .0) in
-      (t .1, table-turn (rowIn m (packetFrame (packetOf (a .payload .now)))) (l .h) (l .rows) (t .0) (omega (arith, l .inv .1)) (x .1)),
+      (t .1, table-turn (rowIn m (packetFrame (packetOf (a .payload .now)))) (l .h) (l .gains) _ (t .0) (omega (arith, l .inv .1)) (x .1)),
 )
 
 -- src/packet.rt:279:1
 returns : tie.Need-returns Inv-loop μ-loop
 returns c = let l = c .before .loop in λ m w g e.
-    table-end (rowIn m (packetFrame (packetOf (c .before .before .before .before .before .before .args .payload .now)))) (l .h) (l .rows) (omega arith) (l .inv .1) (l .inv .2 m w g e .1)
+    table-end (rowIn m (packetFrame (packetOf (c .before .before .before .before .before .before .args .payload .now)))) (l .h) (l .gains) (omega arith) (l .inv .1) (l .inv .2 m w g e .1)
 
 pub turn-all-spec : {M : Type 1} → statement M
 turn-all-spec =
@@ -81,12 +83,12 @@ turn-all-spec =
     (tie.spec
     Inv-loop
     μ-loop
-    no-rows-requires
+    no-gains-requires
     loop-holds
     shared-slice-read-turn-at
     turn-at-requires
-    mul-rows
-    array-set-from-rows
+    mul-gains
+    array-set-from-gains
     add-h
     loop-less
     loop-again

@@ -4,6 +4,7 @@ use native.Mathlib.Omega.{arith}
 use Rattle.model.specs.Frames.{packetOf}
 use Rattle.packets.specs.Starts.{Sought}
 use Rattle.counts.specs.Turns.{row-none, left-none, row-matched, left-matched}
+use Rattle.totals.specs.Gains.{wideRow, no-gain-wide}
 use borrow.Author.Needs.{needs}
 use Rattle.counts.proofs.packet.turn_at.Statement.{statement}
 use Rattle.counts.proofs.packet.turn_at.Tie as tie
@@ -12,12 +13,12 @@ use Rattle.counts.proofs.packet.turn_at.Lts as lts
 use Rattle.counts.proofs.packet.is_cause.Reads as is-cause-reads
 use Rattle.counts.proofs.packet.is_start.Reads as is-start-reads
 use Rattle.counts.proofs.packet.left_after.Reads as left-after-reads
-use Rattle.counts.proofs.packet.row_of.Reads as row-of-reads
-use Rattle.totals.proofs.no_row.Reads as no-row-reads
+use Rattle.counts.proofs.packet.gain_of.Reads as gain-of-reads
+use Rattle.totals.proofs.no_gain.Reads as no-gain-reads
 
 -- src/packet.rt:267:13
-no-row-requires : tie.Need-no-row-requires
-no-row-requires c κs = search needs
+no-gain-requires : tie.Need-no-gain-requires
+no-gain-requires c κs = search needs
 
 -- src/packet.rt:268:9
 returns : tie.Need-returns
@@ -25,7 +26,7 @@ returns c = let a = c .before .before .before .before .args in (
   omega arith,
   λ m acts w g o l.
       let p = packetOf (a .payload .now) in (
-        c .no-row .ensures ∙ row-none m p (a .h) acts (a .dev) (a .a) g (c .before .before .before .before .pre .2) o (omega (arith, c .before .if1 .taken)),
+        ap wideRow (c .no-gain .ensures) ∙ no-gain-wide ∙ row-none m p (a .h) acts (a .dev) (a .a) g (c .before .before .before .before .pre .2) o (omega (arith, c .before .if1 .taken)),
         left-none m p (a .h) acts (a .dev) (a .a) g (c .before .before .before .before .pre .2) o (omega (arith, c .before .if1 .taken)) l,
       ),
 )
@@ -47,8 +48,8 @@ is-cause-requires : tie.Need-is-cause-requires
 is-cause-requires c κs = search needs
 
 -- src/packet.rt:273:9
-row-of-requires : tie.Need-row-of-requires
-row-of-requires c κs = search needs
+gain-of-requires : tie.Need-gain-of-requires
+gain-of-requires c κs = search needs
 
 -- src/packet.rt:274:9
 left-after-requires : tie.Need-left-after-requires
@@ -63,7 +64,7 @@ returns-2 c = let a = c .before .before .before .before .before .before .before 
       let low = c .before .before .before .before .before .before .before .pre .2 in
       let x : Sought p (a .h) (a .h + 256 * a .dev) = record { sent = g .sent; low = low; number = ap (λ (k : ℕ). a .h + 256 * k) (g .number) } in
       let s = c .before .before .before .is-start .ensures m p (a .h) w x in (
-        row-matched m p (a .h) acts (a .dev) (a .a) g low o (omega arith) l s (c .before .before .is-cause .ensures m (a .h) (a .dev) acts w g low refl o) (c .before .row-of .ensures),
+        row-matched m p (a .h) acts (a .dev) (a .a) g low o (omega arith) l s (c .before .before .is-cause .ensures m (a .h) (a .dev) acts w g low refl o) (c .before .gain-of .ensures),
         left-matched m p (a .h) acts (a .dev) (a .a) g low o l s (c .left-after .ensures .0),
       ),
 )
@@ -72,12 +73,12 @@ pub turn-at-spec : {M : Type 1} → statement M
 turn-at-spec =
     tie.close
     (tie.spec
-    no-row-requires
+    no-gain-requires
     returns
     mul-key
     add-key
     is-start-requires
     is-cause-requires
-    row-of-requires
+    gain-of-requires
     left-after-requires
     returns-2)

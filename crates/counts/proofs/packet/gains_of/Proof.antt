@@ -13,10 +13,10 @@ use Rattle.packets.specs.Whole.{packet-rssi}
 use Rattle.counts.specs.Given.{Given, begun}
 use Rattle.counts.specs.Turns.{room-first}
 use borrow.Author.Needs.{needs}
-use Rattle.counts.proofs.packet.rows_of.Statement.{statement}
-use Rattle.counts.proofs.packet.rows_of.Tie as tie
-use Rattle.counts.proofs.packet.rows_of.Reads as reads
-use Rattle.counts.proofs.packet.rows_of.Lts as lts
+use Rattle.counts.proofs.packet.gains_of.Statement.{statement}
+use Rattle.counts.proofs.packet.gains_of.Tie as tie
+use Rattle.counts.proofs.packet.gains_of.Reads as reads
+use Rattle.counts.proofs.packet.gains_of.Lts as lts
 use Rattle.counts.proofs.packet.count_weak.Reads as count-weak-reads
 use Rattle.counts.proofs.packet.turn_all.Reads as turn-all-reads
 use Rattle.marks.proofs.mark_all.Reads as mark-all-reads
@@ -97,8 +97,8 @@ returns c = let a = c .before .before .before .before .before .before .before .b
     let w : Holding m s n = x .0 in
     c .turn-all .ensures m w (x .1) (room-first m p (w .count) (c .before .before .count-weak .ensures .1 m p w (x .1) (c .before .before .before .before .level-of .ensures ∙ ap level (packet-rssi l))))
 
-pub rows-of-spec : {M : Type 1} → statement M
-rows-of-spec =
+pub gains-of-spec : {M : Type 1} → statement M
+gains-of-spec =
     tie.close
     (tie.spec
     slice-aggregate-mark-all
