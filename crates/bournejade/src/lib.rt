@@ -132,13 +132,8 @@ pub extern "C" fn bournejade_count_line(
 ) -> u8
     ensures { λ r. ⌜ Rowed (length (now (rows .entry))) (now (state .entry)) (now (line .entry)) (now (out .entry)) (now (rows .entry)) r (now (wrote .exit)) (now (rows .exit)) (now (state .exit)) (now (out .exit)) ⌝ }
 {
-    let n = rows.len();
-    let z = totals::no_rows();
-    let t = totals::exchange(rows, z);
-    let a = month::count_number(state, line, out, wrote, n, t);
-    let all = a.rows;
-    totals::exchange(rows, all);
-    a.number
+    let a = month::count_line(state, line, out, rows);
+    month::told(a, wrote)
 }
 
 // Adds an edition of the event prefix, which holds from a frame number on: 0, or 7, 15, 14, 13.

@@ -1,3 +1,4 @@
 pub mod Outcomes
+pub mod Gives
 pub mod Works
 pub mod Numbers

@@ -17,7 +17,7 @@ use mir.ValLaws.{toZ-ofZ, toZ-pos}
 use borrow.Author.Tests.{eq-eqb, ne-eqb, lt-ltb, le-ltb}
 use Rattle.laws.specs.Put.{put, put-copy, put-nil, length-put, getD-put-after}
 use Rattle.laws.specs.Rows.{put-whole}
-use Rattle.laws.specs.Tests.{pick, pick-true, pick-false, cases-le}
+use Rattle.laws.specs.Tests.{pick, pick-true, and-left, and-right, cases-le}
 use Rattle.totals.specs.declared.Row.{Row}
 use Rattle.totals.specs.declared.Gain.{Gain}
 use Rattle.totals.specs.Two.{everyTwo, mapTwo, length-map-two, getD-map-two}
@@ -233,3 +233,35 @@ gained-long goes l d m = go (eqb (length l) tableRows) refl
 pub gain-other : (goes : Bool) (l : List Row) (d : List Gain) → eqb (length l) tableRows ≡ false → (false ≡ fitsIn l d) × (l ≡ gainedIn goes l d)
 unfolding fitsIn gainedIn pick
 gain-other goes l d e = (rw e, rw e)
+
+-- a table that is only asked, and one whose sums all fit
+pub asked-same : (l : List Row) (d : List Gain) → length d ≡ tableRows → gainedIn false l d ≡ l
+unfolding gainedIn pick keptRow mapTwo
+asked-same l d m = go (eqb (length l) tableRows) refl
+  where
+    kept : (a b : List Row) → length a ≡ length b → mapTwo (keptRow false) a b ≡ a
+    kept [] b e = refl
+    kept (x ∷ a) [] e = absurd (omega arith)
+    kept (x ∷ a) (y ∷ b) e = ap (λ (l : List Row). x ∷ l) (kept a b (omega arith))
+
+    go : (t : Bool) → eqb (length l) tableRows ≡ t → pick t (mapTwo (keptRow false) l (map wideRow d)) l ≡ l
+    go true e = kept l (map wideRow d) (borrow.Author.Tests.eqb-true (length l) tableRows e ∙ sym (length-map d wideRow ∙ m))
+    go false e = refl
+
+kept-all : (a b : List Row) → everyTwo rowFits a b ≡ true → mapTwo (keptRow true) a b ≡ mapTwo rowSum a b
+unfolding mapTwo everyTwo keptRow
+kept-all [] b e = refl
+kept-all (x ∷ a) [] e = refl
+kept-all (x ∷ a) (y ∷ b) e =
+    let h : rowFits x y ≡ true = and-left (rowFits x y) (everyTwo rowFits a b) e in
+    let k : mapTwo (keptRow true) a b ≡ mapTwo rowSum a b = kept-all a b (and-right (rowFits x y) (everyTwo rowFits a b) e) in
+    ap₂ (λ (r : Row) (l : List Row). r ∷ l) (pick-true (rowSum x y) x h) k
+
+pub gained-all : (l : List Row) (d : List Gain) → length l ≡ tableRows → length d ≡ tableRows → everyTwo rowFits l (map wideRow d) ≡ true
+    → gainedIn true l d ≡ mapTwo rowSum l (map wideRow d)
+unfolding gainedIn
+gained-all l d n m e = pick-true _ l (eq-eqb (length l) tableRows n) ∙ kept-all l (map wideRow d) e
+
+pub fits-sixteen : (l : List Row) (d : List Gain) → length l ≡ tableRows → fitsIn l d ≡ everyTwo rowFits l (map wideRow d)
+unfolding fitsIn
+fits-sixteen l d n = pick-true _ false (eq-eqb (length l) tableRows n)
