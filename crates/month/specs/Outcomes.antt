@@ -16,7 +16,7 @@ use Rattle.refusals.specs.declared.Wrote.{Wrote}
 use Rattle.refusals.specs.declared.Wrote.the-variants.{Done, Refused}
 use Rattle.totals.specs.declared.Row.{Row}
 use Rattle.totals.specs.Two.{everyTwo, mapTwo}
-use Rattle.totals.specs.Table.{passes, tableRows, rowFits, rowSum, addedRows, taken, placed, take-sixteen, take-other}
+use Rattle.totals.specs.Table.{passes, tableRows, rowFits, rowSum}
 use Rattle.sessions.specs.Machine.{Form, text, Line, Outcome, refused, done, answerRoom, lastNumber}
 use Rattle.sessions.specs.Session.{refuseIf, judge, answer, stateAfter, written}
 use Rattle.model.specs.Types.{Model}

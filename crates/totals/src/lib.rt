@@ -1,5 +1,5 @@
 // Rows of totals (document 02, T-09 and T-10): a row's totals added with every test of 64 bits, rows joined, and the lent table of sixteen
-// rows. A walk by hand is needed of each function whose signature has the table; the work is done on rows by value.
+// rows, changed in place. A walk by hand is needed of the one function whose signature has the table; the work is done on rows by value.
 ghost use mathlib.Core.Path.{_≡_};
 ghost use mathlib.Core.Bool.{true, _&&_};
 ghost use Prim.Native.Nat.{_+_};
@@ -8,7 +8,7 @@ ghost use lib.ListN.{length, replicate, getD};
 ghost use mathlib.Core.List.{map};
 ghost use Rattle.totals.specs.Sums.{countFits, sumFits};
 ghost use Rattle.totals.specs.Two.{everyTwo, mapTwo};
-ghost use Rattle.totals.specs.Table.{empty, tableRows, rowFits, rowSum, addedRows, taken, placed};
+ghost use Rattle.totals.specs.Table.{empty, tableRows, rowFits, rowSum, addedRows};
 ghost use Rattle.totals.specs.Join.{joinOf};
 ghost use Rattle.totals.specs.Gains.{noGain, wideRow, keptRow, fitsIn, gainedIn};
 
@@ -283,23 +283,4 @@ pub fn add_gains(rows: &mut [Row], d: [Gain; Row::TABLE], goes: bool) -> bool
         i += 1;
     }
     fitted
-}
-
-// Takes the rows out of the lent table of sixteen and puts others in their place. A table of another length is left as it
-// is, and the others are handed back.
-pub fn exchange(rows: &mut [Row], t: [Row; Row::TABLE]) -> [Row; Row::TABLE]
-    ensures { λ r. ⌜ (r ≡ taken (now (rows .entry)) t) × (now (rows .exit) ≡ placed (now (rows .entry)) t) ⌝ }
-{
-    if rows.len() != Row::TABLE {
-        return t;
-    }
-    let mut old = t;
-    let mut i = 0;
-    while i < Row::TABLE {
-        let r = rows[i];
-        rows[i] = old[i];
-        old[i] = r;
-        i += 1;
-    }
-    old
 }
