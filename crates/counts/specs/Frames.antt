@@ -1,14 +1,14 @@
 -- The rows that a frame adds, by its kind and form. Document 01, Lines; document 02, T-09. Assumes nothing.
-use Prim.Native.Nat.{ℕ, _-_, _≤_, _<_}
+use Prim.Native.Nat.{ℕ, _+_, _-_, _≤_, _<_}
 use mathlib.Core.Path.{_≡_, refl, sym, ap, _∙_}
-use mathlib.Core.Bool.{Bool, true, false, _||_}
+use mathlib.Core.Bool.{Bool, true, false, _&&_, _||_}
 use mathlib.Core.List.{List}
 use native.Mathlib.Omega.{arith}
-use lib.Dec.{eqb}
+use lib.Dec.{eqb, leb}
 use lib.ListN.{length, take, drop, getD, replicate, length-drop}
 use lib.Seq.{take-all}
-use borrow.Author.Tests.{eq-eqb, ne-eqb}
-use Rattle.laws.specs.Tests.{pick, pick-true, pick-false}
+use borrow.Author.Tests.{eq-eqb, ne-eqb, eqb-true, leb-true}
+use Rattle.laws.specs.Tests.{pick, and-left, and-right}
 use Rattle.laws.specs.Loops.{upTo}
 use Rattle.octets.specs.Little.{little}
 use Rattle.totals.specs.declared.Row.{Row}
@@ -18,7 +18,8 @@ use Rattle.model.specs.Types.{Model}
 use Rattle.model.specs.Frames.{Body, Typed, command, packet, tick, bad, isCommand, isPacket, isScanned, hasPacket, isTick, packetOf, frameOf, typed}
 use Rattle.model.specs.Sound.{soundModel}
 use Rattle.model.specs.Block.{padded}
-use Rattle.model.specs.Layout.{blockSize, mostMonitors}
+use Rattle.model.specs.Level.{inRange}
+use Rattle.model.specs.Layout.{blockSize, mostData, mostMonitors}
 use Rattle.blocks.specs.Block.{padded-length}
 use Rattle.months.specs.Counts.{packetsIn, reportsIn, ticksIn, sumIn, rowIn, adds}
 use Rattle.months.specs.Tables.{tableOf}
@@ -136,3 +137,66 @@ adds-frame raw m e =
 
 pub wrong-size : (s : List ℕ) (m : Model) {A : Type 0} → (length s ≡ blockSize → ⊥) → soundModel m ≡ true → s ≡ padded m → A
 wrong-size s m n e b = absurd (n (ap length b ∙ padded-length m e))
+
+-- the longest frame that counts: 5 octets, and a packet's payload with 31 of data and 31 of a scan response
+abbrev pub mostCounted : ℕ
+mostCounted = 16 + mostData + mostData
+
+-- a longer one is no packet's and no tick's
+no-packet : (l : List ℕ) → 11 + mostData + mostData < length l → isPacket l ≡ false
+unfolding isPacket
+no-packet l h = go (isPacket l) refl
+  where
+    go : (t : Bool) → isPacket l ≡ t → t ≡ false
+    go false e = refl
+    go true e =
+        let a = leb (getD l 0 0) 3 in
+        let b = leb (getD l 1 0) 1 in
+        let c = leb (getD l 8 0) mostData in
+        let d = eqb (length l) (10 + getD l 8 0) in
+        let x : (a && b && c && d) ≡ true = and-left (a && b && c && d) (inRange (getD l (9 + getD l 8 0) 0)) e in
+        let y : length l ≡ 10 + getD l 8 0 = eqb-true (length l) (10 + getD l 8 0) (and-right (a && b && c) d x) in
+        let z : getD l 8 0 ≤ mostData = leb-true (getD l 8 0) mostData (and-right (a && b) c (and-left (a && b && c) d x)) in
+        absurd (omega (arith, h, y, z))
+
+no-scanned : (l : List ℕ) → 11 + mostData + mostData < length l → isScanned l ≡ false
+unfolding isScanned
+no-scanned l h = go (isScanned l) refl
+  where
+    go : (t : Bool) → isScanned l ≡ t → t ≡ false
+    go false e = refl
+    go true e =
+        let n = getD l 8 0 in
+        let k = getD l (9 + n) 0 in
+        let a = eqb (getD l 0 0) 0 || eqb (getD l 0 0) 2 in
+        let b = leb (getD l 1 0) 1 in
+        let c = leb n mostData in
+        let f = leb k mostData in
+        let d = eqb (length l) (11 + n + k) in
+        let x : (a && b && c && f && d) ≡ true = and-left (a && b && c && f && d) (inRange (getD l (10 + n + k) 0)) e in
+        let y : length l ≡ 11 + n + k = eqb-true (length l) (11 + n + k) (and-right (a && b && c && f) d x) in
+        let w : (a && b && c && f) ≡ true = and-left (a && b && c && f) d x in
+        let z : n ≤ mostData = leb-true n mostData (and-right (a && b) c (and-left (a && b && c) f w)) in
+        let v : k ≤ mostData = leb-true k mostData (and-right (a && b && c) f w) in
+        absurd (omega (arith, h, y, z, v))
+
+long-nothing : (b : Body) → 11 + mostData + mostData < length (b .payload) → nothing (typed b) ≡ true
+unfolding typed nothing pick isTick
+long-nothing b h =
+    rw (no-packet (b .payload) h, no-scanned (b .payload) h, ne-eqb (length (b .payload)) 0 (λ (z : length (b .payload) ≡ 0). omega (arith, h, z)))
+    (go (eqb (b .kind) 1) (isCommand (b .payload)) (eqb (b .kind) 2) (eqb (b .kind) 3) (eqb (b .kind) 4))
+  where
+    go : (u v x y z : Bool) → nothing (pick u (pick v (command (little 2 (b .payload) 0) (drop 3 (b .payload))) bad) (pick x (pick false (packet (packetOf (b .payload))) bad) (pick y (pick false tick bad) (pick z (pick false (packet (packetOf (b .payload))) bad) bad)))) ≡ true
+    go true true x y z = refl
+    go true false x y z = refl
+    go false v true y z = refl
+    go false v false true z = refl
+    go false v false false true = refl
+    go false v false false false = refl
+
+pub adds-long : (m : Model) (raw : List ℕ) → mostCounted < length raw → replicate tableRows empty ≡ adds m (frameOf raw .body)
+unfolding frameOf
+adds-long m raw h =
+    let n : length (drop 5 raw) ≡ length raw - 5 = length-drop 5 raw in
+    let b : Body = bodyOf (getD raw 0 0) (drop 5 raw) in
+    none-rows m (typed b) (long-nothing b (omega (arith, h, n))) ∙ sym (adds-typed m b (typed b) refl)
