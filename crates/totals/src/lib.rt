@@ -241,11 +241,11 @@ struct After {
     fits: bool,
 }
 
-// The turn of row a, the i-th: it is added to only where it is to be and its totals fit.
-fn turn(a: Row, d: [Gain; Row::TABLE], i: usize, goes: bool, fitted: bool) -> After
-    ensures { λ r. ⌜ (r .row ≡ keptRow goes a (wideRow (getD d i noGain))) × (r .fits ≡ (fitted && rowFits a (wideRow (getD d i noGain)))) ⌝ }
+// The turn of row a: it is added to only where it is to be and its totals fit.
+fn turn(a: Row, gain: Gain, goes: bool, fitted: bool) -> After
+    ensures { λ r. ⌜ (r .row ≡ keptRow goes a (wideRow gain)) × (r .fits ≡ (fitted && rowFits a (wideRow gain))) ⌝ }
 {
-    let g = wide_at(d, i);
+    let g = wide(gain);
     if fits(a, g) {
         if goes {
             let sum = summed(a, g);
@@ -277,7 +277,8 @@ pub fn add_gains(rows: &mut [Row], d: [Gain; Row::TABLE], goes: bool) -> bool
     let mut i = 0;
     while i < Row::TABLE {
         let r = rows[i];
-        let t = turn(r, d, i, goes, fitted);
+        let g = d[i];
+        let t = turn(r, g, goes, fitted);
         rows[i] = t.row;
         fitted = t.fits;
         i += 1;

@@ -9,11 +9,11 @@ use Rattle.totals.proofs.turn.Reads as reads
 use Rattle.totals.proofs.turn.Lts as lts
 use Rattle.totals.proofs.fits.Reads as fits-reads
 use Rattle.totals.proofs.summed.Reads as summed-reads
-use Rattle.totals.proofs.wide_at.Reads as wide-at-reads
+use Rattle.totals.proofs.wide.Reads as wide-reads
 
 -- src/lib.rt:248:9
-wide-at-requires : tie.Need-wide-at-requires
-wide-at-requires c κs = search needs
+wide-requires : tie.Need-wide-requires
+wide-requires c κs = search needs
 
 -- src/lib.rt:249:8
 fits-requires : tie.Need-fits-requires
@@ -26,21 +26,21 @@ summed-requires c κs = sym (c .before .before .fits2 .ensures) ∙ c .before .i
 -- src/lib.rt:252:13
 returns : tie.Need-returns
 returns c = let a = c .before .before .before .before .before .args in
-    let e = c .before .before .before .before .wide-at .ensures in
+    let e = c .before .before .before .before .wide .ensures in
     turn-added (a .a) _ (a .fitted) (ap (rowFits (a .a)) (sym e) ∙ sym (c .before .before .before .fits2 .ensures) ∙ c .before .before .if1 .taken) (c .before .if2 .taken) (c .summed .ensures ∙ ap (rowSum (a .a)) e)
 
 -- src/lib.rt:257:9
 returns-2 : tie.Need-returns-2
 returns-2 c = let a = c .before .before .before .before .args in
-    let e = c .before .before .before .wide-at .ensures in
+    let e = c .before .before .before .wide .ensures in
     turn-asked (a .a) _ (a .fitted) (ap (rowFits (a .a)) (sym e) ∙ sym (c .before .before .fits2 .ensures) ∙ c .before .if1 .taken) (c .if2 .left)
 
 -- src/lib.rt:245:1
 returns-3 : tie.Need-returns-3
 returns-3 c = let a = c .before .before .before .args in
-    let e = c .before .before .wide-at .ensures in
+    let e = c .before .before .wide .ensures in
     turn-passes (a .a) _ (a .goes) (a .fitted) (ap (rowFits (a .a)) (sym e) ∙ sym (c .before .fits2 .ensures) ∙ c .if1 .left)
 
 pub turn-spec : {M : Type 1} → statement M
 turn-spec =
-    tie.close (tie.spec wide-at-requires fits-requires summed-requires returns returns-2 returns-3)
+    tie.close (tie.spec wide-requires fits-requires summed-requires returns returns-2 returns-3)
