@@ -1,0 +1,40 @@
+use borrow.Author.Needs.{needs}
+use Rattle.words.proofs.behind.Statement.{statement}
+use Rattle.words.proofs.behind.Tie as tie
+use Rattle.words.proofs.behind.Reads as reads
+use Rattle.words.proofs.behind.Lts as lts
+
+-- src/lib.rt:59:9
+slice-aggregate-result : tie.Need-slice-aggregate-result
+slice-aggregate-result c = search needs
+
+-- src/lib.rt:59:9
+returns : tie.Need-returns
+returns c = ?
+
+-- src/lib.rt:61:5
+sub-result : tie.Need-sub-result
+sub-result c = search needs
+
+-- src/lib.rt:61:5
+part-result-start : tie.Need-part-result-start
+part-result-start c = search needs
+
+-- src/lib.rt:61:5
+part-result-end : tie.Need-part-result-end
+part-result-end c = search needs
+
+-- src/lib.rt:54:1
+returns-2 : tie.Need-returns-2
+returns-2 c = ?
+
+pub behind-spec : {M : Type 1} → statement M
+behind-spec =
+    tie.close
+    (tie.spec
+    slice-aggregate-result
+    returns
+    sub-result
+    part-result-start
+    part-result-end
+    returns-2)

@@ -1,0 +1,65 @@
+use borrow.Author.Needs.{needs}
+use Rattle.words.proofs.device.Statement.{statement}
+use Rattle.words.proofs.device.Tie as tie
+use Rattle.words.proofs.device.Reads as reads
+use Rattle.words.proofs.device.Lts as lts
+use Rattle.texts.proofs.address.Reads as address-reads
+use Rattle.texts.proofs.kind.Reads as kind-reads
+use Rattle.texts.proofs.words.blank.Reads as blank-reads
+use Rattle.words.proofs.put.Reads as put-reads
+use Rattle.words.proofs.text.Reads as text-reads
+
+-- src/lib.rt:164:9
+put-requires : tie.Need-put-requires
+put-requires c κs = search needs
+
+-- src/lib.rt:165:38
+blank-requires : tie.Need-blank-requires
+blank-requires c κs = search needs
+
+-- src/lib.rt:165:26
+kind-requires : tie.Need-kind-requires
+kind-requires c κs = search needs
+
+-- src/lib.rt:165:9
+text-requires : tie.Need-text-requires
+text-requires c κs = search needs
+
+-- src/lib.rt:166:25
+slice-aggregate-put : tie.Need-slice-aggregate-put
+slice-aggregate-put c = search needs
+
+-- src/lib.rt:166:9
+put-requires-2 : tie.Need-put-requires-2
+put-requires-2 c κs = search needs
+
+-- src/lib.rt:167:33
+blank-requires-2 : tie.Need-blank-requires-2
+blank-requires-2 c κs = search needs
+
+-- src/lib.rt:167:18
+address-requires : tie.Need-address-requires
+address-requires c κs = search needs
+
+-- src/lib.rt:167:5
+text-requires-2 : tie.Need-text-requires-2
+text-requires-2 c κs = search needs
+
+-- src/lib.rt:161:1
+returns : tie.Need-returns
+returns c = ?
+
+pub device-spec : {M : Type 1} → statement M
+device-spec =
+    tie.close
+    (tie.spec
+    put-requires
+    blank-requires
+    kind-requires
+    text-requires
+    slice-aggregate-put
+    put-requires-2
+    blank-requires-2
+    address-requires
+    text-requires-2
+    returns)

@@ -1,0 +1,61 @@
+use borrow.Author.Needs.{needs}
+use Rattle.words.proofs.level.Statement.{statement}
+use Rattle.words.proofs.level.Tie as tie
+use Rattle.words.proofs.level.Reads as reads
+use Rattle.words.proofs.level.Lts as lts
+use Rattle.octets.proofs.get8.Reads as get8-reads
+use Rattle.state.proofs.level_of.Reads as level-of-reads
+use Rattle.texts.proofs.level.Reads as level-reads
+use Rattle.texts.proofs.words.blank.Reads as blank-reads
+use Rattle.words.proofs.put.Reads as put-reads
+use Rattle.words.proofs.text.Reads as text-reads
+
+-- src/lib.rt:133:9
+put-requires : tie.Need-put-requires
+put-requires c κs = search needs
+
+-- src/lib.rt:134:29
+get8-requires : tie.Need-get8-requires
+get8-requires c κs = search needs
+
+-- src/lib.rt:134:9
+level-of-requires : tie.Need-level-of-requires
+level-of-requires c κs = search needs
+
+-- src/lib.rt:135:39
+blank-requires : tie.Need-blank-requires
+blank-requires c κs = search needs
+
+-- src/lib.rt:135:26
+level-requires : tie.Need-level-requires
+level-requires c κs = search needs
+
+-- src/lib.rt:135:9
+text-requires : tie.Need-text-requires
+text-requires c κs = search needs
+
+-- src/lib.rt:136:17
+slice-aggregate-put : tie.Need-slice-aggregate-put
+slice-aggregate-put c = search needs
+
+-- src/lib.rt:136:5
+put-requires-2 : tie.Need-put-requires-2
+put-requires-2 c κs = search needs
+
+-- src/lib.rt:130:1
+returns : tie.Need-returns
+returns c = ?
+
+pub level-spec : {M : Type 1} → statement M
+level-spec =
+    tie.close
+    (tie.spec
+    put-requires
+    get8-requires
+    level-of-requires
+    blank-requires
+    level-requires
+    text-requires
+    slice-aggregate-put
+    put-requires-2
+    returns)

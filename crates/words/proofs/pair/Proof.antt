@@ -1,0 +1,27 @@
+use borrow.Author.Needs.{needs}
+use Rattle.words.proofs.pair.Statement.{statement}
+use Rattle.words.proofs.pair.Tie as tie
+use Rattle.words.proofs.pair.Reads as reads
+use Rattle.words.proofs.pair.Lts as lts
+use Rattle.texts.proofs.pair.Reads as pair-reads
+use Rattle.texts.proofs.words.blank.Reads as blank-reads
+use Rattle.words.proofs.text.Reads as text-reads
+
+-- src/lib.rt:99:31
+blank-requires : tie.Need-blank-requires
+blank-requires c κs = search needs
+
+-- src/lib.rt:99:19
+pair-requires : tie.Need-pair-requires
+pair-requires c κs = search needs
+
+-- src/lib.rt:99:5
+text-requires : tie.Need-text-requires
+text-requires c κs = search needs
+
+-- src/lib.rt:96:1
+returns : tie.Need-returns
+returns c = ?
+
+pub pair-spec : {M : Type 1} → statement M
+pair-spec = tie.close (tie.spec blank-requires pair-requires text-requires returns)

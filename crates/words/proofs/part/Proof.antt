@@ -1,0 +1,55 @@
+use borrow.Author.Needs.{needs}
+use Rattle.words.proofs.part.Statement.{statement}
+use Rattle.words.proofs.part.Tie as tie
+use Rattle.words.proofs.part.Reads as reads
+use Rattle.words.proofs.part.Lts as lts
+
+-- src/lib.rt:45:9
+slice-aggregate-result : tie.Need-slice-aggregate-result
+slice-aggregate-result c = search needs
+
+-- src/lib.rt:45:9
+returns : tie.Need-returns
+returns c = ?
+
+-- src/lib.rt:48:9
+slice-aggregate-result-2 : tie.Need-slice-aggregate-result-2
+slice-aggregate-result-2 c = search needs
+
+-- src/lib.rt:48:9
+returns-2 : tie.Need-returns-2
+returns-2 c = ?
+
+-- src/lib.rt:50:14
+add-result : tie.Need-add-result
+add-result c = search needs
+
+-- src/lib.rt:50:5
+sub-result : tie.Need-sub-result
+sub-result c = search needs
+
+-- src/lib.rt:50:5
+part-result-start : tie.Need-part-result-start
+part-result-start c = search needs
+
+-- src/lib.rt:50:5
+part-result-end : tie.Need-part-result-end
+part-result-end c = search needs
+
+-- src/lib.rt:40:1
+returns-3 : tie.Need-returns-3
+returns-3 c = ?
+
+pub part-spec : {M : Type 1} → statement M
+part-spec =
+    tie.close
+    (tie.spec
+    slice-aggregate-result
+    returns
+    slice-aggregate-result-2
+    returns-2
+    add-result
+    sub-result
+    part-result-start
+    part-result-end
+    returns-3)

@@ -1,0 +1,57 @@
+use borrow.Author.Needs.{needs}
+use Rattle.words.proofs.sum.Statement.{statement}
+use Rattle.words.proofs.sum.Tie as tie
+use Rattle.words.proofs.sum.Reads as reads
+use Rattle.words.proofs.sum.Lts as lts
+use Rattle.words.proofs.put.Reads as put-reads
+use Rattle.words.proofs.said.Reads as said-reads
+
+-- src/lib.rt:143:9
+put-requires : tie.Need-put-requires
+put-requires c κs = search needs
+
+-- src/lib.rt:145:29
+slice-aggregate-said : tie.Need-slice-aggregate-said
+slice-aggregate-said c = search needs
+
+-- src/lib.rt:145:9
+said-requires : tie.Need-said-requires
+said-requires c κs = search needs
+
+-- src/lib.rt:145:9
+returns : tie.Need-returns
+returns c = ?
+
+-- src/lib.rt:147:18
+slice-aggregate-said-2 : tie.Need-slice-aggregate-said-2
+slice-aggregate-said-2 c = search needs
+
+-- src/lib.rt:147:24
+sub-said : tie.Need-sub-said
+sub-said c = search needs
+
+-- src/lib.rt:147:24
+add-said : tie.Need-add-said
+add-said c = search needs
+
+-- src/lib.rt:147:5
+said-requires-2 : tie.Need-said-requires-2
+said-requires-2 c κs = search needs
+
+-- src/lib.rt:140:1
+returns-2 : tie.Need-returns-2
+returns-2 c = ?
+
+pub sum-spec : {M : Type 1} → statement M
+sum-spec =
+    tie.close
+    (tie.spec
+    put-requires
+    slice-aggregate-said
+    said-requires
+    returns
+    slice-aggregate-said-2
+    sub-said
+    add-said
+    said-requires-2
+    returns-2)
