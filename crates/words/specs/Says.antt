@@ -6,11 +6,11 @@ use mathlib.Core.Bool.{Bool, true, false}
 use mathlib.Core.List.{List, [], _∷_, _++_, append-assoc, append-nil}
 use native.Mathlib.Nat.{add-zero, add-assoc}
 use native.Mathlib.Omega.{arith}
-use borrow.Author.Tests.{le-leb}
+use borrow.Author.Tests.{le-leb, lt-leb}
 use lib.Dec.{leb}
 use lib.ListN.{length, take, drop, length-append, length-take}
 use lib.Seq.{length-take-le, take-all, take-append-le, take-append-add}
-use Rattle.laws.specs.Put.{put, putIf, put-nil, put-put, put-of, length-put}
+use Rattle.laws.specs.Put.{put, putIf, put-nil, put-put, put-of, put-if-false, length-put}
 use Rattle.laws.specs.Tests.{pick, pick-true, pick-false, cases-le}
 
 -- what of words has room behind the first at octets
@@ -58,7 +58,7 @@ full-end out at w h s = s .end ∙ ap (λ (l : List ℕ). at + length l) (fit-no
 pub nothing : (out : List ℕ) (at : ℕ) → Says out at [] out at
 unfolding fitting
 nothing out at =
-    let e : take (length out - at) [] ≡ [] = take-all (length out - at) [] (omega arith) in
+    let e : take {A = ℕ} (length out - at) [] ≡ [] = take-all (length out - at) [] (omega arith) in
     record { text = sym (ap (put out at) e ∙ put-nil out at); end = sym (ap (λ (l : List ℕ). at + length l) e ∙ add-zero at) }
 
 -- words, and others behind them, where there is room for some
@@ -101,18 +101,22 @@ taken a b k s = same (sym (pick-true a b k)) s
 pub left : {out : List ℕ} {at : ℕ} (a b : List ℕ) {out′ : List ℕ} {r : ℕ} {c : Bool} → c ≡ false → Says out at b out′ r → Says out at (pick c a b) out′ r
 left a b k s = same (sym (pick-false a b k)) s
 
--- copied: no words where the output is full, and as many as there is room for
-pub not-copied : {out : List ℕ} {at : ℕ} (w : List ℕ) → length out ≤ at → Says out at w out at
-not-copied {out} {at} w h = full out at w h
+-- nothing put, and a put that was refused
+put-none : (out : List ℕ) (at : ℕ) (w : List ℕ) (b : Bool) → b ≡ false → w ≡ [] → putIf b out at w ≡ put out at w
+put-none out at w b e z = sym (put-if-false out at w e) ∙ sym (put-nil out at) ∙ ap (put out at) (sym z)
 
-pub copied : (out : List ℕ) (at : ℕ) (w : List ℕ) (n : ℕ) {out′ : List ℕ} {b : Bool} → at ≤ length out → n ≡ min (length w) (length out - at)
+-- copied, as many as there is room for; where the output ends before the index, none
+pub copied : (out : List ℕ) (at : ℕ) (w : List ℕ) (n : ℕ) {out′ : List ℕ} {b : Bool} → n ≡ min (length w) (length out - at)
     → b ≡ leb (at + length (take n w)) (length out) → out′ ≡ putIf b out at (take n w) → Says out at w out′ (at + n)
 unfolding fitting
-copied out at w n {out′} {b} h k e p =
+copied out at w n {out′} {b} k e p =
     let m : length (take n w) ≡ n = length-take-le n w (omega arith) in
     let f : take n w ≡ take (length out - at) w =
     cases-le (length w) (length out - at)
     (λ (x : length w ≤ length out - at). take-all n w (omega arith) ∙ sym (take-all (length out - at) w x))
     (λ (x : length out - at < length w). ap (λ (j : ℕ). take j w) (let z : n ≡ length out - at = omega arith in z)) in
-    let o : out′ ≡ put out at (take n w) = put-of out at (take n w) (length (take n w)) (length out) e (omega arith) p in
+    let o : out′ ≡ put out at (take n w) =
+    cases-le at (length out)
+    (λ (h : at ≤ length out). put-of out at (take n w) (length (take n w)) (length out) e (omega arith) p)
+    (λ (h : length out < at). p ∙ put-none out at (take n w) b (e ∙ lt-leb (at + length (take n w)) (length out) (omega arith)) (let z : n ≡ 0 = omega arith in ap (λ (j : ℕ). take j w) z)) in
     record { text = o ∙ ap (put out at) f; end = ap (λ (j : ℕ). at + j) (sym m ∙ ap length f) }

@@ -24,14 +24,21 @@ fn least(a: usize, b: usize) -> usize
     if a < b { a } else { b }
 }
 
+// The room behind an index.
+fn left(at: usize) -> usize
+    ensures { λ r. ⌜ r ≡ 8192 - at ⌝ }
+{
+    if at < ROOM {
+        return ROOM - at;
+    }
+    0
+}
+
 // Words, as far as there is room.
 pub fn put(out: &mut [u8; ROOM], at: usize, words: &[u8]) -> usize
     ensures { λ r. ⌜ Says (now (out .entry)) at (now (words .entry)) (now (out .exit)) r ⌝ }
 {
-    if ROOM <= at {
-        return at;
-    }
-    let n = least(words.len(), ROOM - at);
+    let n = least(words.len(), left(at));
     parts::copy(out, at, &words[..n]);
     at + n
 }

@@ -1,3 +1,16 @@
+use Prim.Native.Nat.{ℕ, zero, suc, _+_, _-_, _*_, _/_, _%_, _≤_, _<_}
+use mathlib.Core.Path.{_≡_, refl, sym, ap, _∙_}
+use native.Mathlib.Omega.{arith}
+use Rattle.words.specs.Says.{Says, same, nothing, then, taken, left, copied}
+use Rattle.words.specs.Pieces.{partOf, numberText, dbm, sumText, deviceOf, deviceText, groupsText, uuidText, nameOr, part-in, part-out, decimal-held, told-cut, hex-turn, number-turn, kind-held, address-held, pair-held, level-held}
+use lib.ListN.{length, take, drop, length-drop, drop-of-length-le}
+use lib.Seq.{length-take-le, take-all, drop-length}
+use mathlib.Core.List.{List, [], _∷_, _++_}
+use Rattle.model.specs.Quoted.{codes}
+use borrow.Author.Tests.{eq-eqb, ne-eqb, lt-ltb, le-ltb, not-true, not-false}
+use Rattle.lines.specs.Hex.{hexOf}
+use Rattle.decimals.specs.Decimals.{decimal}
+use Rattle.texts.specs.Words.{levelText, kindText, addressText, pairOf}
 use borrow.Author.Needs.{needs}
 use Rattle.words.proofs.device.Statement.{statement}
 use Rattle.words.proofs.device.Tie as tie
@@ -47,7 +60,8 @@ text-requires-2 c κs = search needs
 
 -- src/lib.rt:161:1
 returns : tie.Need-returns
-returns c = ?
+unfolding deviceText codes
+returns c = then (c .before .before .before .before .before .before .before .before .before .before .before .put .ensures) (then (then (same (kind-held (c .before .before .before .before .before .before .before .before .before .before .before .before .before .before .args .d) (c .before .before .before .before .before .before .before .before .before .blank .ensures) (c .before .before .before .before .before .before .before .before .kind .ensures)) (c .before .before .before .before .before .before .before .text .ensures)) (c .before .before .before .before .put2 .ensures)) (same (address-held (c .before .before .before .before .before .before .before .before .before .before .before .before .before .before .args .d) (c .before .before .blank2 .ensures) (c .before .address .ensures)) (c .text2 .ensures)))
 
 pub device-spec : {M : Type 1} → statement M
 device-spec =

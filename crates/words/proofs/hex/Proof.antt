@@ -1,3 +1,17 @@
+use Prim.Native.Nat.{ℕ, zero, suc, _+_, _-_, _*_, _/_, _%_, _≤_, _<_}
+use mathlib.Core.Path.{_≡_, refl, sym, ap, _∙_}
+use native.Mathlib.Omega.{arith}
+use borrow.Author.Needs.{needs}
+use Rattle.words.specs.Says.{Says, same, nothing, then, taken, left, copied}
+use Rattle.words.specs.Pieces.{partOf, numberText, dbm, sumText, deviceOf, deviceText, groupsText, uuidText, nameOr, part-in, part-out, decimal-held, told-cut, hex-turn, number-turn, kind-held, address-held, pair-held, level-held}
+use lib.ListN.{length, take, drop, length-drop, drop-of-length-le}
+use lib.Seq.{length-take-le, take-all, drop-length}
+use mathlib.Core.List.{List, [], _∷_, _++_}
+use Rattle.model.specs.Quoted.{codes}
+use borrow.Author.Tests.{eq-eqb, ne-eqb, lt-ltb, le-ltb, not-true, not-false}
+use Rattle.lines.specs.Hex.{hexOf}
+use Rattle.decimals.specs.Decimals.{decimal}
+use Rattle.texts.specs.Words.{levelText, kindText, addressText, pairOf}
 use Rattle.words.proofs.hex.Statement.{statement}
 use Rattle.words.proofs.hex.Tie as tie
 use Rattle.words.proofs.hex.Reads as reads
@@ -6,42 +20,43 @@ use Rattle.words.proofs.pair.Reads as pair-reads
 use Rattle.words.proofs.put.Reads as put-reads
 
 abbrev Inv-loop : tie.InvT-loop
-Inv-loop out₀ at words s end₀ n i₀ out end i = ?
+Inv-loop out₀ at words s end₀ n i₀ out end i = (n ≡ length s) × (i ≤ n) × Says out₀ end₀ (hexOf (take i s)) out end
 
 abbrev μ-loop : tie.MeasureT-loop
-μ-loop out₀ at words s end₀ n i₀ out end i = ?
+μ-loop out₀ at words s end₀ n i₀ out end i = n - i
 
 -- src/lib.rt:106:9
 put-requires : tie.Need-put-requires Inv-loop μ-loop
-put-requires c κs = ?
+put-requires c κs = search needs
 
 -- src/lib.rt:109:5
 loop-holds : tie.Need-loop-holds Inv-loop μ-loop
-loop-holds c = ?
+unfolding hexOf
+loop-holds c = (refl, omega arith, nothing _ _)
 
 -- src/lib.rt:110:30
 shared-slice-read-pair : tie.Need-shared-slice-read-pair Inv-loop μ-loop
-shared-slice-read-pair c = ?
+shared-slice-read-pair c = search needs
 
 -- src/lib.rt:110:9
 pair-requires : tie.Need-pair-requires Inv-loop μ-loop
-pair-requires c κs = ?
+pair-requires c κs = search needs
 
 -- src/lib.rt:111:9
 add-i : tie.Need-add-i Inv-loop μ-loop
-add-i c = ?
+add-i c = search needs
 
 -- src/lib.rt:109:5
 loop-less : tie.Need-loop-less Inv-loop μ-loop
-loop-less c = ?
+loop-less c = search needs
 
 -- src/lib.rt:109:5
 loop-again : tie.Need-loop-again Inv-loop μ-loop
-loop-again c = ?
+loop-again c = (refl, omega arith, hex-turn (c .before .before .before .before .before .before .before .before .before .args .s .now) (c .before .before .before .before .loop .i) (omega arith) (c .before .before .before .before .loop .inv .2) (c .pair .ensures))
 
 -- src/lib.rt:103:1
 returns : tie.Need-returns Inv-loop μ-loop
-returns c = ?
+returns c = let e : take (c .before .loop .i) (c .before .before .before .before .before .before .args .s .now) ≡ c .before .before .before .before .before .before .args .s .now = take-all (c .before .loop .i) (c .before .before .before .before .before .before .args .s .now) (omega arith) in then (c .before .before .put .ensures) (same (ap hexOf e) (c .before .loop .inv .2))
 
 pub hex-spec : {M : Type 1} → statement M
 hex-spec =

@@ -1,3 +1,16 @@
+use Prim.Native.Nat.{ℕ, zero, suc, _+_, _-_, _*_, _/_, _%_, _≤_, _<_}
+use mathlib.Core.Path.{_≡_, refl, sym, ap, _∙_}
+use native.Mathlib.Omega.{arith}
+use Rattle.words.specs.Says.{Says, same, nothing, then, taken, left, copied}
+use Rattle.words.specs.Pieces.{partOf, numberText, dbm, sumText, deviceOf, deviceText, groupsText, uuidText, nameOr, part-in, part-out, decimal-held, told-cut, hex-turn, number-turn, kind-held, address-held, pair-held, level-held}
+use lib.ListN.{length, take, drop, length-drop, drop-of-length-le}
+use lib.Seq.{length-take-le, take-all, drop-length}
+use mathlib.Core.List.{List, [], _∷_, _++_}
+use Rattle.model.specs.Quoted.{codes}
+use borrow.Author.Tests.{eq-eqb, ne-eqb, lt-ltb, le-ltb, not-true, not-false}
+use Rattle.lines.specs.Hex.{hexOf}
+use Rattle.decimals.specs.Decimals.{decimal}
+use Rattle.texts.specs.Words.{levelText, kindText, addressText, pairOf}
 use borrow.Author.Needs.{needs}
 use Rattle.words.proofs.level.Statement.{statement}
 use Rattle.words.proofs.level.Tie as tie
@@ -44,7 +57,8 @@ put-requires-2 c κs = search needs
 
 -- src/lib.rt:130:1
 returns : tie.Need-returns
-returns c = ?
+unfolding dbm codes
+returns c = then (c .before .before .before .before .before .before .before .before .before .put .ensures) (then (same (level-held _ (c .before .before .before .before .before .blank .ensures) (c .before .before .before .before .level .ensures) ∙ ap levelText (c .before .before .before .before .before .before .before .level-of .ensures ∙ ap Rattle.model.specs.Level.level (c .before .before .before .before .before .before .before .before .get8 .ensures))) (c .before .before .before .text .ensures)) (c .put2 .ensures))
 
 pub level-spec : {M : Type 1} → statement M
 level-spec =

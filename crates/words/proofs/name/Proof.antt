@@ -1,3 +1,16 @@
+use Prim.Native.Nat.{ℕ, zero, suc, _+_, _-_, _*_, _/_, _%_, _≤_, _<_}
+use mathlib.Core.Path.{_≡_, refl, sym, ap, _∙_}
+use native.Mathlib.Omega.{arith}
+use Rattle.words.specs.Says.{Says, same, nothing, then, taken, left, copied}
+use Rattle.words.specs.Pieces.{partOf, numberText, dbm, sumText, deviceOf, deviceText, groupsText, uuidText, nameOr, part-in, part-out, decimal-held, told-cut, hex-turn, number-turn, kind-held, address-held, pair-held, level-held}
+use lib.ListN.{length, take, drop, length-drop, drop-of-length-le}
+use lib.Seq.{length-take-le, take-all, drop-length}
+use mathlib.Core.List.{List, [], _∷_, _++_}
+use Rattle.model.specs.Quoted.{codes}
+use borrow.Author.Tests.{eq-eqb, ne-eqb, lt-ltb, le-ltb, not-true, not-false}
+use Rattle.lines.specs.Hex.{hexOf}
+use Rattle.decimals.specs.Decimals.{decimal}
+use Rattle.texts.specs.Words.{levelText, kindText, addressText, pairOf}
 use borrow.Author.Needs.{needs}
 use Rattle.words.proofs.name.Statement.{statement}
 use Rattle.words.proofs.name.Tie as tie
@@ -21,7 +34,8 @@ pair-requires c κs = search needs
 
 -- src/lib.rt:203:9
 returns : tie.Need-returns
-returns c = ?
+unfolding nameOr
+returns c = taken _ _ (eq-eqb _ _ (ap length (sym (c .before .before .before .before .before .find .ensures)) ∙ c .before .before .before .before .if1 .taken)) (then (c .before .before .put .ensures) (c .pair .ensures))
 
 -- src/lib.rt:205:5
 put-requires-2 : tie.Need-put-requires-2
@@ -29,7 +43,8 @@ put-requires-2 c κs = search needs
 
 -- src/lib.rt:197:1
 returns-2 : tie.Need-returns-2
-returns-2 c = ?
+unfolding nameOr
+returns-2 c = left _ _ (ne-eqb _ _ (λ e. c .before .before .if1 .left (ap length (c .before .before .before .find .ensures) ∙ e))) (same (c .before .before .before .find .ensures) (c .put2 .ensures))
 
 pub name-spec : {M : Type 1} → statement M
 name-spec =

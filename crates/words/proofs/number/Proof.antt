@@ -1,3 +1,17 @@
+use Prim.Native.Nat.{ℕ, zero, suc, _+_, _-_, _*_, _/_, _%_, _≤_, _<_}
+use mathlib.Core.Path.{_≡_, refl, sym, ap, _∙_}
+use native.Mathlib.Omega.{arith}
+use borrow.Author.Needs.{needs}
+use Rattle.words.specs.Says.{Says, same, nothing, then, taken, left, copied}
+use Rattle.words.specs.Pieces.{partOf, numberText, dbm, sumText, deviceOf, deviceText, groupsText, uuidText, nameOr, part-in, part-out, decimal-held, told-cut, hex-turn, number-turn, kind-held, address-held, pair-held, level-held}
+use lib.ListN.{length, take, drop, length-drop, drop-of-length-le}
+use lib.Seq.{length-take-le, take-all, drop-length}
+use mathlib.Core.List.{List, [], _∷_, _++_}
+use Rattle.model.specs.Quoted.{codes}
+use borrow.Author.Tests.{eq-eqb, ne-eqb, lt-ltb, le-ltb, not-true, not-false}
+use Rattle.lines.specs.Hex.{hexOf}
+use Rattle.decimals.specs.Decimals.{decimal}
+use Rattle.texts.specs.Words.{levelText, kindText, addressText, pairOf}
 use Rattle.words.proofs.number.Statement.{statement}
 use Rattle.words.proofs.number.Tie as tie
 use Rattle.words.proofs.number.Reads as reads
@@ -6,42 +20,43 @@ use Rattle.words.proofs.pair.Reads as pair-reads
 use Rattle.words.proofs.put.Reads as put-reads
 
 abbrev Inv-loop : tie.InvT-loop
-Inv-loop out₀ at words s end₀ left₀ out end left = ?
+Inv-loop out₀ at words s end₀ left₀ out end left = (left ≤ length s) × Says out₀ end₀ (numberText (drop left s)) out end
 
 abbrev μ-loop : tie.MeasureT-loop
-μ-loop out₀ at words s end₀ left₀ out end left = ?
+μ-loop out₀ at words s end₀ left₀ out end left = left
 
 -- src/lib.rt:120:9
 put-requires : tie.Need-put-requires Inv-loop μ-loop
-put-requires c κs = ?
+put-requires c κs = search needs
 
 -- src/lib.rt:122:5
 loop-holds : tie.Need-loop-holds Inv-loop μ-loop
-loop-holds c = ?
+unfolding numberText
+loop-holds c = (omega arith, same (sym (ap numberText (drop-length (c .before .before .before .before .args .s .now)))) (nothing _ _))
 
 -- src/lib.rt:123:9
 sub-left : tie.Need-sub-left Inv-loop μ-loop
-sub-left c = ?
+sub-left c = search needs
 
 -- src/lib.rt:124:30
 shared-slice-read-pair : tie.Need-shared-slice-read-pair Inv-loop μ-loop
-shared-slice-read-pair c = ?
+shared-slice-read-pair c = search needs
 
 -- src/lib.rt:124:9
 pair-requires : tie.Need-pair-requires Inv-loop μ-loop
-pair-requires c κs = ?
+pair-requires c κs = search needs
 
 -- src/lib.rt:122:5
 loop-less : tie.Need-loop-less Inv-loop μ-loop
-loop-less c = ?
+loop-less c = search needs
 
 -- src/lib.rt:122:5
 loop-again : tie.Need-loop-again Inv-loop μ-loop
-loop-again c = ?
+loop-again c = (omega arith, number-turn (c .before .before .before .before .before .before .before .before .before .args .s .now) (c .before .before .before .before .loop .left - 1) (c .before .before .before .before .loop .left) (omega arith) (omega arith) (c .before .before .before .before .loop .inv .1) (c .pair .ensures))
 
 -- src/lib.rt:117:1
 returns : tie.Need-returns Inv-loop μ-loop
-returns c = ?
+returns c = let e : c .before .loop .left ≡ 0 = omega arith in then (c .before .before .put .ensures) (same (ap (λ (j : ℕ). numberText (drop j (c .before .before .before .before .before .before .args .s .now))) e) (c .before .loop .inv .1))
 
 pub number-spec : {M : Type 1} → statement M
 number-spec =

@@ -1,3 +1,16 @@
+use Prim.Native.Nat.{ℕ, zero, suc, _+_, _-_, _*_, _/_, _%_, _≤_, _<_}
+use mathlib.Core.Path.{_≡_, refl, sym, ap, _∙_}
+use native.Mathlib.Omega.{arith}
+use Rattle.words.specs.Says.{Says, same, nothing, then, taken, left, copied}
+use Rattle.words.specs.Pieces.{partOf, numberText, dbm, sumText, deviceOf, deviceText, groupsText, uuidText, nameOr, part-in, part-out, decimal-held, told-cut, hex-turn, number-turn, kind-held, address-held, pair-held, level-held}
+use lib.ListN.{length, take, drop, length-drop, drop-of-length-le}
+use lib.Seq.{length-take-le, take-all, drop-length}
+use mathlib.Core.List.{List, [], _∷_, _++_}
+use Rattle.model.specs.Quoted.{codes}
+use borrow.Author.Tests.{eq-eqb, ne-eqb, lt-ltb, le-ltb, not-true, not-false}
+use Rattle.lines.specs.Hex.{hexOf}
+use Rattle.decimals.specs.Decimals.{decimal}
+use Rattle.texts.specs.Words.{levelText, kindText, addressText, pairOf}
 use borrow.Author.Needs.{needs}
 use Rattle.words.proofs.part.Statement.{statement}
 use Rattle.words.proofs.part.Tie as tie
@@ -10,7 +23,7 @@ slice-aggregate-result c = search needs
 
 -- src/lib.rt:45:9
 returns : tie.Need-returns
-returns c = ?
+returns c = part-out (c .before .before .args .s .now) (c .before .before .args .from) (c .before .before .args .n) (omega arith)
 
 -- src/lib.rt:48:9
 slice-aggregate-result-2 : tie.Need-slice-aggregate-result-2
@@ -18,7 +31,7 @@ slice-aggregate-result-2 c = search needs
 
 -- src/lib.rt:48:9
 returns-2 : tie.Need-returns-2
-returns-2 c = ?
+returns-2 c = part-out (c .before .before .before .args .s .now) (c .before .before .before .args .from) (c .before .before .before .args .n) (omega arith)
 
 -- src/lib.rt:50:14
 add-result : tie.Need-add-result
@@ -38,7 +51,7 @@ part-result-end c = search needs
 
 -- src/lib.rt:40:1
 returns-3 : tie.Need-returns-3
-returns-3 c = ?
+returns-3 c = let e : c .before .before .before .args .from + c .before .before .before .args .n - c .before .before .before .args .from ≡ c .before .before .before .args .n = omega arith in ap (λ (j : ℕ). take j (drop (c .before .before .before .args .from) (c .before .before .before .args .s .now))) e ∙ part-in (c .before .before .before .args .s .now) (c .before .before .before .args .from) (c .before .before .before .args .n) (omega arith)
 
 pub part-spec : {M : Type 1} → statement M
 part-spec =

@@ -1,3 +1,16 @@
+use Prim.Native.Nat.{ℕ, zero, suc, _+_, _-_, _*_, _/_, _%_, _≤_, _<_}
+use mathlib.Core.Path.{_≡_, refl, sym, ap, _∙_}
+use native.Mathlib.Omega.{arith}
+use Rattle.words.specs.Says.{Says, same, nothing, then, taken, left, copied}
+use Rattle.words.specs.Pieces.{partOf, numberText, dbm, sumText, deviceOf, deviceText, groupsText, uuidText, nameOr, part-in, part-out, decimal-held, told-cut, hex-turn, number-turn, kind-held, address-held, pair-held, level-held}
+use lib.ListN.{length, take, drop, length-drop, drop-of-length-le}
+use lib.Seq.{length-take-le, take-all, drop-length}
+use mathlib.Core.List.{List, [], _∷_, _++_}
+use Rattle.model.specs.Quoted.{codes}
+use borrow.Author.Tests.{eq-eqb, ne-eqb, lt-ltb, le-ltb, not-true, not-false}
+use Rattle.lines.specs.Hex.{hexOf}
+use Rattle.decimals.specs.Decimals.{decimal}
+use Rattle.texts.specs.Words.{levelText, kindText, addressText, pairOf}
 use borrow.Author.Needs.{needs}
 use Rattle.words.proofs.put.Statement.{statement}
 use Rattle.words.proofs.put.Tie as tie
@@ -5,43 +18,33 @@ use Rattle.words.proofs.put.Reads as reads
 use Rattle.words.proofs.put.Lts as lts
 use Rattle.parts.proofs.copy.Reads as copy-reads
 use Rattle.words.proofs.least.Reads as least-reads
+use Rattle.words.proofs.left.Reads as left-reads
 
--- src/lib.rt:32:9
-returns : tie.Need-returns
-returns c = ?
+-- src/lib.rt:41:32
+left-requires : tie.Need-left-requires
+left-requires c κs = search needs
 
--- src/lib.rt:34:32
-sub-least : tie.Need-sub-least
-sub-least c = search needs
-
--- src/lib.rt:34:9
+-- src/lib.rt:41:9
 least-requires : tie.Need-least-requires
 least-requires c κs = search needs
 
--- src/lib.rt:35:26
+-- src/lib.rt:42:26
 slice-aggregate-copy : tie.Need-slice-aggregate-copy
-slice-aggregate-copy c = ?
+slice-aggregate-copy c = sym (length-take-le (c .before .before .least .result) (c .before .before .before .before .before .args .words .now) (omega (arith, c .before .before .least .ensures)))
 
--- src/lib.rt:35:5
+-- src/lib.rt:42:5
 copy-requires : tie.Need-copy-requires
 copy-requires c κs = search needs
 
--- src/lib.rt:36:5
+-- src/lib.rt:43:5
 add-result : tie.Need-add-result
 add-result c = search needs
 
--- src/lib.rt:28:1
-returns-2 : tie.Need-returns-2
-returns-2 c = ?
+-- src/lib.rt:38:1
+returns : tie.Need-returns
+returns c = let l : length (c .before .before .before .before .before .before .args .out .now) ≡ 8192 = search needs in copied (c .before .before .before .before .before .before .args .out .now) (c .before .before .before .before .before .before .args .at) (c .before .before .before .before .before .before .args .words .now) (c .before .before .before .least .result) (c .before .before .before .least .ensures ∙ ap (λ (j : ℕ). Prim.Native.Nat.min (length (c .before .before .before .before .before .before .args .words .now)) j) (c .before .before .before .before .left .ensures ∙ ap (λ (j : ℕ). j - c .before .before .before .before .before .before .args .at) (sym l))) (c .copy .ensures .0) (c .copy .ensures .1)
 
 pub put-spec : {M : Type 1} → statement M
 put-spec =
     tie.close
-    (tie.spec
-    returns
-    sub-least
-    least-requires
-    slice-aggregate-copy
-    copy-requires
-    add-result
-    returns-2)
+    (tie.spec left-requires least-requires slice-aggregate-copy copy-requires add-result returns)

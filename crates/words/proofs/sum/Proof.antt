@@ -1,3 +1,16 @@
+use Prim.Native.Nat.{ℕ, zero, suc, _+_, _-_, _*_, _/_, _%_, _≤_, _<_}
+use mathlib.Core.Path.{_≡_, refl, sym, ap, _∙_}
+use native.Mathlib.Omega.{arith}
+use Rattle.words.specs.Says.{Says, same, nothing, then, taken, left, copied}
+use Rattle.words.specs.Pieces.{partOf, numberText, dbm, sumText, deviceOf, deviceText, groupsText, uuidText, nameOr, part-in, part-out, decimal-held, told-cut, hex-turn, number-turn, kind-held, address-held, pair-held, level-held}
+use lib.ListN.{length, take, drop, length-drop, drop-of-length-le}
+use lib.Seq.{length-take-le, take-all, drop-length}
+use mathlib.Core.List.{List, [], _∷_, _++_}
+use Rattle.model.specs.Quoted.{codes}
+use borrow.Author.Tests.{eq-eqb, ne-eqb, lt-ltb, le-ltb, not-true, not-false}
+use Rattle.lines.specs.Hex.{hexOf}
+use Rattle.decimals.specs.Decimals.{decimal}
+use Rattle.texts.specs.Words.{levelText, kindText, addressText, pairOf}
 use borrow.Author.Needs.{needs}
 use Rattle.words.proofs.sum.Statement.{statement}
 use Rattle.words.proofs.sum.Tie as tie
@@ -20,7 +33,8 @@ said-requires c κs = search needs
 
 -- src/lib.rt:145:9
 returns : tie.Need-returns
-returns c = ?
+unfolding sumText codes
+returns c = then (c .before .before .before .before .put .ensures) (taken _ _ (lt-ltb _ _ (c .before .before .before .if1 .taken)) (c .said .ensures))
 
 -- src/lib.rt:147:18
 slice-aggregate-said-2 : tie.Need-slice-aggregate-said-2
@@ -40,7 +54,8 @@ said-requires-2 c κs = search needs
 
 -- src/lib.rt:140:1
 returns-2 : tie.Need-returns-2
-returns-2 c = ?
+unfolding sumText codes
+returns-2 c = let e : 18446744073709551615 - c .before .before .before .before .before .before .before .args .v + 1 ≡ 18446744073709551616 - c .before .before .before .before .before .before .before .args .v = omega arith in then (c .before .before .before .before .put .ensures) (left _ _ (le-ltb _ _ (c .before .before .before .if1 .left)) (rw e at (c .said2 .ensures)))
 
 pub sum-spec : {M : Type 1} → statement M
 sum-spec =

@@ -1,3 +1,16 @@
+use Prim.Native.Nat.{ℕ, zero, suc, _+_, _-_, _*_, _/_, _%_, _≤_, _<_}
+use mathlib.Core.Path.{_≡_, refl, sym, ap, _∙_}
+use native.Mathlib.Omega.{arith}
+use Rattle.words.specs.Says.{Says, same, nothing, then, taken, left, copied}
+use Rattle.words.specs.Pieces.{partOf, numberText, dbm, sumText, deviceOf, deviceText, groupsText, uuidText, nameOr, part-in, part-out, decimal-held, told-cut, hex-turn, number-turn, kind-held, address-held, pair-held, level-held}
+use lib.ListN.{length, take, drop, length-drop, drop-of-length-le}
+use lib.Seq.{length-take-le, take-all, drop-length}
+use mathlib.Core.List.{List, [], _∷_, _++_}
+use Rattle.model.specs.Quoted.{codes}
+use borrow.Author.Tests.{eq-eqb, ne-eqb, lt-ltb, le-ltb, not-true, not-false}
+use Rattle.lines.specs.Hex.{hexOf}
+use Rattle.decimals.specs.Decimals.{decimal}
+use Rattle.texts.specs.Words.{levelText, kindText, addressText, pairOf}
 use borrow.Author.Needs.{needs}
 use Rattle.words.proofs.text.Statement.{statement}
 use Rattle.words.proofs.text.Tie as tie
@@ -12,11 +25,11 @@ least-requires c κs = search needs
 
 -- src/lib.rt:70:18
 array-share-prefix-octets : tie.Need-array-share-prefix-octets
-array-share-prefix-octets c = ?
+array-share-prefix-octets c = let l : length (c .before .before .before .args .t .octets) ≡ 256 = search needs in omega (arith, l, c .before .least .ensures)
 
 -- src/lib.rt:70:18
 slice-aggregate-put : tie.Need-slice-aggregate-put
-slice-aggregate-put c = ?
+slice-aggregate-put c = let l : length (c .before .before .before .before .args .t .octets) ≡ 256 = search needs in sym (length-take-le (c .before .before .least .result) (c .before .before .before .before .args .t .octets) (omega (arith, l, c .before .before .least .ensures)))
 
 -- src/lib.rt:70:5
 put-requires : tie.Need-put-requires
@@ -24,7 +37,8 @@ put-requires c κs = search needs
 
 -- src/lib.rt:65:1
 returns : tie.Need-returns
-returns c = ?
+unfolding Rattle.texts.specs.Text.told
+returns c = let l : length (c .before .before .before .before .before .args .t .octets) ≡ 256 = search needs in same (told-cut (c .before .before .before .before .before .args .t .octets) (c .before .before .before .before .before .args .t .count) (c .before .before .before .least .result) l (c .before .before .before .least .ensures)) (c .put .ensures)
 
 pub text-spec : {M : Type 1} → statement M
 text-spec =
