@@ -18,7 +18,8 @@ pub const ROOM: usize = 8192;
 // The number that begins the negative ones of 8 octets.
 const NEGATIVE: u64 = 9223372036854775808;
 
-fn least(a: usize, b: usize) -> usize
+// The lesser of two numbers.
+pub fn least(a: usize, b: usize) -> usize
     ensures { λ r. ⌜ r ≡ min a b ⌝ }
 {
     if a < b { a } else { b }

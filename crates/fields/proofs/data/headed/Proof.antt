@@ -1,0 +1,74 @@
+use Prim.Native.Nat.{ℕ, zero, suc, _+_, _-_, _*_, _/_, _%_, _≤_, _<_}
+use mathlib.Core.Path.{_≡_, refl, sym, ap, _∙_}
+use native.Mathlib.Omega.{arith}
+use Rattle.words.specs.Says.{Says, same, nothing, then, taken, left}
+use Rattle.words.specs.Pieces.{partOf, numberText, deviceText, uuidText, name-rows}
+use Rattle.names.specs.Names.{tableOf, looked-up}
+use Rattle.names.specs.Refusals.{refusalRows, refusalName}
+use Rattle.fields.specs.Names.{adRows, adText, eventRows, eventText, statusRows, statusText, subRows, subText, whyRows, whyText, switchText, changeWord, prefixText}
+use Rattle.fields.specs.Cuts.{Left, left-turn, left-end}
+use Rattle.fields.specs.Data.{sizeOf, isWhole, isPlain, characterText, charactersText, quotedText, uuidSize, uuidIn, uuidsText, plainText, headedText, specialText, valueText, structureText, structuresText}
+use Rattle.fields.specs.Monitors.{patternText, patternsText, unknownText, isUuid, singleText, conditionText, samplingText, limitsText, bitText, reservedText, optionsText, filteringText, peerOf, peerText}
+use Rattle.fields.specs.Turns.{size-at, characters-end, characters-next, structures-end, structures-next, patterns-end, patterns-next, uuids-end, uuids-next}
+use lib.ListN.{length, take, drop}
+use mathlib.Core.List.{List, [], _∷_, _++_}
+use Rattle.model.specs.Quoted.{codes}
+use borrow.Author.Tests.{eq-eqb, ne-eqb, lt-ltb, le-ltb, le-leb, lt-leb}
+use Rattle.laws.specs.Tests.{pick, pick-true, pick-false}
+use Rattle.octets.specs.Numbers.{numberAt}
+use borrow.Author.Needs.{needs}
+use Rattle.fields.proofs.data.headed.Statement.{statement}
+use Rattle.fields.proofs.data.headed.Tie as tie
+use Rattle.fields.proofs.data.headed.Reads as reads
+use Rattle.fields.proofs.data.headed.Lts as lts
+use Rattle.fields.proofs.data.plain.Reads as plain-reads
+use Rattle.words.proofs.behind.Reads as behind-reads
+use Rattle.words.proofs.part.Reads as part-reads
+use Rattle.words.proofs.uuid.Reads as uuid-reads
+
+-- src/data.rt:153:9
+plain-requires : tie.Need-plain-requires
+plain-requires c κs = search needs
+
+-- src/data.rt:153:9
+returns : tie.Need-returns
+unfolding headedText
+returns c = taken _ _ (lt-ltb _ _ (c .before .before .if1 .taken)) (c .plain .ensures)
+
+-- src/data.rt:155:34
+slice-aggregate-uuid : tie.Need-slice-aggregate-uuid
+slice-aggregate-uuid c = search needs
+
+-- src/data.rt:155:40
+part-requires : tie.Need-part-requires
+part-requires c κs = search needs
+
+-- src/data.rt:155:9
+uuid-requires : tie.Need-uuid-requires
+uuid-requires c κs = search needs
+
+-- src/data.rt:156:19
+behind-requires : tie.Need-behind-requires
+behind-requires c κs = search needs
+
+-- src/data.rt:156:5
+plain-requires-2 : tie.Need-plain-requires-2
+plain-requires-2 c κs = search needs
+
+-- src/data.rt:149:1
+returns-2 : tie.Need-returns-2
+unfolding headedText codes
+returns-2 c = left _ _ (le-ltb _ _ (c .before .before .before .before .before .before .before .if1 .left)) (then (rw (c .before .before .before .before .part .ensures) at (c .before .before .before .uuid .ensures)) (rw (c .before .behind .ensures) at (c .plain2 .ensures)))
+
+pub headed-spec : {M : Type 1} → statement M
+headed-spec =
+    tie.close
+    (tie.spec
+    plain-requires
+    returns
+    slice-aggregate-uuid
+    part-requires
+    uuid-requires
+    behind-requires
+    plain-requires-2
+    returns-2)

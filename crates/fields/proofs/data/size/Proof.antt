@@ -1,0 +1,60 @@
+use Prim.Native.Nat.{ℕ, zero, suc, _+_, _-_, _*_, _/_, _%_, _≤_, _<_}
+use mathlib.Core.Path.{_≡_, refl, sym, ap, _∙_}
+use native.Mathlib.Omega.{arith}
+use Rattle.words.specs.Says.{Says, same, nothing, then, taken, left}
+use Rattle.words.specs.Pieces.{partOf, numberText, deviceText, uuidText, name-rows}
+use Rattle.names.specs.Names.{tableOf, looked-up}
+use Rattle.names.specs.Refusals.{refusalRows, refusalName}
+use Rattle.fields.specs.Names.{adRows, adText, eventRows, eventText, statusRows, statusText, subRows, subText, whyRows, whyText, switchText, changeWord, prefixText}
+use Rattle.fields.specs.Cuts.{Left, left-turn, left-end}
+use Rattle.fields.specs.Data.{sizeOf, isWhole, isPlain, characterText, charactersText, quotedText, uuidSize, uuidIn, uuidsText, plainText, headedText, specialText, valueText, structureText, structuresText}
+use Rattle.fields.specs.Monitors.{patternText, patternsText, unknownText, isUuid, singleText, conditionText, samplingText, limitsText, bitText, reservedText, optionsText, filteringText, peerOf, peerText}
+use Rattle.fields.specs.Turns.{size-at, characters-end, characters-next, structures-end, structures-next, patterns-end, patterns-next, uuids-end, uuids-next}
+use lib.ListN.{length, take, drop}
+use mathlib.Core.List.{List, [], _∷_, _++_}
+use Rattle.model.specs.Quoted.{codes}
+use borrow.Author.Tests.{eq-eqb, ne-eqb, lt-ltb, le-ltb, le-leb, lt-leb}
+use Rattle.laws.specs.Tests.{pick, pick-true, pick-false}
+use Rattle.octets.specs.Numbers.{numberAt}
+use borrow.Author.Needs.{needs}
+use Rattle.fields.proofs.data.size.Statement.{statement}
+use Rattle.fields.proofs.data.size.Tie as tie
+use Rattle.fields.proofs.data.size.Reads as reads
+use Rattle.fields.proofs.data.size.Lts as lts
+use Rattle.octets.proofs.wide.Reads as wide-reads
+
+-- src/data.rt:40:16
+sub-left : tie.Need-sub-left
+sub-left c = search needs
+
+-- src/data.rt:41:26
+shared-slice-read-wide : tie.Need-shared-slice-read-wide
+shared-slice-read-wide c = search needs
+
+-- src/data.rt:41:9
+wide-requires : tie.Need-wide-requires
+wide-requires c κs = search needs
+
+-- src/data.rt:43:9
+returns : tie.Need-returns
+unfolding Rattle.laws.specs.Tests.pick
+returns c = let z = size-at (c .before .before .before .before .args .s .now) (c .before .before .before .before .args .at) (c .before .before .before .before .pre) in let k = c .before .wide .ensures .0 in (sym (z ∙ rw (sym k, eq-eqb _ _ (c .if1 .taken))), omega arith, omega arith)
+
+-- src/data.rt:46:9
+returns-2 : tie.Need-returns-2
+unfolding Rattle.laws.specs.Tests.pick
+returns-2 c = let z = size-at (c .before .before .before .before .before .args .s .now) (c .before .before .before .before .before .args .at) (c .before .before .before .before .before .pre) in let k = c .before .before .wide .ensures .0 in (sym (z ∙ rw (sym k, ne-eqb _ _ (c .before .if1 .left), le-leb _ _ (c .if2 .taken))), omega arith, omega arith)
+
+-- src/data.rt:48:5
+add-result : tie.Need-add-result
+add-result c = search needs
+
+-- src/data.rt:36:1
+returns-3 : tie.Need-returns-3
+unfolding Rattle.laws.specs.Tests.pick
+returns-3 c = let z = size-at (c .before .before .before .before .before .args .s .now) (c .before .before .before .before .before .args .at) (c .before .before .before .before .before .pre) in let k = c .before .before .wide .ensures .0 in (sym (z ∙ rw (sym k, ne-eqb _ _ (c .before .if1 .left), lt-leb _ _ (c .if2 .left))), omega arith, omega arith)
+
+pub size-spec : {M : Type 1} → statement M
+size-spec =
+    tie.close
+    (tie.spec sub-left shared-slice-read-wide wide-requires returns returns-2 add-result returns-3)

@@ -1,0 +1,81 @@
+use Prim.Native.Nat.{ℕ, zero, suc, _+_, _-_, _*_, _/_, _%_, _≤_, _<_}
+use mathlib.Core.Path.{_≡_, refl, sym, ap, _∙_}
+use native.Mathlib.Omega.{arith}
+use Rattle.words.specs.Says.{Says, same, nothing, then, taken, left}
+use Rattle.words.specs.Pieces.{partOf, numberText, deviceText, uuidText, name-rows}
+use Rattle.names.specs.Names.{tableOf, looked-up}
+use Rattle.names.specs.Refusals.{refusalRows, refusalName}
+use Rattle.fields.specs.Names.{adRows, adText, eventRows, eventText, statusRows, statusText, subRows, subText, whyRows, whyText, switchText, changeWord, prefixText}
+use Rattle.fields.specs.Cuts.{Left, left-turn, left-end}
+use Rattle.fields.specs.Data.{sizeOf, isWhole, isPlain, characterText, charactersText, quotedText, uuidSize, uuidIn, uuidsText, plainText, headedText, specialText, valueText, structureText, structuresText}
+use Rattle.fields.specs.Monitors.{patternText, patternsText, unknownText, isUuid, singleText, conditionText, samplingText, limitsText, bitText, reservedText, optionsText, filteringText, peerOf, peerText}
+use Rattle.fields.specs.Turns.{size-at, characters-end, characters-next, structures-end, structures-next, patterns-end, patterns-next, uuids-end, uuids-next}
+use lib.ListN.{length, take, drop}
+use mathlib.Core.List.{List, [], _∷_, _++_}
+use Rattle.model.specs.Quoted.{codes}
+use borrow.Author.Tests.{eq-eqb, ne-eqb, lt-ltb, le-ltb, le-leb, lt-leb}
+use Rattle.laws.specs.Tests.{pick, pick-true, pick-false}
+use Rattle.octets.specs.Numbers.{numberAt}
+use borrow.Author.Needs.{needs}
+use Rattle.fields.proofs.data.special.Statement.{statement}
+use Rattle.fields.proofs.data.special.Tie as tie
+use Rattle.fields.proofs.data.special.Reads as reads
+use Rattle.fields.proofs.data.special.Lts as lts
+use Rattle.fields.proofs.data.headed.Reads as headed-reads
+use Rattle.fields.proofs.data.plain.Reads as plain-reads
+use Rattle.fields.proofs.data.uuid_size.Reads as uuid-size-reads
+use Rattle.fields.proofs.data.uuids.Reads as uuids-reads
+
+-- src/data.rt:163:9
+uuid-size-requires : tie.Need-uuid-size-requires
+uuid-size-requires c κs = search needs
+
+-- src/data.rt:165:9
+headed-requires : tie.Need-headed-requires
+headed-requires c κs = search needs
+
+-- src/data.rt:165:9
+returns : tie.Need-returns
+unfolding specialText
+returns c = taken _ _ (eq-eqb _ _ (c .before .before .if1 .taken)) (c .headed .ensures)
+
+-- src/data.rt:168:9
+headed-requires-2 : tie.Need-headed-requires-2
+headed-requires-2 c κs = search needs
+
+-- src/data.rt:168:9
+returns-2 : tie.Need-returns-2
+unfolding specialText
+returns-2 c = left _ _ (ne-eqb _ _ (c .before .before .before .if1 .left)) (taken _ _ (c .before .before .if2 .taken) (rw (c .before .before .before .before .uuid-size .ensures) at (c .headed2 .ensures)))
+
+-- src/data.rt:171:9
+plain-requires : tie.Need-plain-requires
+plain-requires c κs = search needs
+
+-- src/data.rt:171:9
+returns-3 : tie.Need-returns-3
+unfolding specialText
+returns-3 c = left _ _ (ne-eqb _ _ (c .before .before .before .before .if1 .left)) (left _ _ (c .before .before .before .if2 .left) (taken _ _ (eq-eqb _ _ (sym (c .before .before .before .before .before .uuid-size .ensures) ∙ c .before .before .if3 .taken)) (c .plain .ensures)))
+
+-- src/data.rt:173:5
+uuids-requires : tie.Need-uuids-requires
+uuids-requires c κs = search needs
+
+-- src/data.rt:160:1
+returns-4 : tie.Need-returns-4
+unfolding specialText
+returns-4 c = left _ _ (ne-eqb _ _ (c .before .before .before .before .if1 .left)) (left _ _ (c .before .before .before .if2 .left) (left _ _ (ne-eqb _ _ (λ e. c .before .before .if3 .left (c .before .before .before .before .before .uuid-size .ensures ∙ e))) (rw (c .before .before .before .before .before .uuid-size .ensures) at (c .uuids .ensures))))
+
+pub special-spec : {M : Type 1} → statement M
+special-spec =
+    tie.close
+    (tie.spec
+    uuid-size-requires
+    headed-requires
+    returns
+    headed-requires-2
+    returns-2
+    plain-requires
+    returns-3
+    uuids-requires
+    returns-4)

@@ -1,0 +1,69 @@
+use Prim.Native.Nat.{ℕ, zero, suc, _+_, _-_, _*_, _/_, _%_, _≤_, _<_}
+use mathlib.Core.Path.{_≡_, refl, sym, ap, _∙_}
+use native.Mathlib.Omega.{arith}
+use Rattle.words.specs.Says.{Says, same, nothing, then, taken, left}
+use Rattle.words.specs.Pieces.{partOf, numberText, deviceText, uuidText, name-rows}
+use Rattle.names.specs.Names.{tableOf, looked-up}
+use Rattle.names.specs.Refusals.{refusalRows, refusalName}
+use Rattle.fields.specs.Names.{adRows, adText, eventRows, eventText, statusRows, statusText, subRows, subText, whyRows, whyText, switchText, changeWord, prefixText}
+use Rattle.fields.specs.Cuts.{Left, left-turn, left-end}
+use Rattle.fields.specs.Data.{sizeOf, isWhole, isPlain, characterText, charactersText, quotedText, uuidSize, uuidIn, uuidsText, plainText, headedText, specialText, valueText, structureText, structuresText}
+use Rattle.fields.specs.Monitors.{patternText, patternsText, unknownText, isUuid, singleText, conditionText, samplingText, limitsText, bitText, reservedText, optionsText, filteringText, peerOf, peerText}
+use Rattle.fields.specs.Turns.{size-at, characters-end, characters-next, structures-end, structures-next, patterns-end, patterns-next, uuids-end, uuids-next}
+use lib.ListN.{length, take, drop}
+use mathlib.Core.List.{List, [], _∷_, _++_}
+use Rattle.model.specs.Quoted.{codes}
+use borrow.Author.Tests.{eq-eqb, ne-eqb, lt-ltb, le-ltb, le-leb, lt-leb}
+use Rattle.laws.specs.Tests.{pick, pick-true, pick-false}
+use Rattle.octets.specs.Numbers.{numberAt}
+use borrow.Author.Needs.{needs}
+use Rattle.fields.proofs.data.value.Statement.{statement}
+use Rattle.fields.proofs.data.value.Tie as tie
+use Rattle.fields.proofs.data.value.Reads as reads
+use Rattle.fields.proofs.data.value.Lts as lts
+use Rattle.fields.proofs.data.quoted.Reads as quoted-reads
+use Rattle.fields.proofs.data.special.Reads as special-reads
+use Rattle.words.proofs.level.Reads as level-reads
+
+-- src/data.rt:181:9
+quoted-requires : tie.Need-quoted-requires
+quoted-requires c κs = search needs
+
+-- src/data.rt:181:9
+returns : tie.Need-returns
+unfolding valueText
+returns c = taken _ _ (c .before .before .if1 .taken) (c .quoted .ensures)
+
+-- src/data.rt:184:38
+slice-aggregate-level : tie.Need-slice-aggregate-level
+slice-aggregate-level c = search needs
+
+-- src/data.rt:184:9
+level-requires : tie.Need-level-requires
+level-requires c κs = search needs
+
+-- src/data.rt:184:9
+returns-2 : tie.Need-returns-2
+unfolding valueText codes
+returns-2 c = left _ _ (c .before .before .before .before .if1 .left) (taken _ _ (c .before .before .before .if2 .taken) (c .level .ensures))
+
+-- src/data.rt:186:5
+special-requires : tie.Need-special-requires
+special-requires c κs = search needs
+
+-- src/data.rt:177:1
+returns-3 : tie.Need-returns-3
+unfolding valueText
+returns-3 c = left _ _ (c .before .before .before .if1 .left) (left _ _ (c .before .before .if2 .left) (c .special .ensures))
+
+pub value-spec : {M : Type 1} → statement M
+value-spec =
+    tie.close
+    (tie.spec
+    quoted-requires
+    returns
+    slice-aggregate-level
+    level-requires
+    returns-2
+    special-requires
+    returns-3)

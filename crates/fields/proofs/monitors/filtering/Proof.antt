@@ -1,0 +1,103 @@
+use Prim.Native.Nat.{ℕ, zero, suc, _+_, _-_, _*_, _/_, _%_, _≤_, _<_}
+use mathlib.Core.Path.{_≡_, refl, sym, ap, _∙_}
+use native.Mathlib.Omega.{arith}
+use Rattle.words.specs.Says.{Says, same, nothing, then, taken, left}
+use Rattle.words.specs.Pieces.{partOf, numberText, deviceText, uuidText, name-rows}
+use Rattle.names.specs.Names.{tableOf, looked-up}
+use Rattle.names.specs.Refusals.{refusalRows, refusalName}
+use Rattle.fields.specs.Names.{adRows, adText, eventRows, eventText, statusRows, statusText, subRows, subText, whyRows, whyText, switchText, changeWord, prefixText}
+use Rattle.fields.specs.Cuts.{Left, left-turn, left-end}
+use Rattle.fields.specs.Data.{sizeOf, isWhole, isPlain, characterText, charactersText, quotedText, uuidSize, uuidIn, uuidsText, plainText, headedText, specialText, valueText, structureText, structuresText}
+use Rattle.fields.specs.Monitors.{patternText, patternsText, unknownText, isUuid, singleText, conditionText, samplingText, limitsText, bitText, reservedText, optionsText, filteringText, peerOf, peerText}
+use Rattle.fields.specs.Turns.{size-at, characters-end, characters-next, structures-end, structures-next, patterns-end, patterns-next, uuids-end, uuids-next}
+use lib.ListN.{length, take, drop}
+use mathlib.Core.List.{List, [], _∷_, _++_}
+use Rattle.model.specs.Quoted.{codes}
+use borrow.Author.Tests.{eq-eqb, ne-eqb, lt-ltb, le-ltb, le-leb, lt-leb}
+use Rattle.laws.specs.Tests.{pick, pick-true, pick-false}
+use Rattle.octets.specs.Numbers.{numberAt}
+use borrow.Author.Needs.{needs}
+use Rattle.fields.proofs.monitors.filtering.Statement.{statement}
+use Rattle.fields.proofs.monitors.filtering.Tie as tie
+use Rattle.fields.proofs.monitors.filtering.Reads as reads
+use Rattle.fields.proofs.monitors.filtering.Lts as lts
+use Rattle.fields.proofs.monitors.bit.Reads as bit-reads
+use Rattle.fields.proofs.monitors.reserved.Reads as reserved-reads
+use Rattle.words.proofs.put.Reads as put-reads
+
+-- src/monitors.rt:175:36
+slice-aggregate-put : tie.Need-slice-aggregate-put
+slice-aggregate-put c = search needs
+
+-- src/monitors.rt:175:9
+put-requires : tie.Need-put-requires
+put-requires c κs = search needs
+
+-- src/monitors.rt:175:9
+returns : tie.Need-returns
+unfolding filteringText codes
+returns c = taken _ _ (eq-eqb _ _ (c .before .before .before .if1 .taken)) (c .put .ensures)
+
+-- src/monitors.rt:177:32
+slice-aggregate-bit : tie.Need-slice-aggregate-bit
+slice-aggregate-bit c = search needs
+
+-- src/monitors.rt:177:9
+bit-requires : tie.Need-bit-requires
+bit-requires c κs = search needs
+
+-- src/monitors.rt:178:31
+slice-aggregate-bit-2 : tie.Need-slice-aggregate-bit-2
+slice-aggregate-bit-2 c = search needs
+
+-- src/monitors.rt:178:9
+bit-requires-2 : tie.Need-bit-requires-2
+bit-requires-2 c κs = search needs
+
+-- src/monitors.rt:179:31
+slice-aggregate-bit-3 : tie.Need-slice-aggregate-bit-3
+slice-aggregate-bit-3 c = search needs
+
+-- src/monitors.rt:179:9
+bit-requires-3 : tie.Need-bit-requires-3
+bit-requires-3 c κs = search needs
+
+-- src/monitors.rt:180:31
+slice-aggregate-bit-4 : tie.Need-slice-aggregate-bit-4
+slice-aggregate-bit-4 c = search needs
+
+-- src/monitors.rt:180:9
+bit-requires-4 : tie.Need-bit-requires-4
+bit-requires-4 c κs = search needs
+
+-- src/monitors.rt:181:22
+mul-reserved : tie.Need-mul-reserved
+mul-reserved c = search needs
+
+-- src/monitors.rt:181:5
+reserved-requires : tie.Need-reserved-requires
+reserved-requires c κs = search needs
+
+-- src/monitors.rt:171:1
+returns-2 : tie.Need-returns-2
+unfolding filteringText codes
+returns-2 c = left _ _ (ne-eqb _ _ (c .before .before .before .before .before .before .before .before .before .before .before .before .before .before .if1 .left)) (then (then (then (then (c .before .before .before .before .before .before .before .before .before .before .before .bit .ensures) (c .before .before .before .before .before .before .before .before .bit2 .ensures)) (c .before .before .before .before .before .bit3 .ensures)) (c .before .before .bit4 .ensures)) (c .reserved .ensures))
+
+pub filtering-spec : {M : Type 1} → statement M
+filtering-spec =
+    tie.close
+    (tie.spec
+    slice-aggregate-put
+    put-requires
+    returns
+    slice-aggregate-bit
+    bit-requires
+    slice-aggregate-bit-2
+    bit-requires-2
+    slice-aggregate-bit-3
+    bit-requires-3
+    slice-aggregate-bit-4
+    bit-requires-4
+    mul-reserved
+    reserved-requires
+    returns-2)

@@ -1,0 +1,89 @@
+use Prim.Native.Nat.{ℕ, zero, suc, _+_, _-_, _*_, _/_, _%_, _≤_, _<_}
+use mathlib.Core.Path.{_≡_, refl, sym, ap, _∙_}
+use native.Mathlib.Omega.{arith}
+use Rattle.words.specs.Says.{Says, same, nothing, then, taken, left}
+use Rattle.words.specs.Pieces.{partOf, numberText, deviceText, uuidText, name-rows}
+use Rattle.names.specs.Names.{tableOf, looked-up}
+use Rattle.names.specs.Refusals.{refusalRows, refusalName}
+use Rattle.fields.specs.Names.{adRows, adText, eventRows, eventText, statusRows, statusText, subRows, subText, whyRows, whyText, switchText, changeWord, prefixText}
+use Rattle.fields.specs.Cuts.{Left, left-turn, left-end}
+use Rattle.fields.specs.Data.{sizeOf, isWhole, isPlain, characterText, charactersText, quotedText, uuidSize, uuidIn, uuidsText, plainText, headedText, specialText, valueText, structureText, structuresText}
+use Rattle.fields.specs.Monitors.{patternText, patternsText, unknownText, isUuid, singleText, conditionText, samplingText, limitsText, bitText, reservedText, optionsText, filteringText, peerOf, peerText}
+use Rattle.fields.specs.Turns.{size-at, characters-end, characters-next, structures-end, structures-next, patterns-end, patterns-next, uuids-end, uuids-next}
+use lib.ListN.{length, take, drop}
+use mathlib.Core.List.{List, [], _∷_, _++_}
+use Rattle.model.specs.Quoted.{codes}
+use borrow.Author.Tests.{eq-eqb, ne-eqb, lt-ltb, le-ltb, le-leb, lt-leb}
+use Rattle.laws.specs.Tests.{pick, pick-true, pick-false}
+use Rattle.octets.specs.Numbers.{numberAt}
+use borrow.Author.Needs.{needs}
+use Rattle.fields.proofs.monitors.limits.Statement.{statement}
+use Rattle.fields.proofs.monitors.limits.Tie as tie
+use Rattle.fields.proofs.monitors.limits.Reads as reads
+use Rattle.fields.proofs.monitors.limits.Lts as lts
+use Rattle.fields.proofs.monitors.sampling.Reads as sampling-reads
+use Rattle.octets.proofs.get8.Reads as get8-reads
+use Rattle.words.proofs.level.Reads as level-reads
+use Rattle.words.proofs.octet.Reads as octet-reads
+use Rattle.words.proofs.put.Reads as put-reads
+
+-- src/monitors.rt:125:35
+slice-aggregate-level : tie.Need-slice-aggregate-level
+slice-aggregate-level c = search needs
+
+-- src/monitors.rt:125:9
+level-requires : tie.Need-level-requires
+level-requires c κs = search needs
+
+-- src/monitors.rt:126:34
+slice-aggregate-level-2 : tie.Need-slice-aggregate-level-2
+slice-aggregate-level-2 c = search needs
+
+-- src/monitors.rt:126:9
+level-requires-2 : tie.Need-level-requires-2
+level-requires-2 c κs = search needs
+
+-- src/monitors.rt:127:34
+slice-aggregate-octet : tie.Need-slice-aggregate-octet
+slice-aggregate-octet c = search needs
+
+-- src/monitors.rt:127:9
+octet-requires : tie.Need-octet-requires
+octet-requires c κs = search needs
+
+-- src/monitors.rt:128:32
+slice-aggregate-put : tie.Need-slice-aggregate-put
+slice-aggregate-put c = search needs
+
+-- src/monitors.rt:128:9
+put-requires : tie.Need-put-requires
+put-requires c κs = search needs
+
+-- src/monitors.rt:129:22
+get8-requires : tie.Need-get8-requires
+get8-requires c κs = search needs
+
+-- src/monitors.rt:129:5
+sampling-requires : tie.Need-sampling-requires
+sampling-requires c κs = search needs
+
+-- src/monitors.rt:122:1
+returns : tie.Need-returns
+unfolding limitsText codes
+returns c = then (then (then (then (c .before .before .before .before .before .before .before .before .before .before .before .before .level .ensures) (c .before .before .before .before .before .before .before .before .before .level2 .ensures)) (c .before .before .before .before .before .before .octet .ensures)) (c .before .before .before .put .ensures)) (rw (c .before .get8 .ensures) at (c .sampling .ensures))
+
+pub limits-spec : {M : Type 1} → statement M
+limits-spec =
+    tie.close
+    (tie.spec
+    slice-aggregate-level
+    level-requires
+    slice-aggregate-level-2
+    level-requires-2
+    slice-aggregate-octet
+    octet-requires
+    slice-aggregate-put
+    put-requires
+    get8-requires
+    sampling-requires
+    returns)

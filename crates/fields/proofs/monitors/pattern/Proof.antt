@@ -1,0 +1,107 @@
+use Prim.Native.Nat.{ℕ, zero, suc, _+_, _-_, _*_, _/_, _%_, _≤_, _<_}
+use mathlib.Core.Path.{_≡_, refl, sym, ap, _∙_}
+use native.Mathlib.Omega.{arith}
+use Rattle.words.specs.Says.{Says, same, nothing, then, taken, left}
+use Rattle.words.specs.Pieces.{partOf, numberText, deviceText, uuidText, name-rows}
+use Rattle.names.specs.Names.{tableOf, looked-up}
+use Rattle.names.specs.Refusals.{refusalRows, refusalName}
+use Rattle.fields.specs.Names.{adRows, adText, eventRows, eventText, statusRows, statusText, subRows, subText, whyRows, whyText, switchText, changeWord, prefixText}
+use Rattle.fields.specs.Cuts.{Left, left-turn, left-end}
+use Rattle.fields.specs.Data.{sizeOf, isWhole, isPlain, characterText, charactersText, quotedText, uuidSize, uuidIn, uuidsText, plainText, headedText, specialText, valueText, structureText, structuresText}
+use Rattle.fields.specs.Monitors.{patternText, patternsText, unknownText, isUuid, singleText, conditionText, samplingText, limitsText, bitText, reservedText, optionsText, filteringText, peerOf, peerText}
+use Rattle.fields.specs.Turns.{size-at, characters-end, characters-next, structures-end, structures-next, patterns-end, patterns-next, uuids-end, uuids-next}
+use lib.ListN.{length, take, drop}
+use mathlib.Core.List.{List, [], _∷_, _++_}
+use Rattle.model.specs.Quoted.{codes}
+use borrow.Author.Tests.{eq-eqb, ne-eqb, lt-ltb, le-ltb, le-leb, lt-leb}
+use Rattle.laws.specs.Tests.{pick, pick-true, pick-false}
+use Rattle.octets.specs.Numbers.{numberAt}
+use borrow.Author.Needs.{needs}
+use Rattle.fields.proofs.monitors.pattern.Statement.{statement}
+use Rattle.fields.proofs.monitors.pattern.Tie as tie
+use Rattle.fields.proofs.monitors.pattern.Reads as reads
+use Rattle.fields.proofs.monitors.pattern.Lts as lts
+use Rattle.fields.proofs.data.is_whole.Reads as is-whole-reads
+use Rattle.fields.proofs.terms.ad.Reads as ad-reads
+use Rattle.octets.proofs.get8.Reads as get8-reads
+use Rattle.words.proofs.behind.Reads as behind-reads
+use Rattle.words.proofs.hex.Reads as hex-reads
+use Rattle.words.proofs.octet.Reads as octet-reads
+use Rattle.words.proofs.put.Reads as put-reads
+
+-- src/monitors.rt:36:8
+is-whole-requires : tie.Need-is-whole-requires
+is-whole-requires c κs = search needs
+
+-- src/monitors.rt:37:37
+slice-aggregate-put : tie.Need-slice-aggregate-put
+slice-aggregate-put c = search needs
+
+-- src/monitors.rt:37:13
+put-requires : tie.Need-put-requires
+put-requires c κs = search needs
+
+-- src/monitors.rt:38:35
+get8-requires : tie.Need-get8-requires
+get8-requires c κs = search needs
+
+-- src/monitors.rt:38:13
+ad-requires : tie.Need-ad-requires
+ad-requires c κs = search needs
+
+-- src/monitors.rt:39:38
+slice-aggregate-octet : tie.Need-slice-aggregate-octet
+slice-aggregate-octet c = search needs
+
+-- src/monitors.rt:39:13
+octet-requires : tie.Need-octet-requires
+octet-requires c κs = search needs
+
+-- src/monitors.rt:40:35
+slice-aggregate-hex : tie.Need-slice-aggregate-hex
+slice-aggregate-hex c = search needs
+
+-- src/monitors.rt:40:41
+behind-requires : tie.Need-behind-requires
+behind-requires c κs = search needs
+
+-- src/monitors.rt:40:9
+hex-requires : tie.Need-hex-requires
+hex-requires c κs = search needs
+
+-- src/monitors.rt:40:9
+returns : tie.Need-returns
+unfolding patternText codes
+returns c = taken _ _ (sym (c .before .before .before .before .before .before .before .before .before .before .before .before .before .before .is-whole .ensures) ∙ c .before .before .before .before .before .before .before .before .before .before .before .before .before .if1 .taken) (then (then (then (c .before .before .before .before .before .before .before .before .before .before .put .ensures) (rw (c .before .before .before .before .before .before .before .before .get8 .ensures) at (c .before .before .before .before .before .before .before .ad .ensures))) (c .before .before .before .before .octet .ensures)) (rw (c .before .behind .ensures) at (c .hex .ensures)))
+
+-- src/monitors.rt:42:25
+slice-aggregate-hex-2 : tie.Need-slice-aggregate-hex-2
+slice-aggregate-hex-2 c = search needs
+
+-- src/monitors.rt:42:5
+hex-requires-2 : tie.Need-hex-requires-2
+hex-requires-2 c κs = search needs
+
+-- src/monitors.rt:33:1
+returns-2 : tie.Need-returns-2
+unfolding patternText codes
+returns-2 c = left _ _ (sym (c .before .before .before .before .is-whole .ensures) ∙ c .before .before .before .if1 .left) (c .hex2 .ensures)
+
+pub pattern-spec : {M : Type 1} → statement M
+pattern-spec =
+    tie.close
+    (tie.spec
+    is-whole-requires
+    slice-aggregate-put
+    put-requires
+    get8-requires
+    ad-requires
+    slice-aggregate-octet
+    octet-requires
+    slice-aggregate-hex
+    behind-requires
+    hex-requires
+    returns
+    slice-aggregate-hex-2
+    hex-requires-2
+    returns-2)

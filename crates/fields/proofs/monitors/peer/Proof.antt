@@ -1,0 +1,112 @@
+use Prim.Native.Nat.{ℕ, zero, suc, _+_, _-_, _*_, _/_, _%_, _≤_, _<_}
+use mathlib.Core.Path.{_≡_, refl, sym, ap, _∙_}
+use native.Mathlib.Omega.{arith}
+use Rattle.words.specs.Says.{Says, same, nothing, then, taken, left}
+use Rattle.words.specs.Pieces.{partOf, numberText, deviceText, uuidText, name-rows}
+use Rattle.names.specs.Names.{tableOf, looked-up}
+use Rattle.names.specs.Refusals.{refusalRows, refusalName}
+use Rattle.fields.specs.Names.{adRows, adText, eventRows, eventText, statusRows, statusText, subRows, subText, whyRows, whyText, switchText, changeWord, prefixText}
+use Rattle.fields.specs.Cuts.{Left, left-turn, left-end}
+use Rattle.fields.specs.Data.{sizeOf, isWhole, isPlain, characterText, charactersText, quotedText, uuidSize, uuidIn, uuidsText, plainText, headedText, specialText, valueText, structureText, structuresText}
+use Rattle.fields.specs.Monitors.{patternText, patternsText, unknownText, isUuid, singleText, conditionText, samplingText, limitsText, bitText, reservedText, optionsText, filteringText, peerOf, peerText}
+use Rattle.fields.specs.Turns.{size-at, characters-end, characters-next, structures-end, structures-next, patterns-end, patterns-next, uuids-end, uuids-next}
+use lib.ListN.{length, take, drop}
+use mathlib.Core.List.{List, [], _∷_, _++_}
+use Rattle.model.specs.Quoted.{codes}
+use borrow.Author.Tests.{eq-eqb, ne-eqb, lt-ltb, le-ltb, le-leb, lt-leb}
+use Rattle.laws.specs.Tests.{pick, pick-true, pick-false}
+use Rattle.octets.specs.Numbers.{numberAt}
+use borrow.Author.Needs.{needs}
+use Rattle.fields.proofs.monitors.peer.Statement.{statement}
+use Rattle.fields.proofs.monitors.peer.Tie as tie
+use Rattle.fields.proofs.monitors.peer.Reads as reads
+use Rattle.fields.proofs.monitors.peer.Lts as lts
+use Rattle.fields.proofs.monitors.filtering.Reads as filtering-reads
+use Rattle.fields.proofs.monitors.options.Reads as options-reads
+use Rattle.fields.proofs.monitors.peer_of.Reads as peer-of-reads
+use Rattle.octets.proofs.get8.Reads as get8-reads
+use Rattle.words.proofs.device.Reads as device-reads
+use Rattle.words.proofs.number.Reads as number-reads
+use Rattle.words.proofs.part.Reads as part-reads
+use Rattle.words.proofs.put.Reads as put-reads
+
+-- src/monitors.rt:198:33
+slice-aggregate-put : tie.Need-slice-aggregate-put
+slice-aggregate-put c = search needs
+
+-- src/monitors.rt:198:9
+put-requires : tie.Need-put-requires
+put-requires c κs = search needs
+
+-- src/monitors.rt:199:29
+get8-requires : tie.Need-get8-requires
+get8-requires c κs = search needs
+
+-- src/monitors.rt:199:9
+options-requires : tie.Need-options-requires
+options-requires c κs = search needs
+
+-- src/monitors.rt:200:32
+slice-aggregate-put-2 : tie.Need-slice-aggregate-put-2
+slice-aggregate-put-2 c = search needs
+
+-- src/monitors.rt:200:9
+put-requires-2 : tie.Need-put-requires-2
+put-requires-2 c κs = search needs
+
+-- src/monitors.rt:201:31
+get8-requires-2 : tie.Need-get8-requires-2
+get8-requires-2 c κs = search needs
+
+-- src/monitors.rt:201:9
+filtering-requires : tie.Need-filtering-requires
+filtering-requires c κs = search needs
+
+-- src/monitors.rt:202:35
+slice-aggregate-device : tie.Need-slice-aggregate-device
+slice-aggregate-device c = search needs
+
+-- src/monitors.rt:202:47
+peer-of-requires : tie.Need-peer-of-requires
+peer-of-requires c κs = search needs
+
+-- src/monitors.rt:202:9
+device-requires : tie.Need-device-requires
+device-requires c κs = search needs
+
+-- src/monitors.rt:203:27
+slice-aggregate-number : tie.Need-slice-aggregate-number
+slice-aggregate-number c = search needs
+
+-- src/monitors.rt:203:45
+part-requires : tie.Need-part-requires
+part-requires c κs = search needs
+
+-- src/monitors.rt:203:5
+number-requires : tie.Need-number-requires
+number-requires c κs = search needs
+
+-- src/monitors.rt:195:1
+returns : tie.Need-returns
+unfolding peerText codes
+returns c = then (then (then (then (then (c .before .before .before .before .before .before .before .before .before .before .before .before .before .before .before .before .before .put .ensures) (rw (c .before .before .before .before .before .before .before .before .before .before .before .before .before .before .before .get8 .ensures) at (c .before .before .before .before .before .before .before .before .before .before .before .before .before .before .options .ensures))) (c .before .before .before .before .before .before .before .before .before .before .before .put2 .ensures)) (rw (c .before .before .before .before .before .before .before .before .before .get82 .ensures) at (c .before .before .before .before .before .before .before .before .filtering .ensures))) (rw (c .before .before .before .before .before .peer-of .ensures) at (c .before .before .before .before .device .ensures))) (rw (c .before .part .ensures) at (c .number .ensures))
+
+pub peer-spec : {M : Type 1} → statement M
+peer-spec =
+    tie.close
+    (tie.spec
+    slice-aggregate-put
+    put-requires
+    get8-requires
+    options-requires
+    slice-aggregate-put-2
+    put-requires-2
+    get8-requires-2
+    filtering-requires
+    slice-aggregate-device
+    peer-of-requires
+    device-requires
+    slice-aggregate-number
+    part-requires
+    number-requires
+    returns)

@@ -1,0 +1,87 @@
+use Prim.Native.Nat.{ℕ, zero, suc, _+_, _-_, _*_, _/_, _%_, _≤_, _<_}
+use mathlib.Core.Path.{_≡_, refl, sym, ap, _∙_}
+use native.Mathlib.Omega.{arith}
+use Rattle.words.specs.Says.{Says, same, nothing, then, taken, left}
+use Rattle.words.specs.Pieces.{partOf, numberText, deviceText, uuidText, name-rows}
+use Rattle.names.specs.Names.{tableOf, looked-up}
+use Rattle.names.specs.Refusals.{refusalRows, refusalName}
+use Rattle.fields.specs.Names.{adRows, adText, eventRows, eventText, statusRows, statusText, subRows, subText, whyRows, whyText, switchText, changeWord, prefixText}
+use Rattle.fields.specs.Cuts.{Left, left-turn, left-end}
+use Rattle.fields.specs.Data.{sizeOf, isWhole, isPlain, characterText, charactersText, quotedText, uuidSize, uuidIn, uuidsText, plainText, headedText, specialText, valueText, structureText, structuresText}
+use Rattle.fields.specs.Monitors.{patternText, patternsText, unknownText, isUuid, singleText, conditionText, samplingText, limitsText, bitText, reservedText, optionsText, filteringText, peerOf, peerText}
+use Rattle.fields.specs.Turns.{size-at, characters-end, characters-next, structures-end, structures-next, patterns-end, patterns-next, uuids-end, uuids-next}
+use lib.ListN.{length, take, drop}
+use mathlib.Core.List.{List, [], _∷_, _++_}
+use Rattle.model.specs.Quoted.{codes}
+use borrow.Author.Tests.{eq-eqb, ne-eqb, lt-ltb, le-ltb, le-leb, lt-leb}
+use Rattle.laws.specs.Tests.{pick, pick-true, pick-false}
+use Rattle.octets.specs.Numbers.{numberAt}
+use borrow.Author.Needs.{needs}
+use Rattle.fields.proofs.monitors.peer_of.Statement.{statement}
+use Rattle.fields.proofs.monitors.peer_of.Tie as tie
+use Rattle.fields.proofs.monitors.peer_of.Reads as reads
+use Rattle.fields.proofs.monitors.peer_of.Lts as lts
+use Rattle.octets.proofs.get16.Reads as get16-reads
+use Rattle.octets.proofs.get32.Reads as get32-reads
+use Rattle.octets.proofs.get8.Reads as get8-reads
+
+-- src/monitors.rt:188:16
+get8-requires : tie.Need-get8-requires
+get8-requires c κs = search needs
+
+-- src/monitors.rt:188:16
+cast-kind : tie.Need-cast-kind
+cast-kind c = search needs
+
+-- src/monitors.rt:189:15
+get32-requires : tie.Need-get32-requires
+get32-requires c κs = search needs
+
+-- src/monitors.rt:189:15
+cast-low : tie.Need-cast-low
+cast-low c = search needs
+
+-- src/monitors.rt:190:16
+get16-requires : tie.Need-get16-requires
+get16-requires c κs = search needs
+
+-- src/monitors.rt:190:16
+cast-high : tie.Need-cast-high
+cast-high c = search needs
+
+-- src/monitors.rt:191:25
+mul-result : tie.Need-mul-result
+mul-result c = search needs
+
+-- src/monitors.rt:191:19
+add-result : tie.Need-add-result
+add-result c = search needs
+
+-- src/monitors.rt:191:12
+mul-result-2 : tie.Need-mul-result-2
+mul-result-2 c = search needs
+
+-- src/monitors.rt:191:5
+add-result-2 : tie.Need-add-result-2
+add-result-2 c = search needs
+
+-- src/monitors.rt:185:1
+returns : tie.Need-returns
+unfolding peerOf
+returns c = search needs
+
+pub peer-of-spec : {M : Type 1} → statement M
+peer-of-spec =
+    tie.close
+    (tie.spec
+    get8-requires
+    cast-kind
+    get32-requires
+    cast-low
+    get16-requires
+    cast-high
+    mul-result
+    add-result
+    mul-result-2
+    add-result-2
+    returns)

@@ -1,0 +1,51 @@
+use Prim.Native.Nat.{ℕ, zero, suc, _+_, _-_, _*_, _/_, _%_, _≤_, _<_}
+use mathlib.Core.Path.{_≡_, refl, sym, ap, _∙_}
+use native.Mathlib.Omega.{arith}
+use Rattle.words.specs.Says.{Says, same, nothing, then, taken, left}
+use Rattle.words.specs.Pieces.{partOf, numberText, deviceText, uuidText, name-rows}
+use Rattle.names.specs.Names.{tableOf, looked-up}
+use Rattle.names.specs.Refusals.{refusalRows, refusalName}
+use Rattle.fields.specs.Names.{adRows, adText, eventRows, eventText, statusRows, statusText, subRows, subText, whyRows, whyText, switchText, changeWord, prefixText}
+use Rattle.fields.specs.Cuts.{Left, left-turn, left-end}
+use Rattle.fields.specs.Data.{sizeOf, isWhole, isPlain, characterText, charactersText, quotedText, uuidSize, uuidIn, uuidsText, plainText, headedText, specialText, valueText, structureText, structuresText}
+use Rattle.fields.specs.Monitors.{patternText, patternsText, unknownText, isUuid, singleText, conditionText, samplingText, limitsText, bitText, reservedText, optionsText, filteringText, peerOf, peerText}
+use Rattle.fields.specs.Turns.{size-at, characters-end, characters-next, structures-end, structures-next, patterns-end, patterns-next, uuids-end, uuids-next}
+use lib.ListN.{length, take, drop}
+use mathlib.Core.List.{List, [], _∷_, _++_}
+use Rattle.model.specs.Quoted.{codes}
+use borrow.Author.Tests.{eq-eqb, ne-eqb, lt-ltb, le-ltb, le-leb, lt-leb}
+use Rattle.laws.specs.Tests.{pick, pick-true, pick-false}
+use Rattle.octets.specs.Numbers.{numberAt}
+use borrow.Author.Needs.{needs}
+use Rattle.fields.proofs.monitors.reserved.Statement.{statement}
+use Rattle.fields.proofs.monitors.reserved.Tie as tie
+use Rattle.fields.proofs.monitors.reserved.Reads as reads
+use Rattle.fields.proofs.monitors.reserved.Lts as lts
+use Rattle.words.proofs.number.Reads as number-reads
+
+-- src/monitors.rt:149:9
+returns : tie.Need-returns
+unfolding reservedText numberText codes
+returns c = taken _ _ (eq-eqb _ _ (c .if1 .taken)) (nothing _ _)
+
+-- src/monitors.rt:151:28
+slice-aggregate-number : tie.Need-slice-aggregate-number
+slice-aggregate-number c = search needs
+
+-- src/monitors.rt:151:45
+slice-aggregate-number-2 : tie.Need-slice-aggregate-number-2
+slice-aggregate-number-2 c = search needs
+
+-- src/monitors.rt:151:5
+number-requires : tie.Need-number-requires
+number-requires c κs = search needs
+
+-- src/monitors.rt:144:1
+returns-2 : tie.Need-returns-2
+unfolding reservedText numberText codes
+returns-2 c = left _ _ (ne-eqb _ _ (c .before .before .before .before .if1 .left)) (c .number .ensures)
+
+pub reserved-spec : {M : Type 1} → statement M
+reserved-spec =
+    tie.close
+    (tie.spec returns slice-aggregate-number slice-aggregate-number-2 number-requires returns-2)
