@@ -2,17 +2,20 @@
 // an event, A0, A1, A3, A4, A5 and AF a line of an image. A number in decimal is a refusal.
 use decimals::Number;
 use refusals::Wrote;
+use words::ROOM;
+ghost use Prim.Native.Nat.{_+_, _-_, _≤_, _<_};
+ghost use mathlib.Core.Path.{_≡_};
+ghost use mathlib.Core.Bool.{true, false};
+ghost use lib.Dec.{eqb};
+ghost use lib.ListN.{length, take};
+ghost use Rattle.words.specs.Says.{Says};
+ghost use Rattle.shown.specs.Line.{isKind, whyNoFrame, isEvent, formOf, whyNot, lineText, noLine, octetsWhy, octetsText, whyNoText, textWords, isDigits, smallOf, refusalIn, isRefusal, refusedText, wordsOf, isLine};
+ghost use Rattle.lines.specs.Hex.{octetsIn};
+ghost use mathlib.Core.Bool.{_&&_};
 
 mod commands;
-mod data;
 mod framed;
 mod image;
-mod monitors;
-mod names;
-mod pieces;
-
-// More characters than any line in words has.
-pub const ROOM: usize = 8192;
 
 // A line in words: how many characters it has, and whether it is a line.
 pub struct Shown {
@@ -53,12 +56,16 @@ const NO_FRAME: u8 = 6;
 const NO_FORM: u8 = 7;
 
 // Whether octets that begin so are a frame.
-fn is_frame_kind(kind: u8) -> bool {
+fn is_frame_kind(kind: u8) -> bool
+    ensures { λ r. ⌜ r ≡ isKind kind ⌝ }
+{
     (framed::COMMAND <= kind) & (kind <= framed::SCANNED)
 }
 
 // Why the octets of a frame are none.
-fn why_no_frame(s: &[u8]) -> u8 {
+fn why_no_frame(s: &[u8]) -> u8
+    ensures { λ r. ⌜ r ≡ whyNoFrame (now (s .entry)) ⌝ }
+{
     if s.len() < LEAST_FRAME {
         return SHORT_FRAME;
     }
@@ -69,7 +76,9 @@ fn why_no_frame(s: &[u8]) -> u8 {
 }
 
 // Whether octets are an event.
-fn is_event(s: &[u8]) -> bool {
+fn is_event(s: &[u8]) -> bool
+    ensures { λ r. ⌜ r ≡ isEvent (now (s .entry)) ⌝ }
+{
     let kind = octets::get8(s, 0);
     if kind == COMPLETE {
         return commands::is_complete(s);
@@ -80,7 +89,9 @@ fn is_event(s: &[u8]) -> bool {
     framed::is_report(s)
 }
 
-fn form(good: bool) -> u8 {
+fn form(good: bool) -> u8
+    ensures { λ r. ⌜ r ≡ formOf good ⌝ }
+{
     if good {
         return FINE;
     }
@@ -88,7 +99,9 @@ fn form(good: bool) -> u8 {
 }
 
 // Why octets are no line: by their first.
-fn why_not(s: &[u8]) -> u8 {
+fn why_not(s: &[u8]) -> u8
+    ensures { λ r. ⌜ r ≡ whyNot (now (s .entry)) ⌝ }
+{
     let kind = octets::get8(s, 0);
     if is_frame_kind(kind) {
         return why_no_frame(s);
@@ -103,7 +116,9 @@ fn why_not(s: &[u8]) -> u8 {
 }
 
 // The words of octets that are a line.
-fn octets_in_words(out: &mut [u8; ROOM], s: &[u8]) -> usize {
+fn octets_in_words(out: &mut [u8; ROOM], s: &[u8]) -> usize
+    ensures { λ r. ⌜ Says (now (out .entry)) 0 (lineText (now (s .entry))) (now (out .exit)) r ⌝ }
+{
     let kind = octets::get8(s, 0);
     if is_frame_kind(kind) {
         return framed::frame(out, s);
@@ -121,28 +136,40 @@ fn octets_in_words(out: &mut [u8; ROOM], s: &[u8]) -> usize {
 }
 
 // What is said of a text that is no line.
-fn no_line(out: &mut [u8; ROOM], why: u8) -> Shown {
-    let a = pieces::put(out, 0, b"not a line: ");
-    Shown {
-        count: names::why(out, a, why),
-        good: false,
+fn no_line(out: &mut [u8; ROOM], why: u8) -> Shown
+    ensures { λ r. ⌜ Says (now (out .entry)) 0 (noLine why) (now (out .exit)) (r .count) × (r .good ≡ false) ⌝ }
+{
+    let a = words::put(out, 0, b"not a line: ");
+    let b = fields::terms::why(out, a, why);
+    Shown { count: b, good: false }
+}
+
+// Why octets are no line, or that they are one.
+fn octets_why(s: &[u8]) -> u8
+    ensures { λ r. ⌜ r ≡ octetsWhy (now (s .entry)) ⌝ }
+{
+    if s.len() == 0 {
+        return EMPTY;
     }
+    why_not(s)
 }
 
 // The words of octets, or why they are no line.
-fn of_octets(out: &mut [u8; ROOM], s: &[u8]) -> Shown {
-    let why = why_not(s);
+fn of_octets(out: &mut [u8; ROOM], s: &[u8]) -> Shown
+    ensures { λ r. ⌜ Says (now (out .entry)) 0 (octetsText (now (s .entry))) (now (out .exit)) (r .count) × (r .good ≡ eqb (octetsWhy (now (s .entry))) 0) ⌝ }
+{
+    let why = octets_why(s);
     if why != FINE {
         return no_line(out, why);
     }
-    Shown {
-        count: octets_in_words(out, s),
-        good: true,
-    }
+    let n = octets_in_words(out, s);
+    Shown { count: n, good: true }
 }
 
 // Why a text that is not hexadecimal with an LF is no line.
-fn why_no_text(n: usize) -> u8 {
+fn why_no_text(n: usize) -> u8
+    ensures { λ r. ⌜ r ≡ whyNoText n ⌝ }
+{
     if n <= 1 {
         return EMPTY;
     }
@@ -153,7 +180,10 @@ fn why_no_text(n: usize) -> u8 {
 }
 
 // The words of a text in hexadecimal.
-fn of_text(out: &mut [u8; ROOM], text: &[u8]) -> Shown {
+fn of_text(out: &mut [u8; ROOM], text: &[u8]) -> Shown
+    ensures { λ r. ⌜ Says (now (out .entry)) 0 (textWords (now (text .entry))) (now (out .exit)) (r .count)
+        × (r .good ≡ (isDigits (now (text .entry)) && eqb (octetsWhy (octetsIn (now (text .entry)))) 0)) ⌝ }
+{
     let mut s = [0u8; lines::MOST_FRAME];
     let read = reader::take_text(text, &mut s);
     match read {
@@ -163,27 +193,18 @@ fn of_text(out: &mut [u8; ROOM], text: &[u8]) -> Shown {
 }
 
 // The words of the first k octets.
-fn of_read(out: &mut [u8; ROOM], read: [u8; lines::MOST_FRAME], k: usize) -> Shown {
+fn of_read(out: &mut [u8; ROOM], read: [u8; lines::MOST_FRAME], k: usize) -> Shown
+    requires { ⌜ k ≤ 263 ⌝ }
+    ensures { λ r. ⌜ Says (now (out .entry)) 0 (octetsText (take k read)) (now (out .exit)) (r .count) × (r .good ≡ eqb (octetsWhy (take k read)) 0) ⌝ }
+{
     let s = read;
-    if k == 0 {
-        return no_line(out, EMPTY);
-    }
-    if lines::MOST_FRAME < k {
-        return no_line(out, LONG);
-    }
     of_octets(out, &s[..k])
 }
 
-// Whether a number is that of a refusal.
-fn is_refusal(n: u32) -> bool {
-    match n {
-        1 | 2 | 3 | 4 | 5 | 6 | 7 | 9 | 10 | 13 | 14 | 15 => true,
-        _ => false,
-    }
-}
-
 // The number of a refusal that a text is in decimal, before its LF; 0 where it is none.
-fn refusal_in(text: &[u8]) -> u8 {
+fn refusal_in(text: &[u8]) -> u8
+    ensures { λ r. ⌜ r ≡ refusalIn (now (text .entry)) ⌝ }
+{
     let n = text.len();
     if n < 2 {
         return 0;
@@ -196,27 +217,37 @@ fn refusal_in(text: &[u8]) -> u8 {
 }
 
 // A refusal's number as an octet; 0 where it is none.
-fn small(x: u32) -> u8 {
-    if is_refusal(x) {
-        return (x % 256) as u8;
+fn small(x: u32) -> u8
+    ensures { λ r. ⌜ r ≡ smallOf x ⌝ }
+{
+    if 255 < x {
+        return 0;
     }
-    0
+    let n = (x % 256) as u8;
+    let known = names::find(&names::REFUSALS, n);
+    if known.len() == 0 {
+        return 0;
+    }
+    n
 }
 
 // The words of a refusal's number.
-fn of_refusal(out: &mut [u8; ROOM], x: u8) -> Shown {
-    let a = pieces::said(out, 0, b"refused by ", x as u64);
-    let b = pieces::put(out, a, b": ");
-    Shown {
-        count: names::refusal(out, b, x),
-        good: true,
-    }
+fn of_refusal(out: &mut [u8; ROOM], x: u8) -> Shown
+    ensures { λ r. ⌜ Says (now (out .entry)) 0 (refusedText x) (now (out .exit)) (r .count) × (r .good ≡ true) ⌝ }
+{
+    let a = words::said(out, 0, b"refused by ", x as u64);
+    let b = words::put(out, a, b": ");
+    let c = fields::terms::refusal(out, b, x);
+    Shown { count: c, good: true }
 }
 
 // Writes a line's words from the output's start on. The line has its LF, the words have none.
-pub fn line(out: &mut [u8; ROOM], text: &[u8]) -> Shown {
+pub fn line(out: &mut [u8; ROOM], text: &[u8]) -> Shown
+    ensures { λ r. ⌜ Says (now (out .entry)) 0 (wordsOf (now (text .entry))) (now (out .exit)) (r .count) × (r .good ≡ isLine (now (text .entry))) ⌝ }
+{
     let x = refusal_in(text);
-    if (x != 0) & (octets::get8(text, 0) != ZERO) {
+    let first = octets::get8(text, 0);
+    if (x != 0) & (first != ZERO) {
         return of_refusal(out, x);
     }
     of_text(out, text)

@@ -1,0 +1,91 @@
+use Prim.Native.Nat.{ℕ, zero, suc, _+_, _-_, _*_, _/_, _%_, _≤_, _<_}
+use mathlib.Core.Path.{_≡_, refl, sym, ap, _∙_}
+use native.Mathlib.Omega.{arith}
+use Rattle.words.specs.Says.{Says, same, nothing, then, taken, left}
+use Rattle.words.specs.Pieces.{partOf, numberText}
+use Rattle.names.specs.Names.{tableOf, looked-up}
+use Rattle.names.specs.Refusals.{refusalRows, refusalName}
+use lib.ListN.{length, take, drop}
+use lib.Seq.{length-take-le}
+use mathlib.Core.List.{List, [], _∷_, _++_}
+use mathlib.Core.Bool.{Bool, true, false, not, _&&_, _||_}
+use Rattle.model.specs.Quoted.{codes}
+use borrow.Author.Tests.{eq-eqb, ne-eqb, lt-ltb, le-ltb, le-leb, lt-leb}
+use lib.Dec.{leb, ltb, eqb}
+use Rattle.laws.specs.Tests.{pick, pick-true, pick-false}
+use Rattle.octets.specs.Numbers.{numberAt}
+use Rattle.shown.specs.Commands.{rawText, addText, add2Text, cancelText, enableText, parametersText, commandText, returnedText, completeText, expectedOf, isComplete}
+use borrow.Author.Needs.{needs}
+use Rattle.shown.proofs.commands.add_2.Statement.{statement}
+use Rattle.shown.proofs.commands.add_2.Tie as tie
+use Rattle.shown.proofs.commands.add_2.Reads as reads
+use Rattle.shown.proofs.commands.add_2.Lts as lts
+use Rattle.fields.proofs.monitors.condition.Reads as condition-reads
+use Rattle.fields.proofs.monitors.limits.Reads as limits-reads
+use Rattle.fields.proofs.monitors.peer.Reads as peer-reads
+use Rattle.octets.proofs.get8.Reads as get8-reads
+use Rattle.shown.proofs.commands.raw.Reads as raw-reads
+use Rattle.words.proofs.behind.Reads as behind-reads
+use Rattle.words.proofs.put.Reads as put-reads
+
+-- src/commands.rt:57:9
+raw-requires : tie.Need-raw-requires
+raw-requires c κs = search needs
+
+-- src/commands.rt:57:9
+returns : tie.Need-returns
+unfolding add2Text
+returns c = taken _ _ (lt-ltb _ _ (c .before .before .if1 .taken)) (c .raw .ensures)
+
+-- src/commands.rt:59:33
+slice-aggregate-put : tie.Need-slice-aggregate-put
+slice-aggregate-put c = search needs
+
+-- src/commands.rt:59:9
+put-requires : tie.Need-put-requires
+put-requires c κs = search needs
+
+-- src/commands.rt:60:9
+limits-requires : tie.Need-limits-requires
+limits-requires c κs = search needs
+
+-- src/commands.rt:61:36
+behind-requires : tie.Need-behind-requires
+behind-requires c κs = search needs
+
+-- src/commands.rt:61:9
+peer-requires : tie.Need-peer-requires
+peer-requires c κs = search needs
+
+-- src/commands.rt:62:33
+get8-requires : tie.Need-get8-requires
+get8-requires c κs = search needs
+
+-- src/commands.rt:62:54
+behind-requires-2 : tie.Need-behind-requires-2
+behind-requires-2 c κs = search needs
+
+-- src/commands.rt:62:5
+condition-requires : tie.Need-condition-requires
+condition-requires c κs = search needs
+
+-- src/commands.rt:53:1
+returns-2 : tie.Need-returns-2
+unfolding add2Text codes
+returns-2 c = left _ _ (le-ltb _ _ (c .before .before .before .before .before .before .before .before .before .before .before .before .if1 .left)) (then (then (then (c .before .before .before .before .before .before .before .before .before .put .ensures) (c .before .before .before .before .before .before .before .limits .ensures)) (rw (c .before .before .before .before .before .behind .ensures) at (c .before .before .before .before .peer .ensures))) (rw (c .before .before .get8 .ensures, c .before .behind2 .ensures) at (c .condition .ensures)))
+
+pub add-2-spec : {M : Type 1} → statement M
+add-2-spec =
+    tie.close
+    (tie.spec
+    raw-requires
+    returns
+    slice-aggregate-put
+    put-requires
+    limits-requires
+    behind-requires
+    peer-requires
+    get8-requires
+    behind-requires-2
+    condition-requires
+    returns-2)

@@ -1,0 +1,85 @@
+use Prim.Native.Nat.{ℕ, zero, suc, _+_, _-_, _*_, _/_, _%_, _≤_, _<_}
+use mathlib.Core.Path.{_≡_, refl, sym, ap, _∙_}
+use native.Mathlib.Omega.{arith}
+use Rattle.words.specs.Says.{Says, same, nothing, then, taken, left}
+use Rattle.words.specs.Pieces.{partOf, numberText}
+use Rattle.names.specs.Names.{tableOf, looked-up}
+use Rattle.names.specs.Refusals.{refusalRows, refusalName}
+use lib.ListN.{length, take, drop}
+use lib.Seq.{length-take-le}
+use mathlib.Core.List.{List, [], _∷_, _++_}
+use mathlib.Core.Bool.{Bool, true, false, not, _&&_, _||_}
+use Rattle.model.specs.Quoted.{codes}
+use borrow.Author.Tests.{eq-eqb, ne-eqb, lt-ltb, le-ltb, le-leb, lt-leb}
+use lib.Dec.{leb, ltb, eqb}
+use Rattle.laws.specs.Tests.{pick, pick-true, pick-false}
+use Rattle.octets.specs.Numbers.{numberAt}
+use Rattle.shown.specs.Commands.{rawText, addText, add2Text, cancelText, enableText, parametersText, commandText, returnedText, completeText, expectedOf, isComplete}
+use borrow.Author.Needs.{needs}
+use Rattle.shown.proofs.commands.command.Statement.{statement}
+use Rattle.shown.proofs.commands.command.Tie as tie
+use Rattle.shown.proofs.commands.command.Reads as reads
+use Rattle.shown.proofs.commands.command.Lts as lts
+use Rattle.fields.proofs.terms.sub.Reads as sub-reads
+use Rattle.octets.proofs.get8.Reads as get8-reads
+use Rattle.shown.proofs.commands.parameters.Reads as parameters-reads
+use Rattle.words.proofs.behind.Reads as behind-reads
+use Rattle.words.proofs.number.Reads as number-reads
+use Rattle.words.proofs.part.Reads as part-reads
+use Rattle.words.proofs.put.Reads as put-reads
+
+-- src/commands.rt:110:9
+get8-requires : tie.Need-get8-requires
+get8-requires c κs = search needs
+
+-- src/commands.rt:111:36
+slice-aggregate-number : tie.Need-slice-aggregate-number
+slice-aggregate-number c = search needs
+
+-- src/commands.rt:111:52
+part-requires : tie.Need-part-requires
+part-requires c κs = search needs
+
+-- src/commands.rt:111:9
+number-requires : tie.Need-number-requires
+number-requires c κs = search needs
+
+-- src/commands.rt:112:32
+slice-aggregate-put : tie.Need-slice-aggregate-put
+slice-aggregate-put c = search needs
+
+-- src/commands.rt:112:9
+put-requires : tie.Need-put-requires
+put-requires c κs = search needs
+
+-- src/commands.rt:113:9
+sub-requires : tie.Need-sub-requires
+sub-requires c κs = search needs
+
+-- src/commands.rt:114:29
+behind-requires : tie.Need-behind-requires
+behind-requires c κs = search needs
+
+-- src/commands.rt:114:5
+parameters-requires : tie.Need-parameters-requires
+parameters-requires c κs = search needs
+
+-- src/commands.rt:107:1
+returns : tie.Need-returns
+unfolding commandText codes
+returns c = (then (then (then (rw (c .before .before .before .before .before .before .before .before .before .part .ensures) at (c .before .before .before .before .before .before .before .before .number .ensures)) (c .before .before .before .before .before .put .ensures)) (rw (c .before .before .before .before .before .before .before .before .before .before .before .before .get8 .ensures) at (c .before .before .before .sub .ensures))) (rw (c .before .before .before .before .before .before .before .before .before .before .before .before .get8 .ensures, c .before .behind .ensures) at (c .parameters .ensures)))
+
+pub command-spec : {M : Type 1} → statement M
+command-spec =
+    tie.close
+    (tie.spec
+    get8-requires
+    slice-aggregate-number
+    part-requires
+    number-requires
+    slice-aggregate-put
+    put-requires
+    sub-requires
+    behind-requires
+    parameters-requires
+    returns)

@@ -1,0 +1,87 @@
+use Prim.Native.Nat.{ℕ, zero, suc, _+_, _-_, _*_, _/_, _%_, _≤_, _<_}
+use mathlib.Core.Path.{_≡_, refl, sym, ap, _∙_}
+use native.Mathlib.Omega.{arith}
+use Rattle.words.specs.Says.{Says, same, nothing, then, taken, left}
+use Rattle.words.specs.Pieces.{partOf, numberText}
+use Rattle.names.specs.Names.{tableOf, looked-up}
+use Rattle.names.specs.Refusals.{refusalRows, refusalName}
+use lib.ListN.{length, take, drop}
+use lib.Seq.{length-take-le}
+use mathlib.Core.List.{List, [], _∷_, _++_}
+use mathlib.Core.Bool.{Bool, true, false, not, _&&_, _||_}
+use Rattle.model.specs.Quoted.{codes}
+use borrow.Author.Tests.{eq-eqb, ne-eqb, lt-ltb, le-ltb, le-leb, lt-leb}
+use lib.Dec.{leb, ltb, eqb}
+use Rattle.laws.specs.Tests.{pick, pick-true, pick-false}
+use Rattle.octets.specs.Numbers.{numberAt}
+use Rattle.shown.specs.Commands.{rawText, addText, add2Text, cancelText, enableText, parametersText, commandText, returnedText, completeText, expectedOf, isComplete}
+use borrow.Author.Needs.{needs}
+use Rattle.shown.proofs.commands.parameters.Statement.{statement}
+use Rattle.shown.proofs.commands.parameters.Tie as tie
+use Rattle.shown.proofs.commands.parameters.Reads as reads
+use Rattle.shown.proofs.commands.parameters.Lts as lts
+use Rattle.shown.proofs.commands.add.Reads as add-reads
+use Rattle.shown.proofs.commands.add_2.Reads as add-2-reads
+use Rattle.shown.proofs.commands.cancel.Reads as cancel-reads
+use Rattle.shown.proofs.commands.enable.Reads as enable-reads
+use Rattle.shown.proofs.commands.raw.Reads as raw-reads
+
+-- src/commands.rt:92:9
+add-requires : tie.Need-add-requires
+add-requires c κs = search needs
+
+-- src/commands.rt:92:9
+returns : tie.Need-returns
+unfolding parametersText
+returns c = taken _ _ (eq-eqb _ _ (c .before .before .if1 .taken)) (c .add .ensures)
+
+-- src/commands.rt:95:9
+add-2-requires : tie.Need-add-2-requires
+add-2-requires c κs = search needs
+
+-- src/commands.rt:95:9
+returns-2 : tie.Need-returns-2
+unfolding parametersText
+returns-2 c = left _ _ (ne-eqb _ _ (c .before .before .before .if1 .left)) (taken _ _ (eq-eqb _ _ (c .before .before .if2 .taken)) (c .add-2 .ensures))
+
+-- src/commands.rt:98:9
+cancel-requires : tie.Need-cancel-requires
+cancel-requires c κs = search needs
+
+-- src/commands.rt:98:9
+returns-3 : tie.Need-returns-3
+unfolding parametersText
+returns-3 c = left _ _ (ne-eqb _ _ (c .before .before .before .before .if1 .left)) (left _ _ (ne-eqb _ _ (c .before .before .before .if2 .left)) (taken _ _ (eq-eqb _ _ (c .before .before .if3 .taken)) (c .cancel .ensures)))
+
+-- src/commands.rt:101:9
+enable-requires : tie.Need-enable-requires
+enable-requires c κs = search needs
+
+-- src/commands.rt:101:9
+returns-4 : tie.Need-returns-4
+unfolding parametersText
+returns-4 c = left _ _ (ne-eqb _ _ (c .before .before .before .before .before .if1 .left)) (left _ _ (ne-eqb _ _ (c .before .before .before .before .if2 .left)) (left _ _ (ne-eqb _ _ (c .before .before .before .if3 .left)) (taken _ _ (eq-eqb _ _ (c .before .before .if4 .taken)) (c .enable .ensures))))
+
+-- src/commands.rt:103:5
+raw-requires : tie.Need-raw-requires
+raw-requires c κs = search needs
+
+-- src/commands.rt:88:1
+returns-5 : tie.Need-returns-5
+unfolding parametersText
+returns-5 c = left _ _ (ne-eqb _ _ (c .before .before .before .before .before .if1 .left)) (left _ _ (ne-eqb _ _ (c .before .before .before .before .if2 .left)) (left _ _ (ne-eqb _ _ (c .before .before .before .if3 .left)) (left _ _ (ne-eqb _ _ (c .before .before .if4 .left)) (c .raw .ensures))))
+
+pub parameters-spec : {M : Type 1} → statement M
+parameters-spec =
+    tie.close
+    (tie.spec
+    add-requires
+    returns
+    add-2-requires
+    returns-2
+    cancel-requires
+    returns-3
+    enable-requires
+    returns-4
+    raw-requires
+    returns-5)

@@ -1,0 +1,44 @@
+use Prim.Native.Nat.{ℕ, zero, suc, _+_, _-_, _*_, _/_, _%_, _≤_, _<_}
+use mathlib.Core.Path.{_≡_, refl, sym, ap, _∙_}
+use native.Mathlib.Omega.{arith}
+use Rattle.words.specs.Says.{Says, same, nothing, then, taken, left}
+use Rattle.words.specs.Pieces.{partOf, numberText}
+use Rattle.names.specs.Names.{tableOf, looked-up}
+use Rattle.names.specs.Refusals.{refusalRows, refusalName}
+use lib.ListN.{length, take, drop}
+use lib.Seq.{length-take-le}
+use mathlib.Core.List.{List, [], _∷_, _++_}
+use mathlib.Core.Bool.{Bool, true, false, not, _&&_, _||_}
+use Rattle.model.specs.Quoted.{codes}
+use borrow.Author.Tests.{eq-eqb, ne-eqb, lt-ltb, le-ltb, le-leb, lt-leb}
+use lib.Dec.{leb, ltb, eqb}
+use Rattle.laws.specs.Tests.{pick, pick-true, pick-false}
+use Rattle.octets.specs.Numbers.{numberAt}
+use Rattle.shown.specs.Commands.{rawText, addText, add2Text, cancelText, enableText, parametersText, commandText, returnedText, completeText, expectedOf, isComplete}
+use borrow.Author.Needs.{needs}
+use Rattle.shown.proofs.commands.raw.Statement.{statement}
+use Rattle.shown.proofs.commands.raw.Tie as tie
+use Rattle.shown.proofs.commands.raw.Reads as reads
+use Rattle.shown.proofs.commands.raw.Lts as lts
+use Rattle.words.proofs.hex.Reads as hex-reads
+
+-- src/commands.rt:35:9
+returns : tie.Need-returns
+unfolding rawText
+returns c = taken _ _ (eq-eqb _ _ (c .if1 .taken)) (nothing _ _)
+
+-- src/commands.rt:37:25
+slice-aggregate-hex : tie.Need-slice-aggregate-hex
+slice-aggregate-hex c = search needs
+
+-- src/commands.rt:37:5
+hex-requires : tie.Need-hex-requires
+hex-requires c κs = search needs
+
+-- src/commands.rt:31:1
+returns-2 : tie.Need-returns-2
+unfolding rawText codes
+returns-2 c = left _ _ (ne-eqb _ _ (c .before .before .before .if1 .left)) (c .hex .ensures)
+
+pub raw-spec : {M : Type 1} → statement M
+raw-spec = tie.close (tie.spec returns slice-aggregate-hex hex-requires returns-2)

@@ -1,0 +1,57 @@
+use Prim.Native.Nat.{ℕ, zero, suc, _+_, _-_, _*_, _/_, _%_, _≤_, _<_}
+use mathlib.Core.Path.{_≡_, refl, sym, ap, _∙_}
+use native.Mathlib.Omega.{arith}
+use Rattle.words.specs.Says.{Says, same, nothing, then, taken, left}
+use Rattle.words.specs.Pieces.{partOf, numberText}
+use Rattle.names.specs.Names.{tableOf, looked-up}
+use Rattle.names.specs.Refusals.{refusalRows, refusalName}
+use lib.ListN.{length, take, drop}
+use lib.Seq.{length-take-le}
+use mathlib.Core.List.{List, [], _∷_, _++_}
+use mathlib.Core.Bool.{Bool, true, false, not, _&&_, _||_}
+use Rattle.model.specs.Quoted.{codes}
+use borrow.Author.Tests.{eq-eqb, ne-eqb, lt-ltb, le-ltb, le-leb, lt-leb}
+use lib.Dec.{leb, ltb, eqb}
+use Rattle.laws.specs.Tests.{pick, pick-true, pick-false}
+use Rattle.octets.specs.Numbers.{numberAt}
+use Rattle.shown.specs.Frames.{heardText, packetText, scannedText, frameText, isFrame, changeText, isChange, reportText, isReport}
+use borrow.Author.Needs.{needs}
+use Rattle.shown.proofs.framed.packet.Statement.{statement}
+use Rattle.shown.proofs.framed.packet.Tie as tie
+use Rattle.shown.proofs.framed.packet.Reads as reads
+use Rattle.shown.proofs.framed.packet.Lts as lts
+use Rattle.fields.proofs.data.structures.Reads as structures-reads
+use Rattle.octets.proofs.get8.Reads as get8-reads
+use Rattle.octets.proofs.wide.Reads as wide-reads
+use Rattle.shown.proofs.framed.heard.Reads as heard-reads
+use Rattle.words.proofs.part.Reads as part-reads
+
+-- src/framed.rt:60:26
+get8-requires : tie.Need-get8-requires
+get8-requires c κs = search needs
+
+-- src/framed.rt:60:9
+wide-requires : tie.Need-wide-requires
+wide-requires c κs = search needs
+
+-- src/framed.rt:61:9
+heard-requires : tie.Need-heard-requires
+heard-requires c κs = search needs
+
+-- src/framed.rt:62:30
+part-requires : tie.Need-part-requires
+part-requires c κs = search needs
+
+-- src/framed.rt:62:5
+structures-requires : tie.Need-structures-requires
+structures-requires c κs = search needs
+
+-- src/framed.rt:57:1
+returns : tie.Need-returns
+unfolding packetText
+returns c = (then (c .before .before .before .heard .ensures) (rw (c .before .part .ensures, c .before .before .before .before .before .wide .ensures .0, c .before .before .before .before .before .before .get8 .ensures) at (c .structures .ensures)))
+
+pub packet-spec : {M : Type 1} → statement M
+packet-spec =
+    tie.close
+    (tie.spec get8-requires wide-requires heard-requires part-requires structures-requires returns)

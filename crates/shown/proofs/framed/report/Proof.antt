@@ -1,0 +1,50 @@
+use Prim.Native.Nat.{ℕ, zero, suc, _+_, _-_, _*_, _/_, _%_, _≤_, _<_}
+use mathlib.Core.Path.{_≡_, refl, sym, ap, _∙_}
+use native.Mathlib.Omega.{arith}
+use Rattle.words.specs.Says.{Says, same, nothing, then, taken, left}
+use Rattle.words.specs.Pieces.{partOf, numberText}
+use Rattle.names.specs.Names.{tableOf, looked-up}
+use Rattle.names.specs.Refusals.{refusalRows, refusalName}
+use lib.ListN.{length, take, drop}
+use lib.Seq.{length-take-le}
+use mathlib.Core.List.{List, [], _∷_, _++_}
+use mathlib.Core.Bool.{Bool, true, false, not, _&&_, _||_}
+use Rattle.model.specs.Quoted.{codes}
+use borrow.Author.Tests.{eq-eqb, ne-eqb, lt-ltb, le-ltb, le-leb, lt-leb}
+use lib.Dec.{leb, ltb, eqb}
+use Rattle.laws.specs.Tests.{pick, pick-true, pick-false}
+use Rattle.octets.specs.Numbers.{numberAt}
+use Rattle.shown.specs.Frames.{heardText, packetText, scannedText, frameText, isFrame, changeText, isChange, reportText, isReport}
+use borrow.Author.Needs.{needs}
+use Rattle.shown.proofs.framed.report.Statement.{statement}
+use Rattle.shown.proofs.framed.report.Tie as tie
+use Rattle.shown.proofs.framed.report.Reads as reads
+use Rattle.shown.proofs.framed.report.Lts as lts
+use Rattle.shown.proofs.framed.packet.Reads as packet-reads
+use Rattle.words.proofs.behind.Reads as behind-reads
+use Rattle.words.proofs.put.Reads as put-reads
+
+-- src/framed.rt:151:32
+slice-aggregate-put : tie.Need-slice-aggregate-put
+slice-aggregate-put c = search needs
+
+-- src/framed.rt:151:9
+put-requires : tie.Need-put-requires
+put-requires c κs = search needs
+
+-- src/framed.rt:152:20
+behind-requires : tie.Need-behind-requires
+behind-requires c κs = search needs
+
+-- src/framed.rt:152:5
+packet-requires : tie.Need-packet-requires
+packet-requires c κs = search needs
+
+-- src/framed.rt:148:1
+returns : tie.Need-returns
+unfolding reportText codes
+returns c = (then (c .before .before .before .put .ensures) (rw (c .before .behind .ensures) at (c .packet .ensures)))
+
+pub report-spec : {M : Type 1} → statement M
+report-spec =
+    tie.close (tie.spec slice-aggregate-put put-requires behind-requires packet-requires returns)

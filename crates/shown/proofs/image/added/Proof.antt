@@ -1,0 +1,73 @@
+use Prim.Native.Nat.{ℕ, zero, suc, _+_, _-_, _*_, _/_, _%_, _≤_, _<_}
+use mathlib.Core.Path.{_≡_, refl, sym, ap, _∙_}
+use native.Mathlib.Omega.{arith}
+use Rattle.words.specs.Says.{Says, same, nothing, then, taken, left}
+use Rattle.words.specs.Pieces.{partOf, numberText}
+use Rattle.names.specs.Names.{tableOf, looked-up}
+use Rattle.names.specs.Refusals.{refusalRows, refusalName}
+use lib.ListN.{length, take, drop}
+use lib.Seq.{length-take-le}
+use mathlib.Core.List.{List, [], _∷_, _++_}
+use mathlib.Core.Bool.{Bool, true, false, not, _&&_, _||_}
+use Rattle.model.specs.Quoted.{codes}
+use borrow.Author.Tests.{eq-eqb, ne-eqb, lt-ltb, le-ltb, le-leb, lt-leb}
+use lib.Dec.{leb, ltb, eqb}
+use Rattle.laws.specs.Tests.{pick, pick-true, pick-false}
+use Rattle.octets.specs.Numbers.{numberAt}
+use Rattle.shown.specs.Image.{headText, editionText, addedText, monitorText, countsText, pairText, endText, imageText, imageSize, begins}
+use borrow.Author.Needs.{needs}
+use Rattle.shown.proofs.image.added.Statement.{statement}
+use Rattle.shown.proofs.image.added.Tie as tie
+use Rattle.shown.proofs.image.added.Reads as reads
+use Rattle.shown.proofs.image.added.Lts as lts
+use Rattle.fields.proofs.monitors.peer.Reads as peer-reads
+use Rattle.octets.proofs.get8.Reads as get8-reads
+use Rattle.octets.proofs.wide.Reads as wide-reads
+use Rattle.words.proofs.part.Reads as part-reads
+
+-- src/image.rt:64:26
+get8-requires : tie.Need-get8-requires
+get8-requires c κs = search needs
+
+-- src/image.rt:64:9
+wide-requires : tie.Need-wide-requires
+wide-requires c κs = search needs
+
+-- src/image.rt:65:8
+get8-requires-2 : tie.Need-get8-requires-2
+get8-requires-2 c κs = search needs
+
+-- src/image.rt:66:55
+add-part : tie.Need-add-part
+add-part c = search needs
+
+-- src/image.rt:66:40
+part-requires : tie.Need-part-requires
+part-requires c κs = search needs
+
+-- src/image.rt:66:9
+peer-requires : tie.Need-peer-requires
+peer-requires c κs = search needs
+
+-- src/image.rt:66:9
+returns : tie.Need-returns
+unfolding addedText
+returns c = taken _ _ (eq-eqb (numberAt 1 (c .before .before .before .before .before .before .before .before .args .s .now) 0) 165 (sym (c .before .before .before .before .get82 .ensures) ∙ c .before .before .before .if1 .taken)) (rw (c .before .part .ensures, c .before .before .before .before .before .wide .ensures .0, c .before .before .before .before .before .before .get8 .ensures) at (c .peer .ensures))
+
+-- src/image.rt:61:1
+returns-2 : tie.Need-returns-2
+unfolding addedText
+returns-2 c = left _ _ (ne-eqb (numberAt 1 (c .before .before .before .before .before .args .s .now) 0) 165 (λ e. c .if1 .left (c .before .get82 .ensures ∙ e))) (nothing _ _)
+
+pub added-spec : {M : Type 1} → statement M
+added-spec =
+    tie.close
+    (tie.spec
+    get8-requires
+    wide-requires
+    get8-requires-2
+    add-part
+    part-requires
+    peer-requires
+    returns
+    returns-2)

@@ -1,0 +1,54 @@
+use Prim.Native.Nat.{ℕ, zero, suc, _+_, _-_, _*_, _/_, _%_, _≤_, _<_}
+use mathlib.Core.Path.{_≡_, refl, sym, ap, _∙_}
+use native.Mathlib.Omega.{arith}
+use Rattle.words.specs.Says.{Says, same, nothing, then, taken, left}
+use Rattle.words.specs.Pieces.{partOf, numberText}
+use Rattle.names.specs.Names.{tableOf, looked-up}
+use Rattle.names.specs.Refusals.{refusalRows, refusalName}
+use lib.ListN.{length, take, drop}
+use lib.Seq.{length-take-le}
+use mathlib.Core.List.{List, [], _∷_, _++_}
+use mathlib.Core.Bool.{Bool, true, false, not, _&&_, _||_}
+use Rattle.model.specs.Quoted.{codes}
+use borrow.Author.Tests.{eq-eqb, ne-eqb, lt-ltb, le-ltb, le-leb, lt-leb}
+use lib.Dec.{leb, ltb, eqb}
+use Rattle.laws.specs.Tests.{pick, pick-true, pick-false}
+use Rattle.octets.specs.Numbers.{numberAt}
+use Rattle.shown.specs.Image.{headText, editionText, addedText, monitorText, countsText, pairText, endText, imageText, imageSize, begins}
+use borrow.Author.Needs.{needs}
+use Rattle.shown.proofs.image.end.Statement.{statement}
+use Rattle.shown.proofs.image.end.Tie as tie
+use Rattle.shown.proofs.image.end.Reads as reads
+use Rattle.shown.proofs.image.end.Lts as lts
+use Rattle.words.proofs.octet.Reads as octet-reads
+
+-- src/image.rt:110:34
+slice-aggregate-octet : tie.Need-slice-aggregate-octet
+slice-aggregate-octet c = search needs
+
+-- src/image.rt:110:9
+octet-requires : tie.Need-octet-requires
+octet-requires c κs = search needs
+
+-- src/image.rt:111:26
+slice-aggregate-octet-2 : tie.Need-slice-aggregate-octet-2
+slice-aggregate-octet-2 c = search needs
+
+-- src/image.rt:111:5
+octet-requires-2 : tie.Need-octet-requires-2
+octet-requires-2 c κs = search needs
+
+-- src/image.rt:107:1
+returns : tie.Need-returns
+unfolding endText codes
+returns c = (then (c .before .before .before .octet .ensures) (c .octet2 .ensures))
+
+pub end-spec : {M : Type 1} → statement M
+end-spec =
+    tie.close
+    (tie.spec
+    slice-aggregate-octet
+    octet-requires
+    slice-aggregate-octet-2
+    octet-requires-2
+    returns)

@@ -1,0 +1,96 @@
+use Prim.Native.Nat.{ℕ, zero, suc, _+_, _-_, _*_, _/_, _%_, _≤_, _<_}
+use mathlib.Core.Path.{_≡_, refl, sym, ap, _∙_}
+use native.Mathlib.Omega.{arith}
+use Rattle.words.specs.Says.{Says, same, nothing, then, taken, left}
+use Rattle.words.specs.Pieces.{partOf, numberText}
+use Rattle.names.specs.Names.{tableOf, looked-up}
+use Rattle.names.specs.Refusals.{refusalRows, refusalName}
+use lib.ListN.{length, take, drop}
+use lib.Seq.{length-take-le}
+use mathlib.Core.List.{List, [], _∷_, _++_}
+use mathlib.Core.Bool.{Bool, true, false, not, _&&_, _||_}
+use Rattle.model.specs.Quoted.{codes}
+use borrow.Author.Tests.{eq-eqb, ne-eqb, lt-ltb, le-ltb, le-leb, lt-leb}
+use lib.Dec.{leb, ltb, eqb}
+use Rattle.laws.specs.Tests.{pick, pick-true, pick-false}
+use Rattle.octets.specs.Numbers.{numberAt}
+use Rattle.shown.specs.Image.{headText, editionText, addedText, monitorText, countsText, pairText, endText, imageText, imageSize, begins}
+use borrow.Author.Needs.{needs}
+use Rattle.shown.proofs.image.head.Statement.{statement}
+use Rattle.shown.proofs.image.head.Tie as tie
+use Rattle.shown.proofs.image.head.Reads as reads
+use Rattle.shown.proofs.image.head.Lts as lts
+use Rattle.fields.proofs.terms.prefix.Reads as prefix-reads
+use Rattle.fields.proofs.terms.switch.Reads as switch-reads
+use Rattle.octets.proofs.get8.Reads as get8-reads
+use Rattle.words.proofs.behind.Reads as behind-reads
+use Rattle.words.proofs.long.Reads as long-reads
+use Rattle.words.proofs.number.Reads as number-reads
+use Rattle.words.proofs.part.Reads as part-reads
+use Rattle.words.proofs.put.Reads as put-reads
+
+-- src/image.rt:45:33
+slice-aggregate-long : tie.Need-slice-aggregate-long
+slice-aggregate-long c = search needs
+
+-- src/image.rt:45:9
+long-requires : tie.Need-long-requires
+long-requires c κs = search needs
+
+-- src/image.rt:46:32
+slice-aggregate-put : tie.Need-slice-aggregate-put
+slice-aggregate-put c = search needs
+
+-- src/image.rt:46:9
+put-requires : tie.Need-put-requires
+put-requires c κs = search needs
+
+-- src/image.rt:47:35
+get8-requires : tie.Need-get8-requires
+get8-requires c κs = search needs
+
+-- src/image.rt:47:9
+switch-requires : tie.Need-switch-requires
+switch-requires c κs = search needs
+
+-- src/image.rt:48:35
+slice-aggregate-number : tie.Need-slice-aggregate-number
+slice-aggregate-number c = search needs
+
+-- src/image.rt:48:51
+part-requires : tie.Need-part-requires
+part-requires c κs = search needs
+
+-- src/image.rt:48:9
+number-requires : tie.Need-number-requires
+number-requires c κs = search needs
+
+-- src/image.rt:49:27
+behind-requires : tie.Need-behind-requires
+behind-requires c κs = search needs
+
+-- src/image.rt:49:5
+prefix-requires : tie.Need-prefix-requires
+prefix-requires c κs = search needs
+
+-- src/image.rt:42:1
+returns : tie.Need-returns
+unfolding headText codes
+returns c = (then (then (then (then (c .before .before .before .before .before .before .before .before .before .before .before .before .before .long .ensures) (c .before .before .before .before .before .before .before .before .before .before .put .ensures)) (rw (c .before .before .before .before .before .before .before .before .get8 .ensures) at (c .before .before .before .before .before .before .before .switch .ensures))) (rw (c .before .before .before .before .part .ensures) at (c .before .before .before .number .ensures))) (rw (c .before .behind .ensures) at (c .prefix .ensures)))
+
+pub head-spec : {M : Type 1} → statement M
+head-spec =
+    tie.close
+    (tie.spec
+    slice-aggregate-long
+    long-requires
+    slice-aggregate-put
+    put-requires
+    get8-requires
+    switch-requires
+    slice-aggregate-number
+    part-requires
+    number-requires
+    behind-requires
+    prefix-requires
+    returns)

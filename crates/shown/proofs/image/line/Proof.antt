@@ -1,0 +1,93 @@
+use Prim.Native.Nat.{ℕ, zero, suc, _+_, _-_, _*_, _/_, _%_, _≤_, _<_}
+use mathlib.Core.Path.{_≡_, refl, sym, ap, _∙_}
+use native.Mathlib.Omega.{arith}
+use Rattle.words.specs.Says.{Says, same, nothing, then, taken, left}
+use Rattle.words.specs.Pieces.{partOf, numberText}
+use Rattle.names.specs.Names.{tableOf, looked-up}
+use Rattle.names.specs.Refusals.{refusalRows, refusalName}
+use lib.ListN.{length, take, drop}
+use lib.Seq.{length-take-le}
+use mathlib.Core.List.{List, [], _∷_, _++_}
+use mathlib.Core.Bool.{Bool, true, false, not, _&&_, _||_}
+use Rattle.model.specs.Quoted.{codes}
+use borrow.Author.Tests.{eq-eqb, ne-eqb, lt-ltb, le-ltb, le-leb, lt-leb}
+use lib.Dec.{leb, ltb, eqb}
+use Rattle.laws.specs.Tests.{pick, pick-true, pick-false}
+use Rattle.octets.specs.Numbers.{numberAt}
+use Rattle.shown.specs.Image.{headText, editionText, addedText, monitorText, countsText, pairText, endText, imageText, imageSize, begins}
+use borrow.Author.Needs.{needs}
+use Rattle.shown.proofs.image.line.Statement.{statement}
+use Rattle.shown.proofs.image.line.Tie as tie
+use Rattle.shown.proofs.image.line.Reads as reads
+use Rattle.shown.proofs.image.line.Lts as lts
+use Rattle.octets.proofs.get8.Reads as get8-reads
+use Rattle.shown.proofs.image.edition.Reads as edition-reads
+use Rattle.shown.proofs.image.end.Reads as end-reads
+use Rattle.shown.proofs.image.head.Reads as head-reads
+use Rattle.shown.proofs.image.monitor.Reads as monitor-reads
+use Rattle.shown.proofs.image.pair.Reads as pair-reads
+
+-- src/image.rt:118:9
+get8-requires : tie.Need-get8-requires
+get8-requires c κs = search needs
+
+-- src/image.rt:120:9
+head-requires : tie.Need-head-requires
+head-requires c κs = search needs
+
+-- src/image.rt:120:9
+returns : tie.Need-returns
+unfolding imageText
+returns c = taken _ _ (eq-eqb (numberAt 1 (c .before .before .before .before .before .args .s .now) 0) 160 (sym (c .before .before .before .get8 .ensures) ∙ c .before .before .if1 .taken)) (c .head .ensures)
+
+-- src/image.rt:123:9
+edition-requires : tie.Need-edition-requires
+edition-requires c κs = search needs
+
+-- src/image.rt:123:9
+returns-2 : tie.Need-returns-2
+unfolding imageText
+returns-2 c = left _ _ (ne-eqb (numberAt 1 (c .before .before .before .before .before .before .args .s .now) 0) 160 (λ e. c .before .before .before .if1 .left (c .before .before .before .before .get8 .ensures ∙ e))) (taken _ _ (eq-eqb (numberAt 1 (c .before .before .before .before .before .before .args .s .now) 0) 164 (sym (c .before .before .before .before .get8 .ensures) ∙ c .before .before .if2 .taken)) (c .edition .ensures))
+
+-- src/image.rt:126:9
+pair-requires : tie.Need-pair-requires
+pair-requires c κs = search needs
+
+-- src/image.rt:126:9
+returns-3 : tie.Need-returns-3
+unfolding imageText
+returns-3 c = left _ _ (ne-eqb (numberAt 1 (c .before .before .before .before .before .before .before .args .s .now) 0) 160 (λ e. c .before .before .before .before .if1 .left (c .before .before .before .before .before .get8 .ensures ∙ e))) (left _ _ (ne-eqb (numberAt 1 (c .before .before .before .before .before .before .before .args .s .now) 0) 164 (λ e. c .before .before .before .if2 .left (c .before .before .before .before .before .get8 .ensures ∙ e))) (taken _ _ (eq-eqb (numberAt 1 (c .before .before .before .before .before .before .before .args .s .now) 0) 163 (sym (c .before .before .before .before .before .get8 .ensures) ∙ c .before .before .if3 .taken)) (c .pair .ensures)))
+
+-- src/image.rt:129:9
+end-requires : tie.Need-end-requires
+end-requires c κs = search needs
+
+-- src/image.rt:129:9
+returns-4 : tie.Need-returns-4
+unfolding imageText
+returns-4 c = left _ _ (ne-eqb (numberAt 1 (c .before .before .before .before .before .before .before .before .args .s .now) 0) 160 (λ e. c .before .before .before .before .before .if1 .left (c .before .before .before .before .before .before .get8 .ensures ∙ e))) (left _ _ (ne-eqb (numberAt 1 (c .before .before .before .before .before .before .before .before .args .s .now) 0) 164 (λ e. c .before .before .before .before .if2 .left (c .before .before .before .before .before .before .get8 .ensures ∙ e))) (left _ _ (ne-eqb (numberAt 1 (c .before .before .before .before .before .before .before .before .args .s .now) 0) 163 (λ e. c .before .before .before .if3 .left (c .before .before .before .before .before .before .get8 .ensures ∙ e))) (taken _ _ (eq-eqb (numberAt 1 (c .before .before .before .before .before .before .before .before .args .s .now) 0) 175 (sym (c .before .before .before .before .before .before .get8 .ensures) ∙ c .before .before .if4 .taken)) (c .end .ensures))))
+
+-- src/image.rt:131:5
+monitor-requires : tie.Need-monitor-requires
+monitor-requires c κs = search needs
+
+-- src/image.rt:115:1
+returns-5 : tie.Need-returns-5
+unfolding imageText
+returns-5 c = left _ _ (ne-eqb (numberAt 1 (c .before .before .before .before .before .before .before .before .args .s .now) 0) 160 (λ e. c .before .before .before .before .before .if1 .left (c .before .before .before .before .before .before .get8 .ensures ∙ e))) (left _ _ (ne-eqb (numberAt 1 (c .before .before .before .before .before .before .before .before .args .s .now) 0) 164 (λ e. c .before .before .before .before .if2 .left (c .before .before .before .before .before .before .get8 .ensures ∙ e))) (left _ _ (ne-eqb (numberAt 1 (c .before .before .before .before .before .before .before .before .args .s .now) 0) 163 (λ e. c .before .before .before .if3 .left (c .before .before .before .before .before .before .get8 .ensures ∙ e))) (left _ _ (ne-eqb (numberAt 1 (c .before .before .before .before .before .before .before .before .args .s .now) 0) 175 (λ e. c .before .before .if4 .left (c .before .before .before .before .before .before .get8 .ensures ∙ e))) (c .monitor .ensures))))
+
+pub line-spec : {M : Type 1} → statement M
+line-spec =
+    tie.close
+    (tie.spec
+    get8-requires
+    head-requires
+    returns
+    edition-requires
+    returns-2
+    pair-requires
+    returns-3
+    end-requires
+    returns-4
+    monitor-requires
+    returns-5)

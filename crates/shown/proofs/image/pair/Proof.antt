@@ -1,0 +1,118 @@
+use Prim.Native.Nat.{ℕ, zero, suc, _+_, _-_, _*_, _/_, _%_, _≤_, _<_}
+use mathlib.Core.Path.{_≡_, refl, sym, ap, _∙_}
+use native.Mathlib.Omega.{arith}
+use Rattle.words.specs.Says.{Says, same, nothing, then, taken, left}
+use Rattle.words.specs.Pieces.{partOf, numberText}
+use Rattle.names.specs.Names.{tableOf, looked-up}
+use Rattle.names.specs.Refusals.{refusalRows, refusalName}
+use lib.ListN.{length, take, drop}
+use lib.Seq.{length-take-le}
+use mathlib.Core.List.{List, [], _∷_, _++_}
+use mathlib.Core.Bool.{Bool, true, false, not, _&&_, _||_}
+use Rattle.model.specs.Quoted.{codes}
+use borrow.Author.Tests.{eq-eqb, ne-eqb, lt-ltb, le-ltb, le-leb, lt-leb}
+use lib.Dec.{leb, ltb, eqb}
+use Rattle.laws.specs.Tests.{pick, pick-true, pick-false}
+use Rattle.octets.specs.Numbers.{numberAt}
+use Rattle.shown.specs.Image.{headText, editionText, addedText, monitorText, countsText, pairText, endText, imageText, imageSize, begins}
+use borrow.Author.Needs.{needs}
+use Rattle.shown.proofs.image.pair.Statement.{statement}
+use Rattle.shown.proofs.image.pair.Tie as tie
+use Rattle.shown.proofs.image.pair.Reads as reads
+use Rattle.shown.proofs.image.pair.Lts as lts
+use Rattle.fields.proofs.data.structures.Reads as structures-reads
+use Rattle.fields.proofs.terms.event_type.Reads as event-type-reads
+use Rattle.octets.proofs.get8.Reads as get8-reads
+use Rattle.shown.proofs.image.counts.Reads as counts-reads
+use Rattle.words.proofs.behind.Reads as behind-reads
+use Rattle.words.proofs.device.Reads as device-reads
+use Rattle.words.proofs.device_of.Reads as device-of-reads
+use Rattle.words.proofs.level.Reads as level-reads
+use Rattle.words.proofs.octet.Reads as octet-reads
+use Rattle.words.proofs.put.Reads as put-reads
+
+-- src/image.rt:97:34
+slice-aggregate-octet : tie.Need-slice-aggregate-octet
+slice-aggregate-octet c = search needs
+
+-- src/image.rt:97:9
+octet-requires : tie.Need-octet-requires
+octet-requires c κs = search needs
+
+-- src/image.rt:98:35
+slice-aggregate-device : tie.Need-slice-aggregate-device
+slice-aggregate-device c = search needs
+
+-- src/image.rt:98:59
+behind-requires : tie.Need-behind-requires
+behind-requires c κs = search needs
+
+-- src/image.rt:98:42
+device-of-requires : tie.Need-device-of-requires
+device-of-requires c κs = search needs
+
+-- src/image.rt:98:9
+device-requires : tie.Need-device-requires
+device-requires c κs = search needs
+
+-- src/image.rt:99:9
+counts-requires : tie.Need-counts-requires
+counts-requires c κs = search needs
+
+-- src/image.rt:100:34
+slice-aggregate-level : tie.Need-slice-aggregate-level
+slice-aggregate-level c = search needs
+
+-- src/image.rt:100:9
+level-requires : tie.Need-level-requires
+level-requires c κs = search needs
+
+-- src/image.rt:101:32
+slice-aggregate-put : tie.Need-slice-aggregate-put
+slice-aggregate-put c = search needs
+
+-- src/image.rt:101:9
+put-requires : tie.Need-put-requires
+put-requires c κs = search needs
+
+-- src/image.rt:102:39
+get8-requires : tie.Need-get8-requires
+get8-requires c κs = search needs
+
+-- src/image.rt:102:9
+event-type-requires : tie.Need-event-type-requires
+event-type-requires c κs = search needs
+
+-- src/image.rt:103:30
+behind-requires-2 : tie.Need-behind-requires-2
+behind-requires-2 c κs = search needs
+
+-- src/image.rt:103:5
+structures-requires : tie.Need-structures-requires
+structures-requires c κs = search needs
+
+-- src/image.rt:94:1
+returns : tie.Need-returns
+unfolding pairText codes
+returns c = (then (then (then (then (then (then (c .before .before .before .before .before .before .before .before .before .before .before .before .before .before .before .before .before .before .before .octet .ensures) (rw (c .before .before .before .before .before .before .before .before .before .before .before .before .before .before .before .device-of .ensures, c .before .before .before .before .before .before .before .before .before .before .before .before .before .before .before .before .behind .ensures) at (c .before .before .before .before .before .before .before .before .before .before .before .before .before .before .device .ensures))) (c .before .before .before .before .before .before .before .before .before .before .before .before .counts .ensures)) (c .before .before .before .before .before .before .before .before .before .level .ensures)) (c .before .before .before .before .before .before .put .ensures)) (rw (c .before .before .before .before .get8 .ensures) at (c .before .before .before .event-type .ensures))) (rw (c .before .behind2 .ensures) at (c .structures .ensures)))
+
+pub pair-spec : {M : Type 1} → statement M
+pair-spec =
+    tie.close
+    (tie.spec
+    slice-aggregate-octet
+    octet-requires
+    slice-aggregate-device
+    behind-requires
+    device-of-requires
+    device-requires
+    counts-requires
+    slice-aggregate-level
+    level-requires
+    slice-aggregate-put
+    put-requires
+    get8-requires
+    event-type-requires
+    behind-requires-2
+    structures-requires
+    returns)

@@ -1,0 +1,67 @@
+use Prim.Native.Nat.{ℕ, zero, suc, _+_, _-_, _*_, _/_, _%_, _≤_, _<_}
+use mathlib.Core.Path.{_≡_, refl, sym, ap, _∙_}
+use native.Mathlib.Omega.{arith}
+use Rattle.words.specs.Says.{Says, same, nothing, then, taken, left}
+use Rattle.words.specs.Pieces.{partOf, numberText}
+use Rattle.names.specs.Names.{tableOf, looked-up}
+use Rattle.names.specs.Refusals.{refusalRows, refusalName}
+use lib.ListN.{length, take, drop}
+use lib.Seq.{length-take-le}
+use mathlib.Core.List.{List, [], _∷_, _++_}
+use mathlib.Core.Bool.{Bool, true, false, not, _&&_, _||_}
+use Rattle.model.specs.Quoted.{codes}
+use borrow.Author.Tests.{eq-eqb, ne-eqb, lt-ltb, le-ltb, le-leb, lt-leb}
+use lib.Dec.{leb, ltb, eqb}
+use Rattle.laws.specs.Tests.{pick, pick-true, pick-false}
+use Rattle.octets.specs.Numbers.{numberAt}
+use Rattle.shown.specs.Image.{begins}
+use Rattle.shown.specs.Line.{isKind, whyNoFrame, isEvent, formOf, whyNot, lineText, noLine, octetsWhy, octetsText, whyNoText, textWords, isDigits, smallOf, numberIn, refusalIn, isRefusal, refusedText, wordsOf, isLine}
+use Rattle.shown.specs.Read.{read-digits, read-octets, read-short, not-digits}
+use Rattle.lines.specs.Hex.{octetsIn}
+use Rattle.reader.specs.Answers.{takeText}
+use borrow.Author.Needs.{needs}
+use Rattle.shown.proofs.line.Statement.{statement}
+use Rattle.shown.proofs.line.Tie as tie
+use Rattle.shown.proofs.line.Reads as reads
+use Rattle.shown.proofs.line.Lts as lts
+use Rattle.octets.proofs.get8.Reads as get8-reads
+use Rattle.shown.proofs.of_refusal.Reads as of-refusal-reads
+use Rattle.shown.proofs.of_text.Reads as of-text-reads
+use Rattle.shown.proofs.refusal_in.Reads as refusal-in-reads
+
+-- src/lib.rt:248:9
+refusal-in-requires : tie.Need-refusal-in-requires
+refusal-in-requires c κs = search needs
+
+-- src/lib.rt:249:9
+get8-requires : tie.Need-get8-requires
+get8-requires c κs = search needs
+
+-- src/lib.rt:251:9
+of-refusal-requires : tie.Need-of-refusal-requires
+of-refusal-requires c κs = search needs
+
+-- src/lib.rt:251:9
+returns : tie.Need-returns
+unfolding wordsOf isLine isRefusal
+returns c = let t : isRefusal (c .before .before .before .before .before .before .args .text .now) ≡ true = rw (c .before .before .before .before .refusal-in .ensures, c .before .before .before .get8 .ensures) at (c .before .before .if1 .taken) in (taken _ _ t (rw (c .before .before .before .before .refusal-in .ensures) at (c .of-refusal .ensures .0)), c .of-refusal .ensures .1 ∙ sym (pick-true true (isDigits (c .before .before .before .before .before .before .args .text .now) && eqb (octetsWhy (octetsIn (c .before .before .before .before .before .before .args .text .now))) 0) t))
+
+-- src/lib.rt:253:5
+of-text-requires : tie.Need-of-text-requires
+of-text-requires c κs = search needs
+
+-- src/lib.rt:245:1
+returns-2 : tie.Need-returns-2
+unfolding wordsOf isLine isRefusal
+returns-2 c = let t : isRefusal (c .before .before .before .before .before .before .args .text .now) ≡ false = rw (c .before .before .before .before .refusal-in .ensures, c .before .before .before .get8 .ensures) at (c .before .before .if1 .left) in (left _ _ t (c .of-text .ensures .0), c .of-text .ensures .1 ∙ sym (pick-false true (isDigits (c .before .before .before .before .before .before .args .text .now) && eqb (octetsWhy (octetsIn (c .before .before .before .before .before .before .args .text .now))) 0) t))
+
+pub line-spec : {M : Type 1} → statement M
+line-spec =
+    tie.close
+    (tie.spec
+    refusal-in-requires
+    get8-requires
+    of-refusal-requires
+    returns
+    of-text-requires
+    returns-2)

@@ -1,0 +1,65 @@
+use Prim.Native.Nat.{ℕ, zero, suc, _+_, _-_, _*_, _/_, _%_, _≤_, _<_}
+use mathlib.Core.Path.{_≡_, refl, sym, ap, _∙_}
+use native.Mathlib.Omega.{arith}
+use Rattle.words.specs.Says.{Says, same, nothing, then, taken, left}
+use Rattle.words.specs.Pieces.{partOf, numberText}
+use Rattle.names.specs.Names.{tableOf, looked-up}
+use Rattle.names.specs.Refusals.{refusalRows, refusalName}
+use lib.ListN.{length, take, drop}
+use lib.Seq.{length-take-le}
+use mathlib.Core.List.{List, [], _∷_, _++_}
+use mathlib.Core.Bool.{Bool, true, false, not, _&&_, _||_}
+use Rattle.model.specs.Quoted.{codes}
+use borrow.Author.Tests.{eq-eqb, ne-eqb, lt-ltb, le-ltb, le-leb, lt-leb}
+use lib.Dec.{leb, ltb, eqb}
+use Rattle.laws.specs.Tests.{pick, pick-true, pick-false}
+use Rattle.octets.specs.Numbers.{numberAt}
+use Rattle.shown.specs.Image.{begins}
+use Rattle.shown.specs.Line.{isKind, whyNoFrame, isEvent, formOf, whyNot, lineText, noLine, octetsWhy, octetsText, whyNoText, textWords, isDigits, smallOf, numberIn, refusalIn, isRefusal, refusedText, wordsOf, isLine}
+use Rattle.shown.specs.Read.{read-digits, read-octets, read-short, not-digits}
+use Rattle.lines.specs.Hex.{octetsIn}
+use Rattle.reader.specs.Answers.{takeText}
+use borrow.Author.Needs.{needs}
+use Rattle.shown.proofs.of_refusal.Statement.{statement}
+use Rattle.shown.proofs.of_refusal.Tie as tie
+use Rattle.shown.proofs.of_refusal.Reads as reads
+use Rattle.shown.proofs.of_refusal.Lts as lts
+use Rattle.fields.proofs.terms.refusal.Reads as refusal-reads
+use Rattle.words.proofs.put.Reads as put-reads
+use Rattle.words.proofs.said.Reads as said-reads
+
+-- src/lib.rt:238:33
+slice-aggregate-said : tie.Need-slice-aggregate-said
+slice-aggregate-said c = search needs
+
+-- src/lib.rt:238:9
+said-requires : tie.Need-said-requires
+said-requires c κs = search needs
+
+-- src/lib.rt:239:32
+slice-aggregate-put : tie.Need-slice-aggregate-put
+slice-aggregate-put c = search needs
+
+-- src/lib.rt:239:9
+put-requires : tie.Need-put-requires
+put-requires c κs = search needs
+
+-- src/lib.rt:240:9
+refusal-requires : tie.Need-refusal-requires
+refusal-requires c κs = search needs
+
+-- src/lib.rt:235:1
+returns : tie.Need-returns
+unfolding refusedText codes
+returns c = (then (then (c .before .before .before .before .before .said .ensures) (c .before .before .put .ensures)) (c .refusal .ensures), refl)
+
+pub of-refusal-spec : {M : Type 1} → statement M
+of-refusal-spec =
+    tie.close
+    (tie.spec
+    slice-aggregate-said
+    said-requires
+    slice-aggregate-put
+    put-requires
+    refusal-requires
+    returns)

@@ -1,0 +1,82 @@
+use Prim.Native.Nat.{ℕ, zero, suc, _+_, _-_, _*_, _/_, _%_, _≤_, _<_}
+use mathlib.Core.Path.{_≡_, refl, sym, ap, _∙_}
+use native.Mathlib.Omega.{arith}
+use Rattle.words.specs.Says.{Says, same, nothing, then, taken, left}
+use Rattle.words.specs.Pieces.{partOf, numberText}
+use Rattle.names.specs.Names.{tableOf, looked-up}
+use Rattle.names.specs.Refusals.{refusalRows, refusalName}
+use lib.ListN.{length, take, drop}
+use lib.Seq.{length-take-le}
+use mathlib.Core.List.{List, [], _∷_, _++_}
+use mathlib.Core.Bool.{Bool, true, false, not, _&&_, _||_}
+use Rattle.model.specs.Quoted.{codes}
+use borrow.Author.Tests.{eq-eqb, ne-eqb, lt-ltb, le-ltb, le-leb, lt-leb}
+use lib.Dec.{leb, ltb, eqb}
+use Rattle.laws.specs.Tests.{pick, pick-true, pick-false}
+use Rattle.octets.specs.Numbers.{numberAt}
+use Rattle.shown.specs.Image.{begins}
+use Rattle.shown.specs.Line.{isKind, whyNoFrame, isEvent, formOf, whyNot, lineText, noLine, octetsWhy, octetsText, whyNoText, textWords, isDigits, smallOf, numberIn, refusalIn, isRefusal, refusedText, wordsOf, isLine}
+use Rattle.shown.specs.Read.{read-digits, read-octets, read-short, not-digits}
+use Rattle.lines.specs.Hex.{octetsIn}
+use Rattle.reader.specs.Answers.{takeText}
+use borrow.Author.Needs.{needs}
+use Rattle.shown.proofs.of_text.Statement.{statement}
+use Rattle.shown.proofs.of_text.Tie as tie
+use Rattle.shown.proofs.of_text.Reads as reads
+use Rattle.shown.proofs.of_text.Lts as lts
+use Rattle.reader.proofs.take_text.Reads as take-text-reads
+use Rattle.shown.proofs.no_line.Reads as no-line-reads
+use Rattle.shown.proofs.of_read.Reads as of-read-reads
+use Rattle.shown.proofs.why_no_text.Reads as why-no-text-reads
+
+-- src/lib.rt:188:40
+slice-aggregate-take-text : tie.Need-slice-aggregate-take-text
+slice-aggregate-take-text c = search needs
+
+-- src/lib.rt:188:9
+take-text-requires : tie.Need-take-text-requires
+take-text-requires c κs = search needs
+
+-- src/lib.rt:190:21
+enum-known-read : tie.Need-enum-known-read
+enum-known-read c = search needs
+
+-- src/lib.rt:190:27
+of-read-requires : tie.Need-of-read-requires
+of-read-requires c κs = let e = sym (c .before .before .before .before .before .take-text .ensures .0) ∙ c .before .before .read .given .1 in read-short (c .before .before .before .before .before .before .before .before .args .text .now) (c .before .before .read .given .0 .0) e
+
+-- src/lib.rt:191:38
+enum-told : tie.Need-enum-told
+enum-told c = search needs
+
+-- src/lib.rt:191:43
+why-no-text-requires : tie.Need-why-no-text-requires
+why-no-text-requires c κs = search needs
+
+-- src/lib.rt:191:30
+no-line-requires : tie.Need-no-line-requires
+no-line-requires c κs = search needs
+
+-- src/lib.rt:183:1
+returns : tie.Need-returns
+unfolding textWords
+returns c = let e = sym (c .before .before .before .before .before .before .take-text .ensures .0) ∙ c .before .before .before .read .given .1 in let o = ap (λ (l : List ℕ). take (c .before .before .before .read .given .0 .0) l) (c .before .before .before .before .before .before .take-text .ensures .1) ∙ read-octets (c .before .before .before .before .before .before .before .before .before .args .text .now) _ (c .before .before .before .read .given .0 .0) e in let d = read-digits (c .before .before .before .before .before .before .before .before .before .args .text .now) (c .before .before .before .read .given .0 .0) e in (taken _ _ d (same (ap octetsText o) (c .of-read .ensures .0)), c .of-read .ensures .1 ∙ ap (λ (l : List ℕ). eqb (octetsWhy l) 0) o ∙ sym (ap (λ (b : Bool). b && eqb (octetsWhy (octetsIn (c .before .before .before .before .before .before .before .before .before .args .text .now))) 0) d))
+
+-- src/lib.rt:183:1
+returns-2 : tie.Need-returns-2
+unfolding textWords
+returns-2 c = let e = sym (c .before .before .before .before .before .before .take-text .ensures .0) ∙ c .before .before .before .enum-told .given .1 in let d = not-digits (c .before .before .before .before .before .before .before .before .before .args .text .now) _ e in (left _ _ d (rw (c .before .why-no-text .ensures) at (c .no-line .ensures .0)), c .no-line .ensures .1 ∙ sym (ap (λ (b : Bool). b && eqb (octetsWhy (octetsIn (c .before .before .before .before .before .before .before .before .before .args .text .now))) 0) d))
+
+pub of-text-spec : {M : Type 1} → statement M
+of-text-spec =
+    tie.close
+    (tie.spec
+    slice-aggregate-take-text
+    take-text-requires
+    enum-known-read
+    of-read-requires
+    enum-told
+    why-no-text-requires
+    no-line-requires
+    returns
+    returns-2)

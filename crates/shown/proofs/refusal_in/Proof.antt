@@ -1,0 +1,81 @@
+use Prim.Native.Nat.{ℕ, zero, suc, _+_, _-_, _*_, _/_, _%_, _≤_, _<_}
+use mathlib.Core.Path.{_≡_, refl, sym, ap, _∙_}
+use native.Mathlib.Omega.{arith}
+use Rattle.words.specs.Says.{Says, same, nothing, then, taken, left}
+use Rattle.words.specs.Pieces.{partOf, numberText}
+use Rattle.names.specs.Names.{tableOf, looked-up}
+use Rattle.names.specs.Refusals.{refusalRows, refusalName}
+use lib.ListN.{length, take, drop}
+use lib.Seq.{length-take-le}
+use mathlib.Core.List.{List, [], _∷_, _++_}
+use mathlib.Core.Bool.{Bool, true, false, not, _&&_, _||_}
+use Rattle.model.specs.Quoted.{codes}
+use borrow.Author.Tests.{eq-eqb, ne-eqb, lt-ltb, le-ltb, le-leb, lt-leb}
+use lib.Dec.{leb, ltb, eqb}
+use Rattle.laws.specs.Tests.{pick, pick-true, pick-false}
+use Rattle.octets.specs.Numbers.{numberAt}
+use Rattle.shown.specs.Image.{begins}
+use Rattle.shown.specs.Line.{isKind, whyNoFrame, isEvent, formOf, whyNot, lineText, noLine, octetsWhy, octetsText, whyNoText, textWords, isDigits, smallOf, numberIn, refusalIn, isRefusal, refusedText, wordsOf, isLine}
+use Rattle.shown.specs.Read.{read-digits, read-octets, read-short, not-digits}
+use Rattle.lines.specs.Hex.{octetsIn}
+use Rattle.reader.specs.Answers.{takeText}
+use borrow.Author.Needs.{needs}
+use Rattle.shown.proofs.refusal_in.Statement.{statement}
+use Rattle.shown.proofs.refusal_in.Tie as tie
+use Rattle.shown.proofs.refusal_in.Reads as reads
+use Rattle.shown.proofs.refusal_in.Lts as lts
+use Rattle.decimals.proofs.read.Reads as read-reads
+use Rattle.shown.proofs.small.Reads as small-reads
+
+-- src/lib.rt:210:9
+returns : tie.Need-returns
+unfolding refusalIn Rattle.laws.specs.Tests.pick
+returns c = rw (lt-ltb _ _ (c .if1 .taken))
+
+-- src/lib.rt:212:39
+sub-read : tie.Need-sub-read
+sub-read c = search needs
+
+-- src/lib.rt:212:31
+slice-aggregate-read : tie.Need-slice-aggregate-read
+slice-aggregate-read c = sym (length-take-le _ _ (omega arith))
+
+-- src/lib.rt:212:9
+read-requires : tie.Need-read-requires
+read-requires c κs = search needs
+
+-- src/lib.rt:214:20
+enum-known-read : tie.Need-enum-known-read
+enum-known-read c = search needs
+
+-- src/lib.rt:214:26
+small-requires : tie.Need-small-requires
+small-requires c κs = search needs
+
+-- src/lib.rt:215:24
+enum-told : tie.Need-enum-told
+enum-told c = search needs
+
+-- src/lib.rt:205:1
+returns-2 : tie.Need-returns-2
+unfolding refusalIn numberIn Rattle.laws.specs.Tests.pick
+returns-2 c = rw (c .small .ensures, le-ltb _ _ (c .before .before .before .before .before .before .if1 .left), sym (c .before .before .before .before .read .ensures) ∙ c .before .before .read2 .given .1)
+
+-- src/lib.rt:205:1
+returns-3 : tie.Need-returns-3
+unfolding refusalIn numberIn Rattle.laws.specs.Tests.pick
+returns-3 c = rw (le-ltb _ _ (c .before .before .before .before .if1 .left), sym (c .before .before .read .ensures) ∙ c .enum-told .given .1)
+
+pub refusal-in-spec : {M : Type 1} → statement M
+refusal-in-spec =
+    tie.close
+    (tie.spec
+    returns
+    sub-read
+    slice-aggregate-read
+    read-requires
+    enum-known-read
+    small-requires
+    enum-told
+    returns-2
+    returns-3)

@@ -1,0 +1,58 @@
+use Prim.Native.Nat.{ℕ, zero, suc, _+_, _-_, _*_, _/_, _%_, _≤_, _<_}
+use mathlib.Core.Path.{_≡_, refl, sym, ap, _∙_}
+use native.Mathlib.Omega.{arith}
+use Rattle.words.specs.Says.{Says, same, nothing, then, taken, left}
+use Rattle.words.specs.Pieces.{partOf, numberText}
+use Rattle.names.specs.Names.{tableOf, looked-up}
+use Rattle.names.specs.Refusals.{refusalRows, refusalName}
+use lib.ListN.{length, take, drop}
+use lib.Seq.{length-take-le}
+use mathlib.Core.List.{List, [], _∷_, _++_}
+use mathlib.Core.Bool.{Bool, true, false, not, _&&_, _||_}
+use Rattle.model.specs.Quoted.{codes}
+use borrow.Author.Tests.{eq-eqb, ne-eqb, lt-ltb, le-ltb, le-leb, lt-leb}
+use lib.Dec.{leb, ltb, eqb}
+use Rattle.laws.specs.Tests.{pick, pick-true, pick-false}
+use Rattle.octets.specs.Numbers.{numberAt}
+use Rattle.shown.specs.Image.{begins}
+use Rattle.shown.specs.Line.{isKind, whyNoFrame, isEvent, formOf, whyNot, lineText, noLine, octetsWhy, octetsText, whyNoText, textWords, isDigits, smallOf, numberIn, refusalIn, isRefusal, refusedText, wordsOf, isLine}
+use Rattle.shown.specs.Read.{read-digits, read-octets, read-short, not-digits}
+use Rattle.lines.specs.Hex.{octetsIn}
+use Rattle.reader.specs.Answers.{takeText}
+use borrow.Author.Needs.{needs}
+use Rattle.shown.proofs.small.Statement.{statement}
+use Rattle.shown.proofs.small.Tie as tie
+use Rattle.shown.proofs.small.Reads as reads
+use Rattle.shown.proofs.small.Lts as lts
+use Rattle.names.proofs.find.Reads as find-reads
+
+-- src/lib.rt:224:9
+returns : tie.Need-returns
+unfolding smallOf Rattle.laws.specs.Tests.pick
+returns c = rw (lt-ltb _ _ (c .if1 .taken))
+
+-- src/lib.rt:226:13
+cast-n : tie.Need-cast-n
+cast-n c = search needs
+
+-- src/lib.rt:227:29
+slice-aggregate-find : tie.Need-slice-aggregate-find
+slice-aggregate-find c = search needs
+
+-- src/lib.rt:227:9
+find-requires : tie.Need-find-requires
+find-requires c κs = search needs
+
+-- src/lib.rt:229:9
+returns-2 : tie.Need-returns-2
+unfolding smallOf refusalName refusalRows tableOf codes Rattle.laws.specs.Tests.pick
+returns-2 c = let m : c .before .before .before .before .args .x % 256 ≡ c .before .before .before .before .args .x = omega arith in let q : c .before .find .result .now ≡ refusalName (c .before .before .before .before .args .x) = c .before .find .ensures ∙ looked-up refusalRows (c .before .before .before .before .args .x % 256) ∙ ap refusalName m in rw (le-ltb _ _ (c .before .before .before .if1 .left), eq-eqb (length (refusalName (c .before .before .before .before .args .x))) 0 (ap length (sym q) ∙ c .if2 .taken))
+
+-- src/lib.rt:220:1
+returns-3 : tie.Need-returns-3
+unfolding smallOf refusalName refusalRows tableOf codes Rattle.laws.specs.Tests.pick
+returns-3 c = let m : c .before .before .before .before .args .x % 256 ≡ c .before .before .before .before .args .x = omega arith in let q : c .before .find .result .now ≡ refusalName (c .before .before .before .before .args .x) = c .before .find .ensures ∙ looked-up refusalRows (c .before .before .before .before .args .x % 256) ∙ ap refusalName m in rw (le-ltb _ _ (c .before .before .before .if1 .left), ne-eqb (length (refusalName (c .before .before .before .before .args .x))) 0 (λ e. c .if2 .left (ap length q ∙ e)), m)
+
+pub small-spec : {M : Type 1} → statement M
+small-spec =
+    tie.close (tie.spec returns cast-n slice-aggregate-find find-requires returns-2 returns-3)
