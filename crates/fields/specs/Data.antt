@@ -1,9 +1,9 @@
 -- Advertisement data in words (docs/FORMATS.md, What `show` writes: AD structure). Definitions alone.
-use Prim.Native.Nat.{ℕ, zero, suc, _+_, _-_, min}
-use mathlib.Core.Bool.{Bool, true, false, not, _&&_, _||_}
+use Prim.Native.Nat.{ℕ, suc, _+_, min}
+use mathlib.Core.Bool.{Bool, false, not, _&&_, _||_}
 use mathlib.Core.List.{List, [], _∷_, _++_}
 use lib.Dec.{leb, ltb, eqb}
-use lib.ListN.{length, take, drop}
+use lib.ListN.{length, drop}
 use Rattle.laws.specs.Tests.{pick}
 use Rattle.octets.specs.Numbers.{numberAt}
 use Rattle.lines.specs.Hex.{hexOf}

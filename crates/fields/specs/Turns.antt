@@ -1,14 +1,14 @@
 -- Turns of the loops over the octets of names, structures, patterns and lists of UUIDs. Assumes nothing.
-use Prim.Native.Nat.{ℕ, zero, suc, _+_, _-_, _≤_, _<_, min}
-use mathlib.Core.Path.{_≡_, refl, sym, ap, _∙_}
-use mathlib.Core.List.{List, [], _∷_, _++_}
+use Prim.Native.Nat.{ℕ, suc, _+_, _-_, _≤_, _<_, min}
+use mathlib.Core.Path.{_≡_, sym, ap, _∙_}
+use mathlib.Core.List.{List, [], _++_}
 use native.Mathlib.Numerals.{add-one}
 use native.Mathlib.Omega.{arith}
 use lib.Dec.{leb, eqb}
 use lib.ListN.{length, take, drop, getD, length-drop, drop-of-length-le}
 use lib.Seq.{drop-cons}
 use Rattle.laws.specs.Tests.{pick}
-use Rattle.fields.specs.Cuts.{allOf, all-none, all-next}
+use Rattle.fields.specs.Cuts.{all-none, all-next}
 use Rattle.fields.specs.Data.{sizeOf, characterText, charactersText, nextOf, uuidIn, uuidsText, structureText, structuresText}
 use Rattle.fields.specs.Monitors.{patternText, patternsText}
 

@@ -5,14 +5,14 @@ use Prim.Native.String.{String}
 use mathlib.Core.Path.{_≡_, refl, sym, ap, _∙_}
 use mathlib.Core.Bool.{Bool, true, false}
 use mathlib.Core.List.{List, [], _∷_, _++_}
-use native.Mathlib.Nat.{add-zero, zero-add}
 use native.Mathlib.Numerals.{add-one, add-two}
 use native.Mathlib.Omega.{arith}
-use borrow.Author.Tests.{le-leb, lt-leb, eq-eqb, ne-eqb}
+use borrow.Author.Tests.{leb-true, le-leb, lt-leb, eq-eqb, ne-eqb}
 use lib.Dec.{leb, eqb}
 use lib.ListN.{length, take, drop, getD, length-append, length-drop, drop-of-length-le}
-use lib.Seq.{drop-cons, drop-drop, take-append-seam, drop-at, drop-append-add}
-use Rattle.laws.specs.Tests.{pick, pick-true, pick-false}
+use lib.Seq.{drop-cons, drop-drop, take-append-seam, drop-at}
+use Rattle.laws.specs.Tests.{pick, pick-true, pick-false, and-left, and-right}
+use Rattle.laws.specs.Loops.{every}
 use Rattle.model.specs.Quoted.{codes}
 
 -- a number and its name
@@ -66,6 +66,20 @@ looked-up (r ∷ l) x =
     name-row (r .number) (length w) (w ++ tableOf l) x
     ∙ pick-true (pick (eqb (r .number) x) (take (length w) (w ++ tableOf l)) (nameIn (drop (length w) (w ++ tableOf l)) x)) [] k
     ∙ rw (take-append-seam, drop-at w (tableOf l) (length w) refl, looked-up l x)
+
+-- no name is longer than the longest of the rows
+unfoldable pub isShort : ℕ → Row → Bool
+isShort m r = leb (length (codes (r .name))) m
+
+pub named-most : (l : List Row) (m x : ℕ) → every (isShort m) l ≡ true → length (named l x) ≤ m
+unfolding named every isShort
+named-most [] m x e = omega arith
+named-most (r ∷ l) m x e =
+    go (eqb (r .number) x) (leb-true (length (codes (r .name))) m (and-left (isShort m r) (every (isShort m) l) e)) (named-most l m x (and-right (isShort m r) (every (isShort m) l) e))
+  where
+    go : (b : Bool) → length (codes (r .name)) ≤ m → length (named l x) ≤ m → length (pick b (codes (r .name)) (named l x)) ≤ m
+    go true h k = rw (pick-true (codes (r .name)) (named l x) refl) h
+    go false h k = rw (pick-false (codes (r .name)) (named l x) refl) k
 
 -- turns of the loop that looks a number up: at index i what is left has the same name
 module _ (t : List ℕ) (i x : ℕ) (q : nameIn (drop i t) x ≡ nameIn t x) where

@@ -1,8 +1,8 @@
 -- No message is longer than its room: none is cut. Assumes nothing.
-use Prim.Native.Nat.{ℕ, zero, suc, _+_, _-_, _/_, _≤_, _<_}
-use mathlib.Core.Path.{_≡_, refl, sym, ap, _∙_}
+use Prim.Native.Nat.{ℕ, _-_, _/_, _≤_, _<_}
+use mathlib.Core.Path.{_≡_, sym, ap, _∙_}
 use mathlib.Core.Bool.{Bool, true, false, not, _&&_}
-use mathlib.Core.List.{List, [], _∷_, _++_}
+use mathlib.Core.List.{List, [], _++_}
 use native.Mathlib.Omega.{arith}
 use borrow.Author.Tests.{lt-ltb, le-ltb, eq-eqb, ne-eqb}
 use lib.Dec.{ltb, eqb}
@@ -15,9 +15,9 @@ use Rattle.lines.specs.Frame.{lineRoom}
 use Rattle.refusals.specs.Numbers.{number}
 use Rattle.turns.specs.Swap.{longLine}
 use Rattle.takeover.specs.declared.Next.{Next}
-use Rattle.takeover.specs.declared.Next.the-variants.{Stopped}
 use Rattle.takeover.specs.declared.Flow.{Flow}
-use Rattle.reports.specs.Texts.{room, next, additionReason, reasonOf, restOf, reasonText, gapText, stopText, isEnded, sizeText, pieceText, countsText, refusedOf, summaryOf, warns, warningOf, progressOf, every}
+use Rattle.reports.specs.Texts.{room, next, reasonOf, restOf, reasonText, gapText, stopText, isEnded, sizeText, pieceText, countsText, refusedOf, summaryOf, warns, warningOf, progressOf, every}
+use Rattle.names.specs.Refusals.{refusalName, refusal-most}
 use Rattle.model.specs.Quoted.{codes}
 use Rattle.reports.specs.Joined.{joined, whole}
 
@@ -31,15 +31,9 @@ unfolding pick
 either true xs ys n h k = h
 either false xs ys n h k = k
 
-addition-most : (n : ℕ) → length (additionReason n) ≤ 50
-unfolding additionReason codes
-addition-most n = either (eqb n 13) _ _ 50 (omega arith) (either (eqb n 14) _ _ 50 (omega arith) (either (eqb n 15) _ _ 50 (omega arith) (omega arith)))
-
 reason-most : (n : ℕ) → length (reasonOf n) ≤ 50
 unfolding reasonOf codes
-reason-most n =
-    either (eqb n 2) _ _ 50 (omega arith) (either (eqb n 4) _ _ 50 (omega arith) (either (eqb n 5) _ _ 50 (omega arith) (
-    either (eqb n 6) _ _ 50 (omega arith) (either (eqb n 7) _ _ 50 (omega arith) (either (eqb n 10) _ _ 50 (omega arith) (addition-most n))))))
+reason-most n = either (eqb (length (refusalName n)) 0) _ _ 50 (omega arith) (simp length-append (omega (arith, refusal-most n)))
 
 text-most : (n : ℕ) → length (reasonText n) ≤ 83
 unfolding reasonText codes

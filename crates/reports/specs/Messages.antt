@@ -1,41 +1,43 @@
 -- The messages put together, branch by branch, and that none is longer than its room. Assumes nothing.
-use Prim.Native.Nat.{ℕ, zero, suc, _+_, _-_, _*_, _/_, _≤_, _<_, min}
-use mathlib.Core.Path.{_≡_, refl, sym, ap, _∙_, subst}
+use Prim.Native.Nat.{ℕ, _-_, _≤_, _<_}
+use mathlib.Core.Path.{_≡_, sym, ap, _∙_}
 use mathlib.Core.Bool.{Bool, true, false, not, _&&_}
-use mathlib.Core.List.{List, [], _∷_, _++_, append-assoc, append-nil}
+use mathlib.Core.List.{List, [], _++_, append-assoc}
 use native.Mathlib.Omega.{arith}
-use borrow.Author.Tests.{eq-eqb, ne-eqb, lt-ltb, le-ltb, lt-leb}
-use lib.Dec.{leb, ltb, eqb}
-use lib.ListN.{length, take, length-append, length-take}
-use lib.Seq.{length-take-le}
+use borrow.Author.Tests.{eq-eqb, ne-eqb, lt-ltb, le-ltb}
+use lib.Dec.{ltb, eqb}
+use lib.ListN.{length, take}
 use Rattle.laws.specs.Put.{put, take-put}
-use Rattle.laws.specs.Tests.{pick, pick-true, pick-false, and-both, and-not-left, and-not-right, cases-le}
-use Rattle.octets.specs.Numbers.{numberAt}
+use Rattle.laws.specs.Tests.{pick-true, pick-false, and-not-left, and-not-right, cases-le}
 use Rattle.decimals.specs.Decimals.{decimal}
-use Rattle.decimals.specs.Writing.{digits-most}
 use Rattle.lines.specs.Frame.{lineRoom}
 use Rattle.reader.specs.Pairs.{leading, leading-room}
 use Rattle.turns.specs.Swap.{longLine}
 use Rattle.takeover.specs.declared.Next.{Next}
-use Rattle.takeover.specs.declared.Next.the-variants.{Read, Again, Ended, Stopped}
 use Rattle.takeover.specs.declared.Flow.{Flow}
-use Rattle.reports.specs.Texts.{room, next, additionReason, reasonOf, reasonText, gapText, stopText, foundIn, isEnded, sizeText, pieceText, countsText, summaryOf, warns, warningOf, progressOf, every}
+use Rattle.reports.specs.Texts.{room, next, reasonOf, reasonText, gapText, stopText, isEnded, sizeText, pieceText, countsText, warns}
+use Rattle.names.specs.Refusals.{refusalName}
 use Rattle.model.specs.Quoted.{codes}
-use Rattle.reports.specs.Joined.{joined, whole}
+use Rattle.reports.specs.Joined.{joined}
 
 -- a text by another bracketing
 recut : (xs ys : List ℕ) {r : List ℕ} → r ≡ take room xs → xs ≡ ys → r ≡ take room ys
 recut xs ys e q = e ∙ ap (λ (l : List ℕ). take room l) q
 
--- a refusal with other words
-pub reason-none : (n : ℕ) → (n ≡ 2 → ⊥) → (n ≡ 4 → ⊥) → (n ≡ 5 → ⊥) → (n ≡ 6 → ⊥) → (n ≡ 7 → ⊥) → (n ≡ 10 → ⊥) → additionReason n ≡ reasonOf n
-unfolding reasonOf pick
-reason-none n a b c d e f = rw (ne-eqb n 2 a, ne-eqb n 4 b, ne-eqb n 5 c, ne-eqb n 6 d, ne-eqb n 7 e, ne-eqb n 10 f) refl
+-- the words of a refusal, or none
+pub reason-some : (t : List ℕ) (n : ℕ) {name a b r : List ℕ} → name ≡ refusalName n → (length name ≡ 0 → ⊥) → a ≡ take room (t ++ codes " (")
+    → b ≡ take room (a ++ name) → r ≡ take room (b ++ codes ")") → r ≡ take room (t ++ reasonOf n)
+unfolding reasonOf
+reason-some t n {name} k z e g q =
+    let w = joined ((t ++ codes " (") ++ name) (codes ")") (joined (t ++ codes " (") name e g) q in
+    recut (((t ++ codes " (") ++ name) ++ codes ")") (t ++ (codes " (" ++ name ++ codes ")")) w (simp append-assoc)
+    ∙ ap (λ (l : List ℕ). take room (t ++ (codes " (" ++ l ++ codes ")"))) k
+    ∙ ap (λ (l : List ℕ). take room (t ++ l)) (sym (pick-false [] (codes " (" ++ refusalName n ++ codes ")") (ne-eqb (length (refusalName n)) 0 (λ x. z (ap length k ∙ x)))))
 
--- an addition's refusal without words
-pub addition-none : (n : ℕ) → (n ≡ 13 → ⊥) → (n ≡ 14 → ⊥) → (n ≡ 15 → ⊥) → [] ≡ additionReason n
-unfolding additionReason pick
-addition-none n a b c = rw (ne-eqb n 13 a, ne-eqb n 14 b, ne-eqb n 15 c) refl
+pub reason-none : (t : List ℕ) (n : ℕ) {name r : List ℕ} → name ≡ refusalName n → length name ≡ 0 → r ≡ take room (t ++ []) → r ≡ take room (t ++ reasonOf n)
+unfolding reasonOf
+reason-none t n k z e =
+    e ∙ ap (λ (l : List ℕ). take room (t ++ l)) (sym (pick-true [] (codes " (" ++ refusalName n ++ codes ")") (eq-eqb (length (refusalName n)) 0 (ap length (sym k) ∙ z))))
 
 module _ (t : List ℕ) {r : List ℕ} where
   pub refused-so : (n : ℕ) {s : List ℕ} → s ≡ take room (t ++ (codes ": refused by " ++ decimal n)) → r ≡ take room (s ++ reasonOf n)

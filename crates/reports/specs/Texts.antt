@@ -1,8 +1,8 @@
 -- What the program of a standby says on standard error (man/standby.1). Definitions alone.
-use Prim.Native.Nat.{ℕ, zero, suc, _+_, _-_, _*_, _/_, min}
+use Prim.Native.Nat.{ℕ, _+_, _-_, _/_, min}
 use mathlib.Core.Bool.{Bool, true, false, not, _&&_}
-use mathlib.Core.List.{List, [], _∷_, _++_}
-use lib.Dec.{leb, ltb, eqb}
+use mathlib.Core.List.{List, [], _++_}
+use lib.Dec.{ltb, eqb}
 use lib.ListN.{length, take}
 use Rattle.laws.specs.Tests.{pick}
 use Rattle.octets.specs.Numbers.{numberAt}
@@ -10,6 +10,7 @@ use Rattle.decimals.specs.Decimals.{decimal, top}
 use Rattle.refusals.specs.declared.Refusal.{Refusal}
 use Rattle.lines.specs.Frame.{lineRoom}
 use Rattle.refusals.specs.Numbers.{number}
+use Rattle.names.specs.Refusals.{refusalName}
 use Rattle.model.specs.Quoted.{codes}
 use Rattle.reader.specs.Pairs.{leading}
 use Rattle.turns.specs.Swap.{longLine}
@@ -32,18 +33,9 @@ told t = take (t .count) (t .octets)
 unfoldable pub next : ℕ → ℕ
 next n = min (n + 1) top
 
--- the number of a refused addition in words (document 02, T-12)
-unfoldable pub additionReason : ℕ → List ℕ
-additionReason n =
-    pick (eqb n 13) (codes " (list of editions full)") (pick (eqb n 14) (codes " (number not rising or not above the position)") (
-    pick (eqb n 15) (codes " (prefix too long)") []))
-
--- a refusal's number in words
+-- a refusal's number in words, where it is a refusal's
 unfoldable pub reasonOf : ℕ → List ℕ
-reasonOf n =
-    pick (eqb n 2) (codes " (gap)") (pick (eqb n 4) (codes " (not a line)") (pick (eqb n 5) (codes " (payload not of its kind's form)") (
-    pick (eqb n 6) (codes " (another opcode)") (pick (eqb n 7) (codes " (the state is not sound)") (
-    pick (eqb n 10) (codes " (not an image of a sound state)") (additionReason n))))))
+reasonOf n = pick (eqb (length (refusalName n)) 0) [] (codes " (" ++ refusalName n ++ codes ")")
 
 -- a refusal
 unfoldable pub reasonText : ℕ → List ℕ

@@ -5,7 +5,7 @@ ghost use mathlib.Core.Bool.{_&&_, not};
 ghost use Prim.Native.Nat.{_-_, _≤_};
 ghost use lib.ListN.{length, take};
 ghost use lib.Dec.{eqb};
-ghost use Rattle.reports.specs.Texts.{room, told, next as nextOf, additionReason, reasonOf, reasonText, gapText, stopText, foundIn, isEnded, sizeText, pieceText, warns as warnsOf, countsText};
+ghost use Rattle.reports.specs.Texts.{room, told, next as nextOf, reasonOf, reasonText, gapText, stopText, foundIn, isEnded, sizeText, pieceText, warns as warnsOf, countsText};
 use super::Text;
 use crate::words::blank;
 use crate::words::said;
@@ -32,45 +32,17 @@ fn next(n: u64) -> u64
     n
 }
 
-// The number of a refused addition in words, behind a text.
-fn added(t: Text, number: u8) -> Text
-    ensures { λ r. ⌜ told r ≡ take room (told t ++ additionReason number) ⌝ }
-{
-    if number == 13 {
-        return with(t, b" (list of editions full)");
-    }
-    if number == 14 {
-        return with(t, b" (number not rising or not above the position)");
-    }
-    if number == 15 {
-        return with(t, b" (prefix too long)");
-    }
-    with(t, b"")
-}
-
 // A refusal's number in words, behind a text.
 fn reasoned(t: Text, number: u8) -> Text
     ensures { λ r. ⌜ told r ≡ take room (told t ++ reasonOf number) ⌝ }
 {
-    if number == GAP {
-        return with(t, b" (gap)");
+    let name = names::find(&names::REFUSALS, number);
+    if name.len() == 0 {
+        return with(t, b"");
     }
-    if number == 4 {
-        return with(t, b" (not a line)");
-    }
-    if number == 5 {
-        return with(t, b" (payload not of its kind's form)");
-    }
-    if number == 6 {
-        return with(t, b" (another opcode)");
-    }
-    if number == 7 {
-        return with(t, b" (the state is not sound)");
-    }
-    if number == 10 {
-        return with(t, b" (not an image of a sound state)");
-    }
-    added(t, number)
+    let open = with(t, b" (");
+    let named = with(open, name);
+    with(named, b")")
 }
 
 // A refusal behind a text.

@@ -1,16 +1,15 @@
 -- The lines of an image in words (docs/FORMATS.md, What `show` writes: A0 to AF). Definitions alone.
-use Prim.Native.Nat.{ℕ, zero, suc, _+_, _-_, _*_}
-use mathlib.Core.Bool.{Bool, true, false, not, _&&_, _||_}
-use mathlib.Core.List.{List, [], _∷_, _++_}
-use lib.Dec.{leb, ltb, eqb}
-use lib.ListN.{length, take, drop}
+use Prim.Native.Nat.{ℕ, _+_}
+use mathlib.Core.Bool.{Bool, _||_}
+use mathlib.Core.List.{List, [], _++_}
+use lib.Dec.{eqb}
+use lib.ListN.{length, drop}
 use Rattle.laws.specs.Tests.{pick}
 use Rattle.octets.specs.Numbers.{numberAt}
 use Rattle.decimals.specs.Decimals.{decimal}
-use Rattle.lines.specs.Hex.{hexOf}
 use Rattle.model.specs.Quoted.{codes}
 use Rattle.words.specs.Pieces.{partOf, numberText, dbm, sumText, deviceOf, deviceText}
-use Rattle.fields.specs.Names.{eventText, statusText, subText, whyText, switchText, changeWord, prefixText}
+use Rattle.fields.specs.Names.{eventText, switchText, prefixText}
 use Rattle.fields.specs.Data.{structuresText}
 use Rattle.fields.specs.Monitors.{conditionText, limitsText, peerText}
 

@@ -1,18 +1,14 @@
 -- A line in words, or why it is none (man/show.1; docs/FORMATS.md, What `show` writes). Definitions alone.
-use Prim.Native.Nat.{ℕ, zero, suc, _+_, _-_, _*_}
-use mathlib.Core.Bool.{Bool, true, false, not, _&&_, _||_}
-use mathlib.Core.List.{List, [], _∷_, _++_}
+use Prim.Native.Nat.{ℕ, _-_}
+use mathlib.Core.Bool.{Bool, true, not, _&&_, _||_}
+use mathlib.Core.List.{List, _++_}
 use lib.Dec.{leb, ltb, eqb}
-use lib.ListN.{length, take, drop}
+use lib.ListN.{length, take}
 use Rattle.laws.specs.Tests.{pick}
 use Rattle.octets.specs.Numbers.{numberAt}
 use Rattle.decimals.specs.Decimals.{decimal}
-use Rattle.lines.specs.Hex.{hexOf}
 use Rattle.model.specs.Quoted.{codes}
-use Rattle.words.specs.Pieces.{partOf, numberText, dbm, sumText, deviceOf, deviceText}
-use Rattle.fields.specs.Names.{eventText, statusText, subText, whyText, switchText, changeWord, prefixText}
-use Rattle.fields.specs.Data.{structuresText}
-use Rattle.fields.specs.Monitors.{conditionText, limitsText, peerText}
+use Rattle.fields.specs.Names.{whyText}
 use Rattle.decimals.specs.Decimals.{numberOf}
 use Rattle.decimals.specs.declared.Number.{Number}
 use Rattle.decimals.specs.declared.Number.the-variants.{Is, Not}

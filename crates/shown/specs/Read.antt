@@ -1,17 +1,16 @@
 -- What reading a text's digits says. Assumes nothing.
-use Prim.Native.Nat.{ℕ, zero, suc, _+_, _-_, _≤_, _<_}
-use mathlib.Core.Path.{_≡_, refl, sym, ap, _∙_}
-use mathlib.Core.Bool.{Bool, true, false, _&&_, false≢true}
-use mathlib.Core.List.{List, [], _∷_, _++_}
+use Prim.Native.Nat.{ℕ, _≤_}
+use mathlib.Core.Path.{_≡_, refl, ap, _∙_}
+use mathlib.Core.Bool.{Bool, true, false}
+use mathlib.Core.List.{List}
 use native.Mathlib.Omega.{arith}
 use borrow.Author.Tests.{leb-true}
 use lib.Dec.{leb}
-use lib.ListN.{length, take, drop}
+use lib.ListN.{length, take}
 use Rattle.laws.specs.Put.{put, take-put}
-use Rattle.laws.specs.Tests.{pick, pick-true, pick-false, and-left, and-right}
+use Rattle.laws.specs.Tests.{pick-true, pick-false, and-right}
 use Rattle.refusals.specs.declared.Refusal.{Refusal}
 use Rattle.refusals.specs.declared.Refusal.the-variants.{NotLine}
-use Rattle.refusals.specs.declared.Wrote.{Wrote}
 use Rattle.refusals.specs.declared.Wrote.the-variants.{Done, Refused}
 use Rattle.lines.specs.Hex.{isText, octetsIn}
 use Rattle.reader.specs.Pairs.{leading}

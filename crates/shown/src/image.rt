@@ -165,5 +165,10 @@ pub(super) fn size(s: &[u8]) -> usize
 pub(super) fn begins(kind: u8) -> bool
     ensures { λ r. ⌜ r ≡ beginsOf kind ⌝ }
 {
-    (kind == HEAD) | (kind == MONITOR) | (kind == PAIR) | (kind == EDITION) | (kind == MONITOR_2) | (kind == END)
+    (kind == HEAD)
+        | (kind == MONITOR)
+        | (kind == PAIR)
+        | (kind == EDITION)
+        | (kind == MONITOR_2)
+        | (kind == END)
 }

@@ -141,7 +141,10 @@ fn no_line(out: &mut [u8; ROOM], why: u8) -> Shown
 {
     let a = words::put(out, 0, b"not a line: ");
     let b = fields::terms::why(out, a, why);
-    Shown { count: b, good: false }
+    Shown {
+        count: b,
+        good: false,
+    }
 }
 
 // Why octets are no line, or that they are one.
@@ -163,7 +166,10 @@ fn of_octets(out: &mut [u8; ROOM], s: &[u8]) -> Shown
         return no_line(out, why);
     }
     let n = octets_in_words(out, s);
-    Shown { count: n, good: true }
+    Shown {
+        count: n,
+        good: true,
+    }
 }
 
 // Why a text that is not hexadecimal with an LF is no line.
@@ -238,7 +244,10 @@ fn of_refusal(out: &mut [u8; ROOM], x: u8) -> Shown
     let a = words::said(out, 0, b"refused by ", x as u64);
     let b = words::put(out, a, b": ");
     let c = fields::terms::refusal(out, b, x);
-    Shown { count: c, good: true }
+    Shown {
+        count: c,
+        good: true,
+    }
 }
 
 // Writes a line's words from the output's start on. The line has its LF, the words have none.

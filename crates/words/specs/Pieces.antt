@@ -1,28 +1,28 @@
 -- The pieces of a line in words: parts of octets, numbers, levels, addresses, UUIDs, names. Definitions, and the laws of putting them together.
 -- Assumes nothing.
-use Prim.Native.Nat.{ℕ, zero, suc, _+_, _-_, _*_, _/_, _%_, _≤_, _<_, min}
+use Prim.Native.Nat.{ℕ, suc, _+_, _-_, _*_, _%_, _≤_, _<_, min}
 use Prim.Native.String.{String}
-use mathlib.Core.Path.{_≡_, refl, sym, ap, _∙_}
+use mathlib.Core.Path.{_≡_, sym, ap, _∙_}
 use mathlib.Core.Bool.{Bool, true, false, _||_}
-use mathlib.Core.List.{List, [], _∷_, _++_, append-assoc, append-nil}
+use mathlib.Core.List.{List, [], _∷_, _++_}
 use native.Mathlib.Numerals.{add-one}
 use native.Mathlib.Omega.{arith}
-use borrow.Author.Tests.{le-leb, lt-leb, leb-true, eq-eqb, ne-eqb, lt-ltb, le-ltb}
+use borrow.Author.Tests.{le-leb, lt-leb}
 use lib.Dec.{leb, ltb, eqb}
-use lib.ListN.{length, take, drop, getD, length-append, drop-of-length-le}
+use lib.ListN.{length, take, drop, getD}
 use lib.Seq.{take-all, take-suc, drop-cons}
 use Rattle.laws.specs.Tests.{pick, pick-true, pick-false, cases-le}
 use Rattle.octets.specs.Numbers.{numberAt}
 use Rattle.decimals.specs.Decimals.{decimal}
 use Rattle.decimals.specs.Writing.{digits-most}
-use Rattle.lines.specs.Hex.{digit, hexOf}
+use Rattle.lines.specs.Hex.{hexOf}
 use Rattle.lines.specs.Texts.{hex-append}
 use Rattle.model.specs.Level.{level}
 use Rattle.model.specs.Quoted.{codes}
 use Rattle.names.specs.Names.{Row, named, tableOf, nameIn, looked-up}
 use Rattle.texts.specs.Text.{room}
 use Rattle.texts.specs.Words.{pairOf, colonPair, addressText, kindText, levelText}
-use Rattle.words.specs.Says.{Says, same, nothing, then, taken, left}
+use Rattle.words.specs.Says.{Says, same, nothing, then}
 
 -- so many octets from an index on; none where they do not lie within
 unfoldable pub partOf : List ℕ → ℕ → ℕ → List ℕ

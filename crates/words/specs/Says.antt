@@ -1,14 +1,14 @@
 -- Words put behind what an output has, as far as there is room. Definitions, and the laws of putting words one behind another and of choosing
 -- them. Assumes nothing.
 use Prim.Native.Nat.{ℕ, _+_, _-_, _≤_, _<_, min}
-use mathlib.Core.Path.{_≡_, refl, sym, ap, _∙_, subst}
+use mathlib.Core.Path.{_≡_, sym, ap, _∙_, subst}
 use mathlib.Core.Bool.{Bool, true, false}
-use mathlib.Core.List.{List, [], _∷_, _++_, append-assoc, append-nil}
+use mathlib.Core.List.{List, [], _++_, append-nil}
 use native.Mathlib.Nat.{add-zero, add-assoc}
 use native.Mathlib.Omega.{arith}
-use borrow.Author.Tests.{le-leb, lt-leb}
+use borrow.Author.Tests.{lt-leb}
 use lib.Dec.{leb}
-use lib.ListN.{length, take, drop, length-append, length-take}
+use lib.ListN.{length, take, length-append, length-take}
 use lib.Seq.{length-take-le, take-all, take-append-le, take-append-add}
 use Rattle.laws.specs.Put.{put, putIf, put-nil, put-put, put-of, put-if-false, length-put}
 use Rattle.laws.specs.Tests.{pick, pick-true, pick-false, cases-le}
@@ -76,9 +76,9 @@ joined {out} {at} {w} {out′} {r} {v} {out″} {q} h s t =
     let g : take k w ++ x ≡ take k (w ++ v) = sym (cut-two k w v) in
     record {
       text = t .text ∙ ap (put out′ r) f ∙ ap (λ (j : ℕ). put out′ j x) e ∙ ap (λ (l : List ℕ). put l (at + length (take k w)) x) (s .text)
-      ∙ put-put out at (take k w) x (omega arith) ∙ ap (put out at) g;
+          ∙ put-put out at (take k w) x (omega arith) ∙ ap (put out at) g;
       end = t .end ∙ ap (λ (l : List ℕ). r + length l) f ∙ ap (λ (j : ℕ). j + length x) e ∙ add-assoc at (length (take k w)) (length x)
-      ∙ ap (λ (j : ℕ). at + j) (sym (length-append (take k w) x) ∙ ap length g)
+          ∙ ap (λ (j : ℕ). at + j) (sym (length-append (take k w) x) ∙ ap length g);
     }
 
 -- words, and others behind them

@@ -1,16 +1,7 @@
-use Prim.Native.Nat.{ℕ, zero, suc, _+_, _-_, _*_, _/_, _%_, _≤_, _<_}
-use mathlib.Core.Path.{_≡_, refl, sym, ap, _∙_}
-use native.Mathlib.Omega.{arith}
-use Rattle.words.specs.Says.{Says, same, nothing, then, taken, left, copied}
-use Rattle.words.specs.Pieces.{partOf, numberText, dbm, sumText, deviceOf, deviceText, groupsText, uuidText, nameOr, part-in, part-out, decimal-held, told-cut, hex-turn, number-turn, kind-held, address-held, pair-held, level-held}
-use lib.ListN.{length, take, drop, length-drop, drop-of-length-le}
-use lib.Seq.{length-take-le, take-all, drop-length}
-use mathlib.Core.List.{List, [], _∷_, _++_}
+use Rattle.words.specs.Says.{then, taken, left}
+use Rattle.words.specs.Pieces.{uuidText}
 use Rattle.model.specs.Quoted.{codes}
-use borrow.Author.Tests.{eq-eqb, ne-eqb, lt-ltb, le-ltb, not-true, not-false}
-use Rattle.lines.specs.Hex.{hexOf}
-use Rattle.decimals.specs.Decimals.{decimal}
-use Rattle.texts.specs.Words.{levelText, kindText, addressText, pairOf}
+use borrow.Author.Tests.{eq-eqb, ne-eqb}
 use borrow.Author.Needs.{needs}
 use Rattle.words.proofs.uuid.Statement.{statement}
 use Rattle.words.proofs.uuid.Tie as tie

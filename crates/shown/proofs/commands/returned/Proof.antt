@@ -1,20 +1,7 @@
-use Prim.Native.Nat.{ℕ, zero, suc, _+_, _-_, _*_, _/_, _%_, _≤_, _<_}
-use mathlib.Core.Path.{_≡_, refl, sym, ap, _∙_}
-use native.Mathlib.Omega.{arith}
-use Rattle.words.specs.Says.{Says, same, nothing, then, taken, left}
-use Rattle.words.specs.Pieces.{partOf, numberText}
-use Rattle.names.specs.Names.{tableOf, looked-up}
-use Rattle.names.specs.Refusals.{refusalRows, refusalName}
-use lib.ListN.{length, take, drop}
-use lib.Seq.{length-take-le}
-use mathlib.Core.List.{List, [], _∷_, _++_}
-use mathlib.Core.Bool.{Bool, true, false, not, _&&_, _||_}
+use Rattle.words.specs.Says.{nothing, then, taken, left}
 use Rattle.model.specs.Quoted.{codes}
-use borrow.Author.Tests.{eq-eqb, ne-eqb, lt-ltb, le-ltb, le-leb, lt-leb}
-use lib.Dec.{leb, ltb, eqb}
-use Rattle.laws.specs.Tests.{pick, pick-true, pick-false}
-use Rattle.octets.specs.Numbers.{numberAt}
-use Rattle.shown.specs.Commands.{rawText, addText, add2Text, cancelText, enableText, parametersText, commandText, returnedText, completeText, expectedOf, isComplete}
+use borrow.Author.Tests.{eq-eqb, ne-eqb}
+use Rattle.shown.specs.Commands.{returnedText}
 use borrow.Author.Needs.{needs}
 use Rattle.shown.proofs.commands.returned.Statement.{statement}
 use Rattle.shown.proofs.commands.returned.Tie as tie
