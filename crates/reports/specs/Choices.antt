@@ -1,14 +1,14 @@
 -- The branches of the options, and images read as far as their room. Assumes nothing.
-use Prim.Native.Nat.{ℕ, _+_, _≤_, _<_}
+use Prim.Native.Nat.{ℕ, zero, suc, _+_, _≤_, _<_}
 use mathlib.Core.Path.{_≡_, refl, sym, ap, _∙_, subst}
 use mathlib.Core.Bool.{Bool, true, false, not, _&&_}
-use mathlib.Core.List.{List}
+use mathlib.Core.List.{List, [], _∷_, _++_}
 use native.Mathlib.Omega.{arith}
-use borrow.Author.Tests.{le-leb, lt-leb}
+use borrow.Author.Tests.{le-leb, lt-leb, eq-eqb, ne-eqb}
 use lib.Dec.{leb, eqb}
-use lib.ListN.{length, take}
+use lib.ListN.{length, take, length-take}
 use lib.Seq.{take-all, length-take-le}
-use Rattle.laws.specs.Tests.{pick, sames, and-not-left, and-not-right, cases-le}
+use Rattle.laws.specs.Tests.{pick, pick-true, pick-false, sames, and-both, and-not-left, and-not-right, cases-le}
 use Rattle.decimals.specs.Decimals.{numberOf}
 use Rattle.decimals.specs.declared.Number.{Number}
 use Rattle.sessions.specs.Machine.{saveRoom}

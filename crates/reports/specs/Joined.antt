@@ -1,17 +1,19 @@
 -- Texts put together. Assumes nothing.
-use Prim.Native.Nat.{ℕ, _+_, _-_, _≤_, _<_, min}
-use mathlib.Core.Path.{_≡_, sym, ap, _∙_}
-use mathlib.Core.Bool.{Bool}
-use mathlib.Core.List.{List, _++_, append-assoc}
+use Prim.Native.Nat.{ℕ, zero, suc, _+_, _-_, _≤_, _<_, min}
+use mathlib.Core.Path.{_≡_, refl, sym, ap, _∙_, subst}
+use mathlib.Core.Bool.{Bool, true, false}
+use mathlib.Core.List.{List, [], _∷_, _++_, append-assoc, append-nil}
+use native.Mathlib.Nat.{add-zero, zero-add}
 use native.Mathlib.Omega.{arith}
+use borrow.Author.Tests.{le-leb}
 use lib.Dec.{leb}
-use lib.ListN.{length, take, drop, length-append}
-use lib.Seq.{length-take-le, take-all, take-append-le, take-append-add, take-at}
+use lib.ListN.{length, take, drop, length-append, length-take}
+use lib.Seq.{length-take-le, take-all, take-append-le, take-append-add, take-at, take-append-seam, take-length}
 use Rattle.laws.specs.Put.{put, putIf, put-of, take-put}
 use Rattle.laws.specs.Tests.{cases-le}
 use Rattle.decimals.specs.Decimals.{decimal, decimalIn, writtenIn}
 use Rattle.decimals.specs.Writing.{written-in, digits-most}
-use Rattle.reports.specs.Texts.{room}
+use Rattle.reports.specs.Texts.{room, told}
 
 -- what was cut before is cut no less behind more
 pub cut-again : (n : ℕ) (xs ys : List ℕ) → take n (take n xs ++ ys) ≡ take n (xs ++ ys)

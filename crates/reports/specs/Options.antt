@@ -1,7 +1,7 @@
 -- What the options of the program ask (man/standby.1), and what an image's file holds. Definitions alone.
-use Prim.Native.Nat.{ℕ, _+_}
+use Prim.Native.Nat.{ℕ, zero, suc, _+_}
 use mathlib.Core.Bool.{Bool, true, false, not, _&&_}
-use mathlib.Core.List.{List}
+use mathlib.Core.List.{List, [], _∷_, _++_}
 use lib.Dec.{leb, eqb}
 use lib.ListN.{length, take}
 use Rattle.laws.specs.Tests.{pick, sames}
