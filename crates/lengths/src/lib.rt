@@ -1,0 +1,1 @@
+// No line has more words than the room of an output: definitions and laws alone.
