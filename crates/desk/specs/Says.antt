@@ -10,8 +10,8 @@ use lib.ListN.{take}
 use Rattle.laws.specs.Tests.{pick, pick-true, pick-false}
 use Rattle.decimals.specs.Decimals.{decimal}
 use Rattle.model.specs.Quoted.{codes}
-use Rattle.reports.specs.Texts.{room}
-use Rattle.reports.specs.Joined.{joined}
+use Rattle.texts.specs.Text.{room}
+use Rattle.texts.specs.Joined.{joined}
 use Rattle.index.specs.declared.Watch.{Watch}
 use Rattle.index.specs.declared.Watch.the-variants.{By, Nobody}
 

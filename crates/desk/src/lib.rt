@@ -1,13 +1,13 @@
 // What the program of the service desk is asked and says: a device's address as people write it, its type, and which monitors watch it, in
 // words (document 02, T-02).
 use index::Watch;
-use reports::Text;
-use reports::words;
+use texts::Text;
+use texts::words;
 ghost use Prim.Native.Nat.{_+_, _≤_};
 ghost use mathlib.Core.Path.{_≡_};
 ghost use mathlib.Core.List.{_++_, _∷_, []};
 ghost use lib.ListN.{take};
-ghost use Rattle.reports.specs.Texts.{room, told};
+ghost use Rattle.texts.specs.Text.{room, told};
 ghost use Rattle.desk.specs.Written.{digitOf, isPair, isColon, octetAt, isAddress, addressIn, typeOf};
 ghost use Rattle.desk.specs.Says.{wordOf, byText, sentenceOf};
 

@@ -16,10 +16,11 @@ use Rattle.refusals.specs.Numbers.{number}
 use Rattle.turns.specs.Swap.{longLine}
 use Rattle.takeover.specs.declared.Next.{Next}
 use Rattle.takeover.specs.declared.Flow.{Flow}
-use Rattle.reports.specs.Texts.{room, next, reasonOf, restOf, reasonText, gapText, stopText, isEnded, sizeText, pieceText, countsText, refusedOf, summaryOf, warns, warningOf, progressOf, every}
+use Rattle.texts.specs.Text.{room}
+use Rattle.reports.specs.Texts.{next, reasonOf, restOf, reasonText, gapText, stopText, isEnded, sizeText, pieceText, countsText, refusedOf, summaryOf, warns, warningOf, progressOf, every}
 use Rattle.names.specs.Refusals.{refusalName, refusal-most}
 use Rattle.model.specs.Quoted.{codes}
-use Rattle.reports.specs.Joined.{joined, whole}
+use Rattle.texts.specs.Joined.{joined, whole}
 
 digits : (n : ℕ) → length (decimal n) ≤ 20
 unfolding decimal

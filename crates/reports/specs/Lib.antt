@@ -1,6 +1,5 @@
 -- What the program of a standby says and asks.
 pub mod Texts
-pub mod Joined
 pub mod Messages
 pub mod Fits
 pub mod Options

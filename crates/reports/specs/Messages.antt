@@ -15,10 +15,11 @@ use Rattle.reader.specs.Pairs.{leading, leading-room}
 use Rattle.turns.specs.Swap.{longLine}
 use Rattle.takeover.specs.declared.Next.{Next}
 use Rattle.takeover.specs.declared.Flow.{Flow}
-use Rattle.reports.specs.Texts.{room, next, reasonOf, reasonText, gapText, stopText, isEnded, sizeText, pieceText, countsText, warns}
+use Rattle.texts.specs.Text.{room}
+use Rattle.reports.specs.Texts.{next, reasonOf, reasonText, gapText, stopText, isEnded, sizeText, pieceText, countsText, warns}
 use Rattle.names.specs.Refusals.{refusalName}
 use Rattle.model.specs.Quoted.{codes}
-use Rattle.reports.specs.Joined.{joined}
+use Rattle.texts.specs.Joined.{joined}
 
 -- a text by another bracketing
 recut : (xs ys : List ℕ) {r : List ℕ} → r ≡ take room xs → xs ≡ ys → r ≡ take room ys

@@ -19,15 +19,6 @@ use Rattle.engine.specs.declared.Stop.the-variants.{End, Refused as Halted}
 use Rattle.takeover.specs.declared.Next.{Next}
 use Rattle.takeover.specs.declared.Next.the-variants.{Read, Again, Ended, Stopped}
 use Rattle.takeover.specs.declared.Flow.{Flow}
-use Rattle.reports.specs.declared.Text.{Text}
-
--- more characters than any of the texts has
-abbrev pub room : ℕ
-room = 256
-
--- a text's characters
-unfoldable pub told : Text → List ℕ
-told t = take (t .count) (t .octets)
 
 -- one more
 unfoldable pub next : ℕ → ℕ

@@ -4,29 +4,22 @@ ghost use mathlib.Core.Path.{_≡_};
 ghost use Prim.Native.Nat.{_≤_};
 ghost use Rattle.reports.specs.Choices.{Loads};
 ghost use Rattle.reports.specs.Options.{plainAsked, optionOf, firstName, fitsOf, addsOf, isDash as isDashOf, namesOf, threeOf};
-ghost use Rattle.reports.specs.Texts.{told, stopOf, additionBy, restOf, refusedOf, summaryOf, warningOf, progressOf};
+ghost use Rattle.texts.specs.Text.{told};
+ghost use Rattle.reports.specs.Texts.{stopOf, additionBy, restOf, refusedOf, summaryOf, warningOf, progressOf};
 use engine::Restored;
 use engine::Stop;
 use index::Whole;
 use refusals::Refusal;
 use takeover::Flow;
 use takeover::Next;
+use texts::Text;
+use texts::words;
 
 mod messages;
 mod options;
-pub mod words;
-
-// More characters than any of the texts has.
-pub const ROOM: usize = 256;
 
 // One octet more than the longest image has: a file that fills it is no image.
 pub const IMAGE_ROOM: usize = Whole::IMAGE + 1;
-
-// A text: its characters stand at the start.
-pub struct Text {
-    pub octets: [u8; ROOM],
-    pub count: usize,
-}
 
 // What the options ask: answers above a number, where one is given, with their numbers or without, with words on how far it is;
 // and whether that number is one.

@@ -5,14 +5,15 @@ ghost use mathlib.Core.Bool.{_&&_, not};
 ghost use Prim.Native.Nat.{_-_, _≤_};
 ghost use lib.ListN.{length, take};
 ghost use lib.Dec.{eqb};
-ghost use Rattle.reports.specs.Texts.{room, told, next as nextOf, reasonOf, reasonText, gapText, stopText, foundIn, isEnded, sizeText, pieceText, warns as warnsOf, countsText};
-use super::Text;
-use crate::words::blank;
-use crate::words::said;
-use crate::words::with;
+ghost use Rattle.texts.specs.Text.{room, told};
+ghost use Rattle.reports.specs.Texts.{next as nextOf, reasonOf, reasonText, gapText, stopText, foundIn, isEnded, sizeText, pieceText, warns as warnsOf, countsText};
 use state::State;
 use takeover::Flow;
 use takeover::Next;
+use texts::Text;
+use texts::words::blank;
+use texts::words::said;
+use texts::words::with;
 
 // The numbers of refusals that words say.
 const GAP: u8 = 2;

@@ -1,6 +1,6 @@
 // Standard error.
 use libc::STDERR_FILENO;
-use reports::Text;
+use texts::Text;
 
 pub(super) fn say(text: &[u8]) {
     io::write_all(STDERR_FILENO, text);
@@ -10,7 +10,7 @@ pub(super) fn say(text: &[u8]) {
 pub(super) fn say_text(text: Text) {
     let octets = text.octets;
     let n = text.count;
-    if n <= reports::ROOM {
+    if n <= texts::ROOM {
         say(&octets[..n]);
     }
 }

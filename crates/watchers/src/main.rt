@@ -8,7 +8,7 @@ use index::Whole;
 use libc::STDERR_FILENO;
 use libc::STDOUT_FILENO;
 use refusals::Refusal;
-use reports::Text;
+use texts::Text;
 
 // The exit status where no monitor watches the device.
 const NOBODY: u8 = 1;
@@ -17,7 +17,7 @@ const NOBODY: u8 = 1;
 fn put(fd: i32, text: Text) -> bool {
     let octets = text.octets;
     let n = text.count;
-    if n <= reports::ROOM {
+    if n <= texts::ROOM {
         return io::write_all(fd, &octets[..n]);
     }
     false

@@ -7,9 +7,9 @@ use Rattle.desk.proofs.by.Tie as tie
 use Rattle.desk.proofs.by.Reads as reads
 use Rattle.desk.proofs.by.Lts as lts
 use Rattle.desk.proofs.counted.Reads as counted-reads
-use Rattle.reports.proofs.words.blank.Reads as blank-reads
-use Rattle.reports.proofs.words.said.Reads as said-reads
-use Rattle.reports.proofs.words.with.Reads as with-reads
+use Rattle.texts.proofs.words.blank.Reads as blank-reads
+use Rattle.texts.proofs.words.said.Reads as said-reads
+use Rattle.texts.proofs.words.with.Reads as with-reads
 
 -- src/lib.rt:122:25
 blank-requires : tie.Need-blank-requires

@@ -1,5 +1,5 @@
 use Rattle.desk.specs.Says.{word-one, word-more}
-use Rattle.reports.specs.Texts.{told}
+use Rattle.texts.specs.Text.{told}
 use Rattle.model.specs.Quoted.{codes}
 use mathlib.Core.Path.{sym, _∙_}
 use borrow.Author.Needs.{needs}
@@ -7,7 +7,7 @@ use Rattle.desk.proofs.counted.Statement.{statement}
 use Rattle.desk.proofs.counted.Tie as tie
 use Rattle.desk.proofs.counted.Reads as reads
 use Rattle.desk.proofs.counted.Lts as lts
-use Rattle.reports.proofs.words.with.Reads as with-reads
+use Rattle.texts.proofs.words.with.Reads as with-reads
 
 -- src/lib.rt:113:31
 slice-aggregate-with : tie.Need-slice-aggregate-with

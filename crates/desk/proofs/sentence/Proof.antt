@@ -7,8 +7,8 @@ use Rattle.desk.proofs.sentence.Tie as tie
 use Rattle.desk.proofs.sentence.Reads as reads
 use Rattle.desk.proofs.sentence.Lts as lts
 use Rattle.desk.proofs.by.Reads as by-reads
-use Rattle.reports.proofs.words.blank.Reads as blank-reads
-use Rattle.reports.proofs.words.with.Reads as with-reads
+use Rattle.texts.proofs.words.blank.Reads as blank-reads
+use Rattle.texts.proofs.words.with.Reads as with-reads
 
 -- src/lib.rt:132:28
 enum-known-w : tie.Need-enum-known-w

@@ -8,7 +8,7 @@ use Rattle.reports.proofs.addition.Reads as reads
 use Rattle.reports.proofs.addition.Lts as lts
 use Rattle.refusals.proofs.number_of.Reads as number-of-reads
 use Rattle.reports.proofs.messages.stopped.Reads as stopped-reads
-use Rattle.reports.proofs.words.blank.Reads as blank-reads
+use Rattle.texts.proofs.words.blank.Reads as blank-reads
 
 -- src/lib.rt:68:22
 enum-told : tie.Need-enum-told

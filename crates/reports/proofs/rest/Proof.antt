@@ -5,8 +5,8 @@ use Rattle.reports.proofs.rest.Statement.{statement}
 use Rattle.reports.proofs.rest.Tie as tie
 use Rattle.reports.proofs.rest.Reads as reads
 use Rattle.reports.proofs.rest.Lts as lts
-use Rattle.reports.proofs.words.blank.Reads as blank-reads
-use Rattle.reports.proofs.words.with.Reads as with-reads
+use Rattle.texts.proofs.words.blank.Reads as blank-reads
+use Rattle.texts.proofs.words.with.Reads as with-reads
 
 -- src/lib.rt:78:9
 blank-requires : tie.Need-blank-requires

@@ -1,6 +1,6 @@
 use Rattle.reports.specs.Texts.{stopBy, stopOf, foundIn, stopText}
 use Rattle.reports.specs.Fits.{stop-whole, refused-whole, summary-whole, warning-some, warning-none, progress-some, progress-none}
-use Rattle.reports.specs.Texts.{room, told}
+use Rattle.texts.specs.Text.{room, told}
 use mathlib.Core.Path.{_≡_, refl, sym, ap, _∙_}
 use native.Mathlib.Omega.{arith}
 use borrow.Author.Needs.{needs}
@@ -11,7 +11,7 @@ use Rattle.reports.proofs.stop.Lts as lts
 use Rattle.refusals.proofs.number_of.Reads as number-of-reads
 use Rattle.reports.proofs.messages.found_in.Reads as found-in-reads
 use Rattle.reports.proofs.messages.stopped.Reads as stopped-reads
-use Rattle.reports.proofs.words.blank.Reads as blank-reads
+use Rattle.texts.proofs.words.blank.Reads as blank-reads
 
 -- src/lib.rt:52:23
 enum-told : tie.Need-enum-told

@@ -1,5 +1,5 @@
 use Rattle.reports.specs.Fits.{stop-whole, refused-whole, summary-whole, warning-some, warning-none, progress-some, progress-none}
-use Rattle.reports.specs.Texts.{room, told}
+use Rattle.texts.specs.Text.{room, told}
 use Rattle.model.specs.Quoted.{codes}
 use mathlib.Core.Path.{_≡_, refl, sym, ap, _∙_}
 use native.Mathlib.Omega.{arith}
@@ -10,7 +10,7 @@ use Rattle.reports.proofs.summary.Reads as reads
 use Rattle.reports.proofs.summary.Lts as lts
 use Rattle.reports.proofs.messages.counted.Reads as counted-reads
 use Rattle.reports.proofs.messages.pieced.Reads as pieced-reads
-use Rattle.reports.proofs.words.with.Reads as with-reads
+use Rattle.texts.proofs.words.with.Reads as with-reads
 
 -- src/lib.rt:77:9
 counted-requires : tie.Need-counted-requires

@@ -1,5 +1,5 @@
 use Rattle.reports.specs.Fits.{stop-whole, refused-whole, summary-whole, warning-some, warning-none, progress-some, progress-none}
-use Rattle.reports.specs.Texts.{room, told}
+use Rattle.texts.specs.Text.{room, told}
 use Rattle.model.specs.Quoted.{codes}
 use mathlib.Core.Path.{_≡_, refl, sym, ap, _∙_}
 use native.Mathlib.Omega.{arith}
@@ -9,8 +9,8 @@ use Rattle.reports.proofs.warning.Tie as tie
 use Rattle.reports.proofs.warning.Reads as reads
 use Rattle.reports.proofs.warning.Lts as lts
 use Rattle.reports.proofs.messages.warns.Reads as warns-reads
-use Rattle.reports.proofs.words.blank.Reads as blank-reads
-use Rattle.reports.proofs.words.with.Reads as with-reads
+use Rattle.texts.proofs.words.blank.Reads as blank-reads
+use Rattle.texts.proofs.words.with.Reads as with-reads
 
 -- src/lib.rt:86:8
 warns-requires : tie.Need-warns-requires

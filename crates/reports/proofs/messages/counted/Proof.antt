@@ -1,5 +1,6 @@
 use Rattle.reports.specs.Messages.{counts-so}
-use Rattle.reports.specs.Texts.{room, told, reasonOf}
+use Rattle.texts.specs.Text.{room, told}
+use Rattle.reports.specs.Texts.{reasonOf}
 use Rattle.model.specs.Quoted.{codes}
 use mathlib.Core.Path.{_≡_, refl, sym, ap, _∙_}
 use mathlib.Core.List.{_++_}
@@ -12,8 +13,8 @@ use Rattle.reports.proofs.messages.counted.Tie as tie
 use Rattle.reports.proofs.messages.counted.Reads as reads
 use Rattle.reports.proofs.messages.counted.Lts as lts
 use Rattle.reports.proofs.messages.seen_of.Reads as seen-of-reads
-use Rattle.reports.proofs.words.blank.Reads as blank-reads
-use Rattle.reports.proofs.words.said.Reads as said-reads
+use Rattle.texts.proofs.words.blank.Reads as blank-reads
+use Rattle.texts.proofs.words.said.Reads as said-reads
 
 -- src/messages.rt:154:21
 blank-requires : tie.Need-blank-requires

@@ -1,5 +1,6 @@
 use Rattle.reports.specs.Messages.{found-so}
-use Rattle.reports.specs.Texts.{room, told, reasonOf}
+use Rattle.texts.specs.Text.{room, told}
+use Rattle.reports.specs.Texts.{reasonOf}
 use mathlib.Core.Path.{_≡_, refl, sym, ap, _∙_}
 use mathlib.Core.List.{_++_}
 use lib.ListN.{length, take}

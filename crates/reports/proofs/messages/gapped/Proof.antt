@@ -1,5 +1,6 @@
 use Rattle.reports.specs.Messages.{gap-so, gap-none}
-use Rattle.reports.specs.Texts.{room, told, reasonOf}
+use Rattle.texts.specs.Text.{room, told}
+use Rattle.reports.specs.Texts.{reasonOf}
 use Rattle.model.specs.Quoted.{codes}
 use mathlib.Core.Path.{_≡_, refl, sym, ap, _∙_}
 use mathlib.Core.List.{_++_}
@@ -12,8 +13,8 @@ use Rattle.reports.proofs.messages.gapped.Tie as tie
 use Rattle.reports.proofs.messages.gapped.Reads as reads
 use Rattle.reports.proofs.messages.gapped.Lts as lts
 use Rattle.reports.proofs.messages.next.Reads as next-reads
-use Rattle.reports.proofs.words.said.Reads as said-reads
-use Rattle.reports.proofs.words.with.Reads as with-reads
+use Rattle.texts.proofs.words.said.Reads as said-reads
+use Rattle.texts.proofs.words.with.Reads as with-reads
 
 -- src/messages.rt:72:27
 slice-aggregate-said : tie.Need-slice-aggregate-said

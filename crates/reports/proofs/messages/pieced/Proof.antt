@@ -1,5 +1,6 @@
 use Rattle.reports.specs.Messages.{piece-so, piece-none}
-use Rattle.reports.specs.Texts.{room, told, reasonOf}
+use Rattle.texts.specs.Text.{room, told}
+use Rattle.reports.specs.Texts.{reasonOf}
 use Rattle.model.specs.Quoted.{codes}
 use mathlib.Core.Path.{_≡_, refl, sym, ap, _∙_}
 use mathlib.Core.List.{_++_}
@@ -13,7 +14,7 @@ use Rattle.reports.proofs.messages.pieced.Reads as reads
 use Rattle.reports.proofs.messages.pieced.Lts as lts
 use Rattle.reports.proofs.messages.has_piece.Reads as has-piece-reads
 use Rattle.reports.proofs.messages.sized.Reads as sized-reads
-use Rattle.reports.proofs.words.with.Reads as with-reads
+use Rattle.texts.proofs.words.with.Reads as with-reads
 
 -- src/messages.rt:133:8
 has-piece-requires : tie.Need-has-piece-requires

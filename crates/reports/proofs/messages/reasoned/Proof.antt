@@ -1,6 +1,6 @@
 use mathlib.Core.Path.{_∙_}
 use Rattle.reports.specs.Messages.{reason-some, reason-none}
-use Rattle.reports.specs.Texts.{told}
+use Rattle.texts.specs.Text.{told}
 use Rattle.model.specs.Quoted.{codes}
 use Rattle.names.specs.Names.{tableOf, looked-up}
 use Rattle.names.specs.Refusals.{refusalRows, refusalName}
@@ -10,7 +10,7 @@ use Rattle.reports.proofs.messages.reasoned.Tie as tie
 use Rattle.reports.proofs.messages.reasoned.Reads as reads
 use Rattle.reports.proofs.messages.reasoned.Lts as lts
 use Rattle.names.proofs.find.Reads as find-reads
-use Rattle.reports.proofs.words.with.Reads as with-reads
+use Rattle.texts.proofs.words.with.Reads as with-reads
 
 -- src/messages.rt:39:28
 slice-aggregate-find : tie.Need-slice-aggregate-find

@@ -1,5 +1,6 @@
 use Rattle.reports.specs.Messages.{refused-so}
-use Rattle.reports.specs.Texts.{room, told, reasonOf}
+use Rattle.texts.specs.Text.{room, told}
+use Rattle.reports.specs.Texts.{reasonOf}
 use Rattle.model.specs.Quoted.{codes}
 use mathlib.Core.Path.{_≡_, refl, sym, ap, _∙_}
 use mathlib.Core.List.{_++_}
@@ -12,7 +13,7 @@ use Rattle.reports.proofs.messages.refused.Tie as tie
 use Rattle.reports.proofs.messages.refused.Reads as reads
 use Rattle.reports.proofs.messages.refused.Lts as lts
 use Rattle.reports.proofs.messages.reasoned.Reads as reasoned-reads
-use Rattle.reports.proofs.words.said.Reads as said-reads
+use Rattle.texts.proofs.words.said.Reads as said-reads
 
 -- src/messages.rt:64:22
 slice-aggregate-said : tie.Need-slice-aggregate-said

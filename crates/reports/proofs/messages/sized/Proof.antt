@@ -1,6 +1,7 @@
 use Rattle.turns.specs.Swap.{longLine}
 use Rattle.reports.specs.Messages.{size-so, size-long}
-use Rattle.reports.specs.Texts.{room, told, reasonOf}
+use Rattle.texts.specs.Text.{room, told}
+use Rattle.reports.specs.Texts.{reasonOf}
 use Rattle.model.specs.Quoted.{codes}
 use mathlib.Core.Path.{_≡_, refl, sym, ap, _∙_}
 use mathlib.Core.List.{_++_}
@@ -12,7 +13,7 @@ use Rattle.reports.proofs.messages.sized.Statement.{statement}
 use Rattle.reports.proofs.messages.sized.Tie as tie
 use Rattle.reports.proofs.messages.sized.Reads as reads
 use Rattle.reports.proofs.messages.sized.Lts as lts
-use Rattle.reports.proofs.words.said.Reads as said-reads
+use Rattle.texts.proofs.words.said.Reads as said-reads
 
 -- src/messages.rt:114:24
 slice-aggregate-said : tie.Need-slice-aggregate-said

@@ -1,5 +1,6 @@
 use Rattle.reports.specs.Messages.{stop-so}
-use Rattle.reports.specs.Texts.{room, told, reasonOf}
+use Rattle.texts.specs.Text.{room, told}
+use Rattle.reports.specs.Texts.{reasonOf}
 use Rattle.model.specs.Quoted.{codes}
 use mathlib.Core.Path.{_≡_, refl, sym, ap, _∙_}
 use mathlib.Core.List.{_++_}
@@ -14,9 +15,9 @@ use Rattle.reports.proofs.messages.stopped.Lts as lts
 use Rattle.reports.proofs.messages.gapped.Reads as gapped-reads
 use Rattle.reports.proofs.messages.next.Reads as next-reads
 use Rattle.reports.proofs.messages.refused.Reads as refused-reads
-use Rattle.reports.proofs.words.blank.Reads as blank-reads
-use Rattle.reports.proofs.words.said.Reads as said-reads
-use Rattle.reports.proofs.words.with.Reads as with-reads
+use Rattle.texts.proofs.words.blank.Reads as blank-reads
+use Rattle.texts.proofs.words.said.Reads as said-reads
+use Rattle.texts.proofs.words.with.Reads as with-reads
 
 -- src/messages.rt:92:21
 blank-requires : tie.Need-blank-requires

@@ -1,4 +1,4 @@
-use Rattle.reports.specs.Texts.{room, told}
+use Rattle.texts.specs.Text.{room, told}
 use mathlib.Core.Path.{_≡_, refl, sym, ap, _∙_}
 use native.Mathlib.Omega.{arith}
 use Rattle.reports.specs.Options.{isDash}

@@ -1,6 +1,6 @@
 use lib.Seq.{length-take-le}
 use Rattle.reports.specs.Choices.{option-short, option-long}
-use Rattle.reports.specs.Texts.{room, told}
+use Rattle.texts.specs.Text.{room, told}
 use Rattle.model.specs.Quoted.{codes}
 use mathlib.Core.Path.{_≡_, refl, sym, ap, _∙_}
 use native.Mathlib.Omega.{arith}

@@ -1,5 +1,5 @@
 use Rattle.reports.specs.Choices.{option-numbered, option-progress, option-given, option-after, option-none}
-use Rattle.reports.specs.Texts.{room, told}
+use Rattle.texts.specs.Text.{room, told}
 use Rattle.model.specs.Quoted.{codes}
 use mathlib.Core.Path.{_≡_, refl, sym, ap, _∙_}
 use native.Mathlib.Omega.{arith}

@@ -1,5 +1,5 @@
 use Rattle.reports.specs.Options.{withProgress}
-use Rattle.reports.specs.Texts.{room, told}
+use Rattle.texts.specs.Text.{room, told}
 use mathlib.Core.Path.{_≡_, refl, sym, ap, _∙_}
 use native.Mathlib.Omega.{arith}
 use Rattle.reports.proofs.options.with_progress.Statement.{statement}
