@@ -166,6 +166,7 @@ vectors = [
     ("data without packets", one + [watch(0, data=b"\0")], 0), ("data 31", one + [watch(0, packets=1, data=bytes(31))], 1),
     ("data length 32", one + [watch(0, packets=1), (PAIRS + 25, b"\x20")], 0),
     ("octet behind the data", one + [watch(0, packets=1, data=b"\1"), (PAIRS + 27, b"\1")], 0),
+    *((f"octet {at} of the data's room, without data", one + [watch(0), (PAIRS + 26 + at, b"\1")], 0) for at in (0, 23, 24, 27, 28, 29, 30)),
     ("kept RSSI -127", one + [watch(0, kept=0x81)], 1), ("kept RSSI -128", one + [watch(0, kept=0x80)], 0),
     ("kept RSSI 20", one + [watch(0, kept=20)], 1), ("kept RSSI 21", one + [watch(0, kept=21)], 0),
     ("event 3", one + [watch(0, packets=1, event=3)], 1), ("event 4", one + [watch(0, packets=1, event=4)], 0),

@@ -247,9 +247,10 @@ pub fn mark_all(acts: &mut [u8], s: &[u8], payload: &[u8]) -> bool
     true
 }
 
-// The same of the handles alone whose pair of the packet's device is held, by an octet a handle that is not 0, and, where a pair may start, of those
-// whose high threshold the packet reaches: the others' octets are 0, and of their monitors no more than the high threshold is read. Where held is not of 16
-// octets, too, nothing is written and the answer is false.
+// The same of the handles alone whose pair of the packet's device is held, by an octet a handle that is not 0, and,
+// where a pair may start, of those whose high threshold the packet reaches: the others' octets are 0, and of their
+// monitors no more than the high threshold is read. Where held is not of 16 octets, too, nothing is written and the
+// answer is false.
 pub fn mark_held(acts: &mut [u8], s: &[u8], payload: &[u8], held: &[u8], may: bool) -> bool
     ensures { λ r. ⌜ (r ≡ heldFit (now (held .entry)) (now (acts .entry)) (now (s .entry)) (now (payload .entry))) × (now (acts .exit) ≡ markedFor r may (now (held .entry)) (now (acts .entry)) (now (s .entry)) (now (payload .entry))) ⌝ }
 {

@@ -196,8 +196,8 @@ fn is_told(s: &[u8], held: bool, start: bool) -> bool
     held | start
 }
 
-// What the monitors of the device's pairs say of the packet and, where it may start a pair behind the n that are held, those that it is strong enough for.
-// A packet that concerns nobody asks none.
+// What the monitors of the device's pairs say of the packet and, where it may start a pair behind the n that are held,
+// those that it is strong enough for. A packet that concerns nobody asks none.
 fn ask(acts: &mut [u8], s: &[u8], n: usize, payload: &[u8], held: &[u8])
     requires { ⌜ (now acts ≡ replicate mostMonitors 0) × (length (now s) ≡ blockSize) × Framed (now payload) × (length (now held) ≡ mostMonitors) ⌝ }
     ensures { λ _. ⌜ Acts (now (s .entry)) (now (payload .entry)) (now (held .entry)) n (now (acts .exit)) ⌝ }
