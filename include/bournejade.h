@@ -29,8 +29,8 @@
  * before each event, not once before the answer, and of a command the 0x01 before its opcode is taken away; what is left
  * is the payload of a frame of kind 1. HCI_Reset and all other commands than the settings' opcode are not the engine's.
  *
- * What a call needs. Octets of stack, measured over journals on x86-64 (reference/stack; other processors need up to a
- * tenth more, docs/RELIABILITY.md): write_line none, submit 1,610, submit_line 2,200, replay and replay_to 2,270, save
+ * What a call needs. Octets of stack, measured over journals on x86-64 (reference/stack; other processors need up to 400
+ * octets more, docs/RELIABILITY.md): write_line none, submit 1,610, submit_line 2,200, replay and replay_to 2,270, save
  * 840, begin 40, count_line 2,920, restore 1,180. No memory beside that and the caller's buffers: a state of 6,987
  * octets, outputs of 2,880, 13,162 and 527, a table of 512. The code is 49 KB (Cortex-M4: 40) and reentrant. On x86-64,
  * by the System V calling convention, it uses the general registers and those of SSE2 (xmm0 to xmm15), no x87, MMX or
