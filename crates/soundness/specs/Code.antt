@@ -25,8 +25,8 @@ use Rattle.soundness.specs.Below.{allBelow, below-more, below-fails}
 use Rattle.blocks.specs.Added.{addedIn}
 use Rattle.soundness.specs.Clauses.{monitorRowAt, headTest, bareTest, heldTest, monitorTest}
 use Rattle.soundness.specs.Clauses.{monitorsTest}
-use Rattle.soundness.specs.Fields.{windowTest, emptyTest, fieldsTest, addedTest, formTest, row-accepts}
-use Rattle.model.specs.Layout.{blockSize, conditionAt, conditionLengthAt, dataAt, eventAt, extraAt, extraSize, filterAt, headSize, highAt, intervalAt, lengthAt, lowAt, monitorSize, monitorsAt, mostCondition, mostData, mostMonitors, mostPrefix, opcodeAt, packetsAt, pairSize, prefixAt, prefixLengthAt, rssiAt, samplingAt, sumAt, ticksAt, typeAt}
+use Rattle.soundness.specs.Fields.{windowTest, emptyTest, fieldsTest, seenTest, restTest, addedTest, formTest, row-accepts}
+use Rattle.model.specs.Layout.{blockSize, conditionAt, conditionLengthAt, dataAt, eventAt, extraAt, extraSize, filterAt, headSize, highAt, intervalAt, kindAt, lengthAt, lowAt, monitorSize, monitorsAt, mostCondition, mostData, mostMonitors, mostPrefix, opcodeAt, packetsAt, pairSize, prefixAt, prefixLengthAt, rssiAt, samplingAt, silentAt, sumAt, ticksAt, typeAt}
 
 -- a part of a slice before an end
 pub part-of : {A : Type 0} (a e : ℕ) (l : List A) → a ≤ e → e ≤ length l → take (e - a) (drop a l) ≡ drop a (take e l)
@@ -53,7 +53,7 @@ pub above-down : (sum packets : ℕ) → 18446744073709551615 - 127 * packets < 
 unfolding sumAbove
 above-down sum packets h a b = omega arith
 
-above-range : (sum packets : ℕ) → sum < 18446744073709551616 → packets < 4294967296
+pub above-range : (sum packets : ℕ) → sum < 18446744073709551616 → packets < 4294967296
     → leb (sumAbove sum packets) (147 * packets) ≡ sumInRange sum packets
 unfolding sumAbove raised
 above-range sum packets h b =
@@ -202,21 +202,45 @@ module _ (position sampling ticks packets sum : ℕ) where
   unfolding windowTest pick
   window-idle e = rw e
 
--- a pair's row by its numbers
-module _ (position interval sampling : ℕ) (sifting : Bool) (r : List ℕ) where
-  pub fields-long : mostData < getD r lengthAt 0 → false ≡ fieldsTest position interval sampling sifting r
-  unfolding fieldsTest
-  fields-long h = rw (lt-leb (getD r lengthAt 0) mostData h)
+-- a pair's row by its numbers: what was seen of the device, and its window
+pub seen-row : (interval : ℕ) (r : List ℕ) {i : Bool} {v t : ℕ} → length r ≡ pairSize → v ≡ numberAt 2 r 8 → t ≡ ticksOf interval
+    → i ≡ inRange (getD r rssiAt 0) → (leb (getD r kindAt 0) 1 && i && ltb v t) ≡ seenTest interval r
+unfolding seenTest
+seen-row interval r {i} {v} {t} l dv dt di =
+    let ev : v ≡ little 2 r 8 = number-of 2 r 8 dv (omega arith) in rw (di, ev, dt)
 
-  pub fields-short : (n : ℕ) {z w e i : Bool} {v t p u : ℕ} → length r ≡ pairSize → n ≡ getD r lengthAt 0 → n ≤ mostData
-      → z ≡ every isZero (drop (dataAt + n) r)
-      → v ≡ numberAt 2 r 8 → t ≡ ticksOf interval → p ≡ numberAt 4 r packetsAt → u ≡ numberAt 8 r sumAt
+module _ (position sampling : ℕ) (sifting : Bool) (r : List ℕ) where
+  pub rest-long : mostData < getD r lengthAt 0 → false ≡ restTest position sampling sifting r
+  unfolding restTest
+  rest-long h = rw (lt-leb (getD r lengthAt 0) mostData h)
+
+  pub rest-short : (n : ℕ) {z w e : Bool} {p u : ℕ} → length r ≡ pairSize → n ≡ getD r lengthAt 0 → n ≤ mostData
+      → z ≡ every isZero (drop (dataAt + n) r) → p ≡ numberAt 4 r packetsAt → u ≡ numberAt 8 r sumAt
       → w ≡ windowTest position sampling (getD r ticksAt 0) p u → e ≡ emptyTest sifting p u (getD r eventAt 0) (getD r lengthAt 0)
-      → i ≡ inRange (getD r rssiAt 0)
-      → (leb (getD r highAt 0) 1 && i && ltb v t && w && e && z) ≡ fieldsTest position interval sampling sifting r
-  unfolding fieldsTest
-  fields-short n {z} {w} {e} {i} {v} {t} {p} {u} l k b dz dv dt dp du dw de di =
-      let ev : v ≡ little 2 r 8 = number-of 2 r 8 dv (omega arith) in
+      → (w && e && z) ≡ restTest position sampling sifting r
+  unfolding restTest
+  rest-short n {z} {w} {e} {p} {u} l k b dz dp du dw de =
       let ep : p ≡ little 4 r packetsAt = number-of 4 r 11 dp (omega arith) in
       let eu : u ≡ little 8 r sumAt = number-of 8 r 15 du (omega arith) in
-      rw (dz, dw, de, di, ev, ep, eu, dt, k, le-leb (getD r lengthAt 0) mostData (rw (← k) b))
+      rw (dz, dw, de, ep, eu, k, le-leb (getD r lengthAt 0) mostData (rw (← k) b))
+
+  -- both are the row's test
+  pub row-both : (interval : ℕ) {a b : Bool} → a ≡ seenTest interval r → b ≡ restTest position sampling sifting r
+      → (a && b) ≡ fieldsTest position interval sampling sifting r
+  unfolding seenTest restTest fieldsTest
+  row-both interval p q =
+      rw (p, q)
+      (go (leb (getD r lengthAt 0) mostData) (leb (getD r kindAt 0) 1) (inRange (getD r rssiAt 0)) (ltb (little 2 r silentAt) (ticksOf interval))
+      (windowTest position sampling (getD r ticksAt 0) (little 4 r packetsAt) (little 8 r sumAt))
+      (emptyTest sifting (little 4 r packetsAt) (little 8 r sumAt) (getD r eventAt 0) (getD r lengthAt 0))
+      (every isZero (drop (dataAt + getD r lengthAt 0) r)))
+    where
+      go : (n a k c w e z : Bool) → ((a && k && c) && (n && (w && e && z))) ≡ (n && (a && k && c && w && e && z))
+      go true true true true w e z = refl
+      go true true true false w e z = refl
+      go true true false c w e z = refl
+      go true false k c w e z = refl
+      go false true true true w e z = refl
+      go false true true false w e z = refl
+      go false true false c w e z = refl
+      go false false k c w e z = refl

@@ -1,6 +1,6 @@
 -- The tests of rows by their numbers, as the functions compute them, and that they are the clauses. Document 01, The
 -- image ("Sound") and Commands (03). Assumes nothing.
-use Prim.Native.Nat.{ℕ, _+_, _-_, _≤_, _<_}
+use Prim.Native.Nat.{ℕ, _+_, _-_, _%_, _≤_, _<_}
 use mathlib.Core.Path.{_≡_, refl, ap, _∙_}
 use mathlib.Core.Bool.{Bool, true, false, _&&_, _||_}
 use mathlib.Core.List.{List}
@@ -21,7 +21,7 @@ use Rattle.model.specs.Monitors.{settingsGood, allowed, missing, parameters, si
 use Rattle.model.specs.Monitors.{runOf, windowed, invalid}
 use Rattle.model.specs.Image.{monitorFrom, monitorIn, pairIn}
 use Rattle.model.specs.Sound.{octetsUpTo, soundWindow, soundLatest, soundEmpty, soundFields, soundOf}
-use Rattle.blocks.specs.Added.{addedIn, row-parameters}
+use Rattle.blocks.specs.Added.{addedIn, filteringOf, row-parameters}
 use Rattle.statuses.specs.Second.{missing-allowed}
 use Rattle.soundness.specs.Clauses.{bareTest, pairTest}
 use Rattle.soundness.specs.Head.{little-lt}
@@ -51,6 +51,25 @@ fieldsTest position interval sampling sifting r =
     && windowTest position sampling (getD r ticksAt 0) (little 4 r packetsAt) (little 8 r sumAt)
     && emptyTest sifting (little 4 r packetsAt) (little 8 r sumAt) (getD r eventAt 0) (getD r lengthAt 0)
     && every isZero (drop (dataAt + getD r lengthAt 0) r))
+
+-- .. what it says of the device and of the latest packet in range, and its window
+unfoldable pub seenTest : ℕ → List ℕ → Bool
+seenTest interval r = leb (getD r kindAt 0) 1 && inRange (getD r rssiAt 0) && ltb (little 2 r silentAt) (ticksOf interval)
+
+unfoldable pub restTest : ℕ → ℕ → Bool → List ℕ → Bool
+restTest position sampling sifting r =
+    leb (getD r lengthAt 0) mostData
+    && (windowTest position sampling (getD r ticksAt 0) (little 4 r packetsAt) (little 8 r sumAt)
+    && emptyTest sifting (little 4 r packetsAt) (little 8 r sumAt) (getD r eventAt 0) (getD r lengthAt 0)
+    && every isZero (drop (dataAt + getD r lengthAt 0) r))
+
+-- a window that holds nothing
+unfoldable pub blankTest : List ℕ → Bool
+blankTest r = every isZero (drop ticksAt (take rssiAt r)) && every isZero (drop eventAt r)
+
+-- whether the monitor whose row stands at an index filters duplicates
+unfoldable pub siftsAt : List ℕ → ℕ → Bool
+siftsAt s m = eqb (filteringOf (getD s (m + extraAt) 0) (getD s (m + (extraAt + 1)) 0) % 2) 1
 
 -- what version 2 adds, in a row: allowed, or nothing
 unfoldable pub addedTest : List ℕ → Bool

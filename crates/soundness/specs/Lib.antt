@@ -16,3 +16,4 @@ pub mod Code
 pub mod CodePairs
 pub mod Seen
 pub mod Tails
+pub mod Blank

@@ -6,7 +6,7 @@ mod tails;
 use state::Seconds;
 use state::State;
 use state::Ticks;
-ghost use Prim.Native.Nat.{_≤_, _<_};
+ghost use Prim.Native.Nat.{_+_, _≤_, _<_};
 ghost use mathlib.Core.Path.{_≡_};
 ghost use lib.ListN.{length, take, getD};
 ghost use Rattle.model.specs.Block.{sound};
@@ -14,8 +14,9 @@ ghost use Rattle.soundness.specs.Below.{allBelow};
 ghost use Rattle.soundness.specs.Clauses.{headTest, heldTest, monitorTest, placeTest, heldPairTest};
 ghost use Rattle.soundness.specs.Clauses.{monitorsTest, pairsTest};
 ghost use Rattle.soundness.specs.Code.{sumAbove};
-ghost use Rattle.soundness.specs.Fields.{windowTest, latestTest, emptyTest, fieldsTest, addedTest, formTest};
-ghost use Rattle.model.specs.Layout.{blockSize, conditionLengthAt, countAt, headSize, monitorSize, mostCondition, mostPairs, pairSize};
+ghost use Rattle.soundness.specs.Fields.{windowTest, latestTest, emptyTest, blankTest, seenTest, restTest, siftsAt, addedTest, formTest};
+ghost use Rattle.octets.specs.Numbers.{numberAt};
+ghost use Rattle.model.specs.Layout.{blockSize, conditionLengthAt, countAt, headSize, monitorSize, mostCondition, mostPairs, pairSize, positionAt, samplingAt};
 
 // How far a window's sum, in two's complement, stands above −127 for each of its packets.
 fn sum_above(sum: u64, packets: u32) -> u64
@@ -155,26 +156,55 @@ fn empty_sound(sifts: bool, packets: u32, sum: u64, event: u8, n: u8) -> bool
     (sum == 0) & latest
 }
 
-// Whether a pair's row holds what it may, with its monitor's interval and sampling period, and whether it filters
-// duplicates.
-fn fields_sound(r: &[u8], position: u32, interval: u8, sampling: u8, sifts: bool) -> bool
+// Whether a row's window holds nothing: zeros but for the kept RSSI.
+fn is_blank(r: &[u8]) -> bool
     requires { ⌜ length (now r) ≡ pairSize ⌝ }
-    ensures { λ b. ⌜ b ≡ fieldsTest position interval sampling sifts (now (r .entry)) ⌝ }
+    ensures { λ b. ⌜ b ≡ blankTest (now (r .entry)) ⌝ }
+{
+    let counts = tails::zeros_from(&r[..State::RSSI_AT], State::TICKS_AT);
+    let latest = tails::zeros_from(r, State::EVENT_AT);
+    counts & latest
+}
+
+// Whether a row has an address type and an RSSI in range, and is silent for less than its monitor's interval.
+fn seen_sound(r: &[u8], interval: u8) -> bool
+    requires { ⌜ length (now r) ≡ pairSize ⌝ }
+    ensures { λ b. ⌜ b ≡ seenTest interval (now (r .entry)) ⌝ }
+{
+    let silent = Ticks(octets::get16(r, State::SILENT_AT));
+    let short = silent.below(Seconds(interval).ticks());
+    let kept = state::in_range(r[State::RSSI_AT]);
+    (r[State::KIND_AT] <= 1) & kept & short
+}
+
+// Whether a row's window holds what it may, with its monitor's sampling period, and whether it filters duplicates.
+fn held_window_sound(r: &[u8], position: u32, sampling: u8, sifts: bool) -> bool
+    requires { ⌜ length (now r) ≡ pairSize ⌝ }
+    ensures { λ b. ⌜ b ≡ restTest position sampling sifts (now (r .entry)) ⌝ }
 {
     let n = octets::wide(r[State::LENGTH_AT]);
     if State::DATA < n {
         return false;
     }
-    let a = State::DATA_AT + n;
-    let behind = tails::zeros_from(r, a);
-    let silent = Ticks(octets::get16(r, State::SILENT_AT));
+    let behind = tails::zeros_from(r, State::DATA_AT + n);
     let packets = octets::get32(r, State::PACKETS_AT);
     let sum = octets::get64(r, State::SUM_AT);
     let window = window_sound(position, sampling, r[State::TICKS_AT], packets, sum);
     let empty = empty_sound(sifts, packets, sum, r[State::EVENT_AT], r[State::LENGTH_AT]);
-    let short = silent.below(Seconds(interval).ticks());
-    let kept = state::in_range(r[State::RSSI_AT]);
-    (r[State::KIND_AT] <= 1) & kept & short & window & empty & behind
+    window & empty & behind
+}
+
+// The same, its monitor's row at an index of the block. A window that holds nothing is always sound, and most hold nothing.
+fn rest_sound(s: &[u8], r: &[u8], m: usize) -> bool
+    requires { ⌜ (m + monitorSize ≤ length (now s)) × (length (now r) ≡ pairSize) ⌝ }
+    ensures { λ b. ⌜ b ≡ restTest (numberAt 4 (now (s .entry)) positionAt) (getD (now (s .entry)) (m + samplingAt) 0) (siftsAt (now (s .entry)) m) (now (r .entry)) ⌝ }
+{
+    if is_blank(r) {
+        return true;
+    }
+    let filtering = state::filtering_of(s[m + State::OPTIONS_AT], s[m + State::FILTERING_AT]);
+    let position = octets::get32(s, State::POSITION_AT);
+    held_window_sound(r, position, s[m + State::SAMPLING_AT], filtering % 2 == 1)
 }
 
 // Whether the pair at a place is of a live monitor and holds what it may.
@@ -193,10 +223,9 @@ fn pair_sound(s: &[u8], i: usize) -> bool
     if interval == 0 {
         return false;
     }
-    let sampling = s[m + State::SAMPLING_AT];
-    let filtering = state::filtering_of(s[m + State::OPTIONS_AT], s[m + State::FILTERING_AT]);
-    let position = octets::get32(s, State::POSITION_AT);
-    fields_sound(&s[a..e], position, interval, sampling, filtering % 2 == 1)
+    let seen = seen_sound(&s[a..e], interval);
+    let rest = rest_sound(s, &s[a..e], m);
+    seen & rest
 }
 
 fn held_pairs_sound(s: &[u8], c: usize) -> bool

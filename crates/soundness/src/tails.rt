@@ -1,4 +1,4 @@
-// Whether a row holds zeros from an index on: eight octets at a time, then four, two and one.
+// Whether a row holds zeros from an index on: eight octets at a time; where fewer are left four, two and one.
 ghost use Prim.Native.Nat.{_+_, _≤_, _<_};
 ghost use mathlib.Core.Path.{_≡_};
 ghost use lib.ListN.{length, drop};
@@ -44,18 +44,21 @@ fn zeros_four(r: &[u8], i: usize) -> bool
     zeros_two(r, i + 4)
 }
 
-// The same of any row.
+// The same of any row: the last eight octets and, before them, eight at a time, with no way out before the end.
 pub(super) fn zeros_from(r: &[u8], from: usize) -> bool
     requires { ⌜ from ≤ length (now r) ⌝ }
     ensures { λ b. ⌜ b ≡ every isZero (drop from (now (r .entry))) ⌝ }
 {
     let n = r.len();
+    if n - from < 8 {
+        return zeros_four(r, from);
+    }
+    let last = n - 8;
+    let mut any = octets::get64(r, last);
     let mut i = from;
-    while 8 <= n - i {
-        if octets::get64(r, i) != 0 {
-            return false;
-        }
+    while i < last {
+        any = any | octets::get64(r, i);
         i += 8;
     }
-    zeros_four(r, i)
+    any == 0
 }

@@ -1,0 +1,77 @@
+use mathlib.Core.Path.{sym, ap, _∙_}
+use Rattle.soundness.specs.Blank.{blank-rest}
+use borrow.Author.Needs.{needs}
+use Rattle.soundness.proofs.rest_sound.Statement.{statement}
+use Rattle.soundness.proofs.rest_sound.Tie as tie
+use Rattle.soundness.proofs.rest_sound.Reads as reads
+use Rattle.soundness.proofs.rest_sound.Lts as lts
+use Rattle.octets.proofs.get32.Reads as get32-reads
+use Rattle.soundness.proofs.held_window_sound.Reads as held-window-sound-reads
+use Rattle.soundness.proofs.is_blank.Reads as is-blank-reads
+use Rattle.state.proofs.filtering_of.Reads as filtering-of-reads
+
+-- src/lib.rt:202:8
+is-blank-requires : tie.Need-is-blank-requires
+is-blank-requires c κs = search needs
+
+-- src/lib.rt:203:9
+returns : tie.Need-returns
+returns c = let a = c .before .before .before .before .args in blank-rest (a .r .now) (c .before .before .before .before .pre .1) (sym (c .before .is-blank .ensures) ∙ c .if1 .taken) _ _ _
+
+-- src/lib.rt:205:43
+add-filtering-of : tie.Need-add-filtering-of
+add-filtering-of c = search needs
+
+-- src/lib.rt:205:41
+shared-slice-read-filtering-of : tie.Need-shared-slice-read-filtering-of
+shared-slice-read-filtering-of c = search needs
+
+-- src/lib.rt:205:69
+add-filtering-of-2 : tie.Need-add-filtering-of-2
+add-filtering-of-2 c = search needs
+
+-- src/lib.rt:205:67
+shared-slice-read-filtering-of-2 : tie.Need-shared-slice-read-filtering-of-2
+shared-slice-read-filtering-of-2 c = search needs
+
+-- src/lib.rt:205:9
+filtering-of-requires : tie.Need-filtering-of-requires
+filtering-of-requires c κs = search needs
+
+-- src/lib.rt:206:9
+get32-requires : tie.Need-get32-requires
+get32-requires c κs = search needs
+
+-- src/lib.rt:207:38
+add-held-window-sound : tie.Need-add-held-window-sound
+add-held-window-sound c = search needs
+
+-- src/lib.rt:207:36
+shared-slice-read-held-window-sound : tie.Need-shared-slice-read-held-window-sound
+shared-slice-read-held-window-sound c = search needs
+
+-- src/lib.rt:207:5
+held-window-sound-requires : tie.Need-held-window-sound-requires
+held-window-sound-requires c κs = search needs
+
+-- src/lib.rt:198:1
+returns-2 : tie.Need-returns-2
+unfolding Rattle.soundness.specs.Fields.siftsAt
+returns-2 c = rw (c .before .before .get32 .ensures, c .before .before .before .filtering-of .ensures) at (c .held-window-sound .ensures)
+
+pub rest-sound-spec : {M : Type 1} → statement M
+rest-sound-spec =
+    tie.close
+    (tie.spec
+    is-blank-requires
+    returns
+    add-filtering-of
+    shared-slice-read-filtering-of
+    add-filtering-of-2
+    shared-slice-read-filtering-of-2
+    filtering-of-requires
+    get32-requires
+    add-held-window-sound
+    shared-slice-read-held-window-sound
+    held-window-sound-requires
+    returns-2)
