@@ -89,11 +89,17 @@ module _ (ps : List ℕ) (l : length ps ≡ pairsSize) (o : every isOctet ps ≡
   r-key : little 8 r 0 ≡ little 8 ps (pairSize * i)
   r-key = ap (λ (x : List ℕ). little 8 x 0) r-is ∙ little-row 8 pairSize i 0 ps (omega arith) ∙ ap (little 8 ps) (add-zero (pairSize * i))
 
-  more : map pairIn (take (i + 1) rs) ≡ map pairIn (take i rs) ++ (pairIn r ∷ [])
+  pub more : map pairIn (take (i + 1) rs) ≡ map pairIn (take i rs) ++ (pairIn r ∷ [])
   more =
       ap (λ (k : ℕ). map pairIn (take k rs)) (add-one i)
       ∙ ap (map pairIn) (take-suc rs i [] (let n : length rs ≡ mostPairs = length-rows pairSize mostPairs ps in omega arith))
       ∙ mathlib.Core.List.map-append pairIn (take i rs) (r ∷ [])
+
+  -- its device and its handle, from its key
+  pub pair-next : (key : ℕ) → key ≡ little 8 ps (pairSize * i)
+      → Seven (watched (pairIn r)) × (key / 256 ≡ value (watched (pairIn r))) × (key % 256 ≡ pairIn r .handle)
+  pair-next key e =
+      (row-seven r r-long r-octets, key-device r r-long r-octets key (e ∙ sym r-key), key-handle r r-long r-octets key (e ∙ sym r-key))
 
   -- whatever holds of a table and the index so far, and is kept by noting, holds with the pair noted
   pub built-more : (P Q : List Entry → Type 0) (key : ℕ) → key ≡ little 8 ps (pairSize * i) → P (indexOf (map pairIn (take i rs)))

@@ -27,7 +27,7 @@ row-test r d n o s =
     ap (λ (v : ℕ). eqb v (value d)) (little-value 7 r 0 n)
     ∙ value-test (take deviceSize r) d (length-take-le deviceSize r n ∙ sym (s .long)) (every-take isOctet deviceSize r o) (s .octets)
 
-entry-test : (e : Entry) (d : List ℕ) → Fitting e → Seven d → eqb (little 7 (entryRow e) 0) (value d) ≡ sames (e .device) d
+pub entry-test : (e : Entry) (d : List ℕ) → Fitting e → Seven d → eqb (little 7 (entryRow e) 0) (value d) ≡ sames (e .device) d
 unfolding entryRow
 entry-test e d f s =
     let t : take 7 (e .device ++ octetsOf 2 (e .mask)) ≡ e .device = take-at (e .device) (octetsOf 2 (e .mask)) 7 (f .device .long) in
@@ -36,7 +36,7 @@ entry-test e d f s =
     ∙ value-test (e .device) d (f .device .long ∙ sym (s .long)) (f .device .octets) (s .octets)
 
 module _ (d : List ℕ) (h : ℕ) (s : Seven d) where
-  new : (es : List Entry) → All Fitting es → placeIn (value d) (map entryRow es) ≡ length es → noted d h es ≡ withEntry es d (bitOf h)
+  pub new : (es : List Entry) → All Fitting es → placeIn (value d) (map entryRow es) ≡ length es → noted d h es ≡ withEntry es d (bitOf h)
   unfolding placeIn noted withEntry pick
   new [] a p = refl
   new (e ∷ es) a p = go (sames (e .device) d) (entry-test e d (a .0) s) (new es (a .1))
@@ -52,7 +52,7 @@ module _ (d : List ℕ) (h : ℕ) (s : Seven d) where
           ap (λ (b : Bool). pick b 0 (suc (placeIn (value d) (map entryRow es)))) z in
           ap (λ (l : List Entry). e ∷ l) (i (let w : suc (placeIn (value d) (map entryRow es)) ≡ length (e ∷ es) = sym y ∙ p in omega arith))
 
-  old : (es : List Entry) (j : ℕ) → All Fitting es → j ≡ placeIn (value d) (map entryRow es) → j < length es → noted d h es ≡ withBit es j (bitOf h)
+  pub old : (es : List Entry) (j : ℕ) → All Fitting es → j ≡ placeIn (value d) (map entryRow es) → j < length es → noted d h es ≡ withBit es j (bitOf h)
   unfolding placeIn noted withBit withHandle pick
   old [] j a p b = absurd (omega arith)
   old (e ∷ es) j a p b = go (sames (e .device) d) j (entry-test e d (a .0) s) p b (λ i. old es i (a .1))

@@ -6,7 +6,11 @@ pub mod Seen
 pub mod Found
 pub mod Written
 pub mod Built
+pub mod Once
 pub mod Renewed
 pub mod InPlace
 pub mod Watching
 pub mod Begun
+pub mod Slots
+pub mod Walk
+pub mod Compared

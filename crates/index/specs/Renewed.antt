@@ -8,7 +8,7 @@ use native.Mathlib.Omega.{arith}
 use borrow.Author.Tests.{eq-eqb, ne-eqb, leb-true}
 use lib.Dec.{eqb, leb}
 use lib.ListN.{length, take, drop, getD, set, replicate, length-drop, length-replicate, replicate-append-replicate, drop-of-length-le}
-use lib.Seq.{take-all, drop-at, drop-cons, set-at}
+use lib.Seq.{take-suc, getD-drop}
 use Rattle.laws.specs.Put.{put, putIf, put-of}
 use Rattle.laws.specs.Tests.{pick, pick-true, pick-false, sames, and-left, and-right, and-not-left}
 use Rattle.laws.specs.Loops.{every}
@@ -26,11 +26,15 @@ use Rattle.wholes.specs.Layout.{entriesSize, entryCountAt, entrySize, indexAt, 
 use Rattle.wholes.specs.Index.{entryTable, indexBlock, indexOf, maskFor, maskIn, notedAll}
 use Rattle.wholes.specs.Kept.{pairEvent}
 use Rattle.index.specs.Read.{rows-most, rows-part}
-use Rattle.index.specs.Table.{Tabled}
+use Rattle.index.specs.Once.{once}
 
 -- a block of its size, with the index of the pairs that it holds
 unfoldable pub isIndexed : List ℕ → Bool
 isIndexed s = eqb (length s) wholeSize && sames (indexBlock (held s .pairs)) (take indexSize (drop indexAt s))
+
+-- .. and that holds each pair once, of a handle that there is
+unfoldable pub indexedOnce : List ℕ → Bool
+indexedOnce s = isIndexed s && once (held s .pairs)
 
 -- a block with that index; one of another size as it is
 unfoldable pub renewed : List ℕ → List ℕ
@@ -80,17 +84,28 @@ module _ (before : ℕ) (out : List ℕ) (n : ℕ) (s : List ℕ) where
   followed-still e h = sym (pick-false (renewed s) s (sym e ∙ h))
 
 module _ (s : List ℕ) where
-  pub indexed-not : (length s ≡ wholeSize → ⊥) → false ≡ isIndexed s
-  unfolding isIndexed
-  indexed-not n = sym (and-not-left (eqb (length s) wholeSize) _ (ne-eqb (length s) wholeSize n))
+  pub indexed-not : (length s ≡ wholeSize → ⊥) → false ≡ indexedOnce s
+  unfolding indexedOnce isIndexed
+  indexed-not n =
+      sym (and-not-left (eqb (length s) wholeSize && sames (indexBlock (held s .pairs)) (take indexSize (drop indexAt s))) (once (held s .pairs))
+      (and-not-left (eqb (length s) wholeSize) _ (ne-eqb (length s) wholeSize n)))
 
-  pub indexed-is : length s ≡ wholeSize → (x : List ℕ) (k : ℕ) {r : Bool} → x ≡ indexBlock (held s .pairs) → k ≡ indexSize
-      → r ≡ sames x (take k (drop indexAt s)) → r ≡ isIndexed s
-  unfolding isIndexed
-  indexed-is l x k e n q =
-      q ∙ ap (λ (y : List ℕ). sames y (take k (drop indexAt s))) e
-      ∙ ap (λ (j : ℕ). sames (indexBlock (held s .pairs)) (take j (drop indexAt s))) n
-      ∙ sym (ap (λ (b : Bool). b && sames (indexBlock (held s .pairs)) (take indexSize (drop indexAt s))) (eq-eqb (length s) wholeSize l))
+  -- the entries' rows, and their number behind them
+  table-count : length s ≡ wholeSize → take entriesSize (drop indexAt s) ++ (getD s entryCountAt 0 ∷ []) ≡ take indexSize (drop indexAt s)
+  table-count l =
+      ap (λ (x : ℕ). take entriesSize (drop indexAt s) ++ (x ∷ [])) (sym (getD-drop indexAt s entriesSize 0))
+      ∙ sym (take-suc (drop indexAt s) entriesSize 0 (simp length-drop (omega arith)))
+
+  pub indexed-is : length s ≡ wholeSize → (j : ℕ) (qs : List Pair) {r : Bool} → qs ≡ held s .pairs → j ≡ entriesSize
+      → r ≡ (sames (entryTable (indexOf qs) ++ (length (indexOf qs) ∷ [])) (take j (drop indexAt s) ++ (getD s entryCountAt 0 ∷ [])) && once qs)
+      → r ≡ indexedOnce s
+  unfolding indexedOnce isIndexed indexBlock
+  indexed-is l j qs e n q =
+      q ∙ ap (λ (i : ℕ). sames (entryTable (indexOf qs) ++ (length (indexOf qs) ∷ [])) (take i (drop indexAt s) ++ (getD s entryCountAt 0 ∷ [])) && once qs) n
+      ∙ ap (λ (x : List ℕ). sames (entryTable (indexOf qs) ++ (length (indexOf qs) ∷ [])) x && once qs) (table-count l)
+      ∙ ap (λ (x : List Pair). sames (entryTable (indexOf x) ++ (length (indexOf x) ∷ [])) (take indexSize (drop indexAt s)) && once x) e
+      ∙ sym (ap (λ (b : Bool). (b && sames (entryTable (indexOf (held s .pairs)) ++ (length (indexOf (held s .pairs)) ∷ [])) (take indexSize (drop indexAt s))) && once (held s .pairs))
+      (eq-eqb (length s) wholeSize l))
 
   pub renewed-not : (length s ≡ wholeSize → ⊥) → s ≡ renewed s
   unfolding renewed
@@ -122,13 +137,3 @@ pairs-held s n k v l e q p =
     ∙ ap (λ (j : ℕ). map pairIn (take j (rows pairSize mostPairs (drop pairsAt s)))) e
     ∙ ap (map pairIn) (rows-most pairSize mostPairs (drop pairsAt s) v)
     ∙ ap (λ (j : ℕ). map pairIn (take j (rows pairSize mostPairs (drop pairsAt s)))) q
-
-pub worked-out : (x t : List ℕ) (k : ℕ) (qs : List Pair) → length x ≡ indexSize → Tabled (indexOf qs) k t → length t ≡ entriesSize
-    → set (t ++ drop entriesSize x) entriesSize k ≡ indexBlock qs
-unfolding indexBlock
-worked-out x t k qs l w m =
-    let d : drop entriesSize x ≡ getD x entriesSize 0 ∷ [] =
-    drop-cons x entriesSize 0 (omega arith)
-    ∙ ap (λ (y : List ℕ). getD x entriesSize 0 ∷ y) (drop-of-length-le x {i = suc entriesSize} (omega arith)) in
-    ap (λ (y : List ℕ). set (t ++ y) entriesSize k) d ∙ set-at t (getD x entriesSize 0) [] k entriesSize m
-    ∙ ap (λ (y : List ℕ). y ++ (k ∷ [])) (w .table) ∙ ap (λ (j : ℕ). entryTable (indexOf qs) ++ (j ∷ [])) (w .count)

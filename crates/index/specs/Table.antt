@@ -43,7 +43,7 @@ withBit (e ∷ es) zero bit = record { device = e .device; mask = bitOr (e .mask
 withBit (e ∷ es) (suc j) bit = e ∷ withBit es j bit
 
 -- octets of one length that make one number are the same
-value-same : (a b : List ℕ) → length a ≡ length b → every isOctet a ≡ true → every isOctet b ≡ true → value a ≡ value b → a ≡ b
+pub value-same : (a b : List ℕ) → length a ≡ length b → every isOctet a ≡ true → every isOctet b ≡ true → value a ≡ value b → a ≡ b
 value-same a b n oa ob e =
     sym (octets-value a oa) ∙ ap (λ (k : ℕ). octetsOf k (value a)) n ∙ ap (octetsOf (length b)) e ∙ octets-value b ob
 

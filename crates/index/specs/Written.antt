@@ -186,7 +186,7 @@ mask-put (e ∷ es) (suc j) bit z a h =
     ∙ put-right r y (entrySize * j + maskAt) v ∙ ap (λ (l : List ℕ). r ++ l) (mask-put es j bit z (a .1) (omega arith))
     ∙ sym (append-assoc r (flat (map entryRow (withBit es j bit))) z)
 
-bit-length : (es : List Entry) (j bit : ℕ) → length (withBit es j bit) ≡ length es
+pub bit-length : (es : List Entry) (j bit : ℕ) → length (withBit es j bit) ≡ length es
 unfolding withBit
 bit-length [] j bit = refl
 bit-length (e ∷ es) zero bit = refl

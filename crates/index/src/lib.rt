@@ -1,6 +1,7 @@
 // The index by device behind the core of a block (document 02, T-02): worked out from the pairs, asked, compared. And the whole block of a
 // state, with the editions of the prefix (T-12) behind the index: its size, and how one is begun. The core is laid out as `State` says.
 mod table;
+mod walk;
 
 use state::Start;
 use state::State;
@@ -19,7 +20,7 @@ ghost use Rattle.wholes.specs.Engine.{begin, blankOn};
 ghost use Rattle.index.specs.Begun.{firstIn, begunIn, blankIn};
 ghost use Rattle.index.specs.Asked.{watchOf};
 ghost use Rattle.index.specs.InPlace.{tableIn, Stands};
-ghost use Rattle.index.specs.Renewed.{isIndexed, isMoved, followed, renewed};
+ghost use Rattle.index.specs.Renewed.{indexedOnce, isMoved, followed, renewed};
 
 // The octet that opens an event of a pair.
 const EVENT: u8 = 0xFF;
@@ -175,30 +176,20 @@ pub fn ask(s: &[u8; Whole::SIZE], kind: u8, address: &[u8; 6]) -> Watch
     told(mask_for(s, kind, address))
 }
 
-// The index of the pairs that a block holds, into a lent buffer of zeros.
-fn work_out(s: &[u8], index: &mut [u8])
-    requires { ⌜ (length (now s) ≡ wholeSize) × (length (now index) ≡ indexSize) × (now index ≡ replicate indexSize 0) ⌝ }
-    ensures { λ _. ⌜ now (index .exit) ≡ indexBlock (held (now (s .entry)) .pairs) ⌝ }
-{
-    let n = octets::at_most(s[State::COUNT_AT], State::PAIRS);
-    let k = table::build(
-        &mut index[..Whole::ENTRIES],
-        &s[State::PAIRS_AT..State::COUNT_AT],
-        n,
-    );
-    index[Whole::ENTRIES] = k as u8;
-}
-
-// Whether a block has its size and the index of the pairs that it holds.
+// Whether a block has its size, the index of the pairs that it holds, and holds each of them once, of a handle that there is.
 pub fn is_indexed(s: &[u8]) -> bool
-    ensures { λ r. ⌜ r ≡ isIndexed (now (s .entry)) ⌝ }
+    ensures { λ r. ⌜ r ≡ indexedOnce (now (s .entry)) ⌝ }
 {
     if s.len() != Whole::SIZE {
         return false;
     }
-    let mut index = [0u8; Whole::INDEX];
-    work_out(s, &mut index);
-    parts::same(&index, &s[Whole::INDEX_AT..Whole::EDITIONS_AT])
+    let n = octets::at_most(s[State::COUNT_AT], State::PAIRS);
+    walk::is_table(
+        &s[Whole::INDEX_AT..Whole::COUNT_AT],
+        s[Whole::COUNT_AT],
+        &s[State::PAIRS_AT..State::COUNT_AT],
+        n,
+    )
 }
 
 // The first n pairs of a block noted one by one in its own index, which holds zeros. Answers how many entries there are.

@@ -22,7 +22,7 @@ const DEVICES: u64 = 72057594037927936;
 pub(super) const MARKS: usize = 4;
 
 // The device of entry j, as a number.
-fn device_at(table: &[u8], j: usize) -> u64
+pub(super) fn device_at(table: &[u8], j: usize) -> u64
     requires { ⌜ (length (now table) ≡ entriesSize) × (j < mostPairs) ⌝ }
     ensures { λ r. ⌜ r ≡ little 7 (now (table .entry)) (entrySize * j) ⌝ }
 {
@@ -32,7 +32,7 @@ fn device_at(table: &[u8], j: usize) -> u64
 }
 
 // The place of a device among the first k entries, k where it has none.
-fn place(table: &[u8], k: usize, dev: u64) -> usize
+pub(super) fn place(table: &[u8], k: usize, dev: u64) -> usize
     requires { ⌜ (length (now table) ≡ entriesSize) × (k ≤ mostPairs) ⌝ }
     ensures { λ r. ⌜ (r ≤ k) × (r ≡ placeIn dev (take k (rows entrySize mostPairs (now (table .entry))))) ⌝ }
 {
@@ -59,7 +59,7 @@ pub(super) fn mask_of(table: &[u8], k: usize, dev: u64) -> u16
 }
 
 // The bit of a handle in a mask.
-fn bit_of(h: u8) -> u16
+pub(super) fn bit_of(h: u8) -> u16
     ensures { λ r. ⌜ r ≡ bitOf h ⌝ }
 {
     if h < State::HANDLES {
@@ -115,7 +115,7 @@ fn note(table: &mut [u8], k: usize, dev: u64, h: u8) -> usize
 }
 
 // The mark of a device: its address' lowest octet.
-fn mark_of(dev: u64) -> usize
+pub(super) fn mark_of(dev: u64) -> usize
     ensures { λ r. ⌜ (r ≡ markOf dev) × (r < marks) ⌝ }
 {
     (dev / 256 % 256) as usize
@@ -145,21 +145,4 @@ pub(super) fn key_at(pairs: &[u8], i: usize) -> u64
     let from = State::PAIR_ROW * i;
     let to = from + State::KEY;
     octets::get64(&pairs[from..to], 0)
-}
-
-// The table of the first n pairs, into a lent one of zeros. Answers how many entries there are.
-pub(super) fn build(table: &mut [u8], pairs: &[u8], n: usize) -> usize
-    requires { ⌜ (length (now table) ≡ entriesSize) × (now table ≡ replicate entriesSize 0) × (length (now pairs) ≡ pairsSize) × (n ≤ mostPairs) ⌝ }
-    ensures { λ r. ⌜ (r ≤ n) × Tabled (indexOf (map pairIn (take n (rows pairSize mostPairs (now (pairs .entry)))))) r (now (table .exit)) ⌝ }
-{
-    let mut seen = [0u64; MARKS];
-    let mut k = 0;
-    let mut i = 0;
-    while i < n {
-        let key = key_at(pairs, i);
-        let h = (key % 256) as u8;
-        k = note_marked(table, &mut seen, k, key / 256, h);
-        i += 1;
-    }
-    k
 }

@@ -5,21 +5,27 @@ use mathlib.Core.Path.{_≡_, refl, sym, ap, _∙_, subst}
 use mathlib.Core.Bool.{Bool, true, false, _&&_, false≢true}
 use mathlib.Core.List.{List, [], _∷_, _++_}
 use native.Mathlib.Omega.{arith}
-use borrow.Author.Tests.{eq-eqb, ne-eqb, le-leb, lt-leb}
+use borrow.Author.Tests.{eq-eqb, ne-eqb, le-leb, lt-leb, lt-ltb}
 use lib.Dec.{leb, eqb}
 use lib.ListN.{length, take, drop, getD, replicate, length-replicate}
 use Rattle.laws.specs.Put.{put, putIf, put-of, put-if-true, put-if-false, take-put, length-put}
 use Rattle.laws.specs.Rows.{put-whole}
 use Rattle.laws.specs.Tests.{pick, pick-true, pick-false, and-both, and-left, and-right, and-not-left, and-not-right, sames, sames-eq, eq-sames, sames-refl}
 use Rattle.lines.specs.Hex.{textOf}
-use Rattle.laws.specs.Loops.{each, every}
+use Rattle.laws.specs.Loops.{each, every, every-take}
+use Rattle.octets.specs.Little.{isOctet}
 use Rattle.rule.specs.Base.{All}
 use Rattle.sessions.specs.Machine.{coreRoom, saveRoom, lastNumber}
 use Rattle.model.specs.Block.{held, sound}
-use Rattle.model.specs.Layout.{blockSize, prefixLengthAt}
+use Rattle.model.specs.Layout.{blockSize, mostMonitors, prefixLengthAt}
+use Rattle.blocks.specs.Facts.{sound-facts}
+use Rattle.blocks.specs.Bounds.{Fits, pairs-fit}
+use Rattle.state.specs.Start.{octets-known}
+use Rattle.soundness.specs.Clauses.{loose}
+use Rattle.soundness.specs.Same.{sound-loose, loose-sound}
 use Rattle.restore.specs.Rows.{Row}
-use Rattle.model.specs.Types.{fresh}
-use Rattle.model.specs.Sound.{soundSettings, octetsUpTo}
+use Rattle.model.specs.Types.{Model, Pair, fresh}
+use Rattle.model.specs.Sound.{apart, soundModel, soundSettings, octetsUpTo}
 use Rattle.steps.specs.Keeps.{fresh-sound}
 use Rattle.editions.specs.Editions.{freshOn, soundEdition, soundEditions, rising, prefixFor, inForce, Gateway, soundGateway, imageOn, heldOn, isImageOn, recordsOn, mostEditions}
 use Rattle.editions.specs.Images.{held-image}
@@ -27,9 +33,10 @@ use Rattle.editions.specs.Exactly.{image-most-on}
 use Rattle.wholes.specs.Layout.{indexAt, indexSize, wholeSize}
 use Rattle.wholes.specs.Index.{indexBlock}
 use Rattle.wholes.specs.Whole.{heldWhole, laidWith, whole, soundWhole}
-use Rattle.wholes.specs.Laid.{soundPrefixes, sound-both, unsound-core, unsound-index, unsound-prefixes, sound-size, sound-whole, whole-good, whole-held, whole-length}
+use Rattle.wholes.specs.Laid.{soundPrefixes, sound-both, unsound-core, unsound-prefixes, core-holds, core-good, index-is, sound-size, sound-whole, whole-good, whole-held, whole-length}
 use Rattle.wholes.specs.Engine.{blockIn, blankOn}
-use Rattle.index.specs.Renewed.{isIndexed, renewed}
+use Rattle.index.specs.Once.{isLow, once}
+use Rattle.index.specs.Renewed.{isIndexed, indexedOnce, renewed}
 use Rattle.index.specs.Begun.{blankIn, blank-is}
 use Rattle.prefixes.specs.Sound.{isPrefixed, prefixed-sound}
 use Rattle.snapshots.specs.Saved.{savedOn, savesOn, saved-whole}
@@ -49,21 +56,41 @@ both-ways false false f g = refl
 pub whole-short : (s : List ℕ) → (length s ≡ wholeSize → ⊥) → false ≡ soundWhole s
 whole-short s h = sym (not-so (soundWhole s) (λ e. h (sound-size s e)))
 
-module _ (s : List ℕ) (l : length s ≡ wholeSize) (o : getD s prefixLengthAt 0 < 256) where
-  pub whole-unsound : sound (take blockSize s) ≡ false → false ≡ soundWhole s
-  whole-unsound e = sym (unsound-core s l o e)
+-- the pairs of a sound state are of handles that there are, and each is held once
+all-low : (qs : List Pair) → All Fits qs → every isLow qs ≡ true
+unfolding every isLow
+all-low [] a = refl
+all-low (q ∷ qs) a = and-both (lt-ltb (q .handle) mostMonitors (a .0 .handle-most)) (all-low qs (a .1))
+
+sound-once : (m : Model) → soundModel m ≡ true → once (m .pairs) ≡ true
+unfolding once
+sound-once m e = let f = sound-facts m e in and-both (all-low (m .pairs) (pairs-fit m f)) (f .pairs-apart)
+
+module _ (s : List ℕ) (l : length s ≡ wholeSize) (known : (k : ℕ) → getD s k 0 < 256) where
+  o : getD s prefixLengthAt 0 < 256
+  o = known prefixLengthAt
+
+  pub whole-unsound : loose (take blockSize s) ≡ false → false ≡ soundWhole s
+  whole-unsound e =
+      sym (unsound-core s l o (not-so (sound (take blockSize s)) (λ z. false≢true (sym e ∙ sound-loose (take blockSize s) z))))
 
   pub whole-unprefixed : {r : Bool} → r ≡ isPrefixed s → r ≡ false → false ≡ soundWhole s
   whole-unprefixed q z = sym (unsound-prefixes s l o (sym (prefixed-sound s l q) ∙ z))
 
-  pub whole-sound : {r p : Bool} → sound (take blockSize s) ≡ true → p ≡ isPrefixed s → p ≡ true → r ≡ isIndexed s → r ≡ soundWhole s
-  unfolding isIndexed
-  whole-sound {r} {p} e f z q = q ∙ go (sames (indexBlock (held s .pairs)) (take indexSize (drop indexAt s))) refl
-    where
-      go : (b : Bool) → sames (indexBlock (held s .pairs)) (take indexSize (drop indexAt s)) ≡ b
-          → (eqb (length s) wholeSize && sames (indexBlock (held s .pairs)) (take indexSize (drop indexAt s))) ≡ soundWhole s
-      go true b = rw (eq-eqb (length s) wholeSize l, b) (sym (sound-both s l o e b (sym (prefixed-sound s l f) ∙ z)))
-      go false b = rw (eq-eqb (length s) wholeSize l, b) (sym (unsound-index s l o b))
+  pub whole-sound : {r p : Bool} → loose (take blockSize s) ≡ true → p ≡ isPrefixed s → p ≡ true → r ≡ indexedOnce s → r ≡ soundWhole s
+  unfolding indexedOnce isIndexed once
+  whole-sound {r} {p} e f z q =
+      q ∙ both-ways (indexedOnce s) (soundWhole s)
+      (λ a. let i = and-left (isIndexed s) (once (held s .pairs)) a in
+      let c = and-right (isIndexed s) (once (held s .pairs)) a in
+      let core : sound (take blockSize s) ≡ true =
+      loose-sound (take blockSize s) (every-take isOctet blockSize s (octets-known s known)) e
+      (ap (λ (m : Model). apart (m .pairs)) (core-holds s l o) ∙ and-right (every isLow (held s .pairs)) (apart (held s .pairs)) c) in
+      sound-both s l o core
+      (and-right (eqb (length s) wholeSize) (sames (indexBlock (held s .pairs)) (take indexSize (drop indexAt s))) i) (sym (prefixed-sound s l f) ∙ z))
+      (λ a. and-both
+      (and-both (eq-eqb (length s) wholeSize l) (eq-sames (indexBlock (held s .pairs)) (take indexSize (drop indexAt s)) (sym (index-is s a))))
+      (sound-once (held s) (core-good s a)))
 
 -- what save wrote
 pub saves-not : (s out : List ℕ) → savesOn s (length out) ≡ false → (0 ≡ pick (savesOn s (length out)) (length (savedOn s)) 0) × (out ≡ putIf (savesOn s (length out)) out 0 (savedOn s))

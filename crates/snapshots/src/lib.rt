@@ -83,14 +83,14 @@ pub fn save_image(s: &[u8], out: &mut [u8]) -> usize
 }
 
 // Whether a block is that of a sound state: its core is sound, its index is that of the pairs held, its editions are sound, and the head has
-// the prefix in force at the position.
+// the prefix in force at the position. That no pair is held twice is told with the index.
 pub fn is_sound(s: &[u8]) -> bool
     ensures { λ r. ⌜ r ≡ soundWhole (now (s .entry)) ⌝ }
 {
     if s.len() != Whole::SIZE {
         return false;
     }
-    if !soundness::is_sound(&s[..State::SIZE]) {
+    if !soundness::is_loose(&s[..State::SIZE]) {
         return false;
     }
     if !prefixes::is_prefixed(s) {

@@ -33,7 +33,7 @@ use Rattle.blocks.specs.Held.{held-facts-of, held-measured, held-count, held-mo
 use Rattle.soundness.specs.Below.{below-all, run-zeros}
 use Rattle.soundness.specs.Clauses.{monitorRowAt, pairRowAt, monitorOfRow, monitorTest, liveAt, headTest}
 use Rattle.soundness.specs.Clauses.{monitorsTest, pairTest, keyAt}
-use Rattle.soundness.specs.Clauses.{otherTest, heldPairTest, placeTest, freeTest, pairsTest, soundBlock}
+use Rattle.soundness.specs.Clauses.{otherTest, placeTest, freeTest, loosePairsTest, loose, othersTest}
 use Rattle.soundness.specs.Keys.{key-pair}
 use Rattle.soundness.specs.Head.{facts-head}
 use Rattle.soundness.specs.Monitors.{place-row, place-holds}
@@ -43,13 +43,17 @@ use Rattle.soundness.specs.There.{Clauses}
 use Rattle.model.specs.Layout.{blockSize, conditionAt, countAt, dataAt, handleAt, headSize, lengthAt, mostData, mostMonitors, mostPairs, pairSize, pairsAt, pairsSize, positionAt}
 
 -- the clauses put together
-pub facts-block : (s : List ℕ) → Clauses s → soundBlock s ≡ true
-unfolding soundBlock pairsTest heldPairTest otherTest
-facts-block s f =
+pub facts-loose : (s : List ℕ) → Clauses s → loose s ≡ true
+unfolding loose loosePairsTest
+facts-loose s f =
     let c : ℕ = getD s countAt 0 in
-    rw (eq-eqb (length s) blockSize (f .size), f .head, f .monitors, le-leb c mostPairs (f .few), f .free)
-    (below-all (heldPairTest s) c (λ i b. and-both (f .row i b)
-    (below-all (λ (j : ℕ). not (eqb (keyAt s i) (keyAt s j))) i (λ j h. ap not (f .other i j h b)))))
+    rw (eq-eqb (length s) blockSize (f .size), f .head, f .monitors, le-leb c mostPairs (f .few), f .free) (below-all (placeTest s) c (f .row))
+
+pub facts-others : (s : List ℕ) → Clauses s → othersTest s ≡ true
+unfolding othersTest otherTest
+facts-others s f =
+    below-all (otherTest s) (getD s countAt 0)
+    (λ i b. below-all (λ (j : ℕ). not (eqb (keyAt s i) (keyAt s j))) i (λ j h. ap not (f .other i j h b)))
 
 -- the head row of a state passes
 module _ (m : Model) (f : SoundModel m) where

@@ -70,10 +70,6 @@ keyAt s i = little 8 s (pairsAt + pairSize * i)
 unfoldable pub otherTest : List ℕ → ℕ → Bool
 otherTest s i = allBelow (λ (j : ℕ). not (eqb (keyAt s i) (keyAt s j))) i
 
--- the pair at a place: what it holds, and that it is no pair before it
-unfoldable pub heldPairTest : List ℕ → ℕ → Bool
-heldPairTest s i = placeTest s i && otherTest s i
-
 -- the places behind the pairs
 unfoldable pub freeTest : List ℕ → ℕ → Bool
 freeTest s c = every isZero (take (countAt - (pairsAt + pairSize * c)) (drop (pairsAt + pairSize * c) s))
@@ -82,8 +78,13 @@ freeTest s c = every isZero (take (countAt - (pairsAt + pairSize * c)) (drop (pa
 unfoldable pub monitorsTest : List ℕ → Bool
 monitorsTest s = allBelow (λ (h : ℕ). monitorTest h (monitorRowAt s h)) mostMonitors
 
-unfoldable pub pairsTest : List ℕ → ℕ → Bool
-pairsTest s c = leb c mostPairs && freeTest s c && allBelow (heldPairTest s) c
+unfoldable pub loosePairsTest : List ℕ → ℕ → Bool
+loosePairsTest s c = leb c mostPairs && freeTest s c && allBelow (placeTest s) c
 
-unfoldable pub soundBlock : List ℕ → Bool
-soundBlock s = eqb (length s) blockSize && headTest (take headSize s) && monitorsTest s && pairsTest s (getD s countAt 0)
+-- .. but that a pair may be held twice
+unfoldable pub loose : List ℕ → Bool
+loose s = eqb (length s) blockSize && headTest (take headSize s) && monitorsTest s && loosePairsTest s (getD s countAt 0)
+
+-- .. and each pair another than those before it
+unfoldable pub othersTest : List ℕ → Bool
+othersTest s = allBelow (otherTest s) (getD s countAt 0)

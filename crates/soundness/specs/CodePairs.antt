@@ -20,19 +20,16 @@ use Rattle.model.specs.Types.{Monitor}
 use Rattle.model.specs.Monitors.{bit, sifts, siftsBy}
 use Rattle.model.specs.Image.{monitorFrom, monitorIn}
 use Rattle.model.specs.Sound.{soundOf}
-use Rattle.model.specs.Block.{sound}
 use Rattle.blocks.specs.Added.{filteringOf, row-filtering}
 use Rattle.state.specs.Start.{octets-known}
 use Rattle.soundness.specs.Below.{allBelow, below-more, below-fails}
 use Rattle.soundness.specs.Clauses.{monitorRowAt, pairRowAt, headTest, monitorOfRow}
 use Rattle.soundness.specs.Clauses.{liveAt, pairTest}
-use Rattle.soundness.specs.Clauses.{placeTest, keyAt, otherTest, heldPairTest, freeTest, monitorsTest, pairsTest}
-use Rattle.soundness.specs.Clauses.{soundBlock}
+use Rattle.soundness.specs.Clauses.{placeTest, keyAt, otherTest, freeTest, monitorsTest, loosePairsTest, loose}
 use Rattle.soundness.specs.Fields.{fieldsTest}
 use Rattle.soundness.specs.Fields.{pair-tests}
 use Rattle.soundness.specs.Front.{live-row, live-none}
 use Rattle.soundness.specs.Pairs.{length-pairRowAt, octets-pairRowAt}
-use Rattle.soundness.specs.Same.{sound-block}
 use Rattle.model.specs.Layout.{blockSize, countAt, extraAt, handleAt, headSize, monitorSize, monitorsAt, mostMonitors, mostPairs, pairSize, pairsAt, positionAt}
 
 -- whether a row's monitor filters duplicates
@@ -142,57 +139,56 @@ module _ (s : List ℕ) (l : length s ≡ blockSize) (i : ℕ) where
   unfolding otherTest
   other-end j a e = sym (rw e at a)
 
--- the pairs, one after another
-module _ (s : List ℕ) (i : ℕ) {a b : Bool}
-    (p : a ≡ placeTest s i) (q : b ≡ otherTest s i) where
-  pub pairs-stop : (c : ℕ) → i < c → not (a && b) ≡ true → false ≡ allBelow (heldPairTest s) c
-  unfolding heldPairTest
-  pairs-stop c h t = below-fails (heldPairTest s) c i h (sym (rw (p, q)) ∙ not-true (a && b) t)
+-- the pairs, one after another: what each holds
+module _ (s : List ℕ) (i : ℕ) {a : Bool} (p : a ≡ placeTest s i) where
+  pub pairs-stop : (c : ℕ) → i < c → not a ≡ true → false ≡ allBelow (placeTest s) c
+  pairs-stop c h t = below-fails (placeTest s) c i h (sym p ∙ not-true a t)
 
-  pub pairs-more : allBelow (heldPairTest s) i ≡ true → not (a && b) ≡ false
-      → allBelow (heldPairTest s) (i + 1) ≡ true
-  unfolding heldPairTest
-  pairs-more h t = below-more (heldPairTest s) i h (sym (rw (p, q)) ∙ not-false (a && b) t)
+  pub pairs-more : allBelow (placeTest s) i ≡ true → not a ≡ false → allBelow (placeTest s) (i + 1) ≡ true
+  pairs-more h t = below-more (placeTest s) i h (sym p ∙ not-false a t)
+
+-- .. and that it is no pair before it
+module _ (s : List ℕ) (i : ℕ) {b : Bool} (q : b ≡ otherTest s i) where
+  pub others-stop : (c : ℕ) → i < c → not b ≡ true → false ≡ allBelow (otherTest s) c
+  others-stop c h t = below-fails (otherTest s) c i h (sym q ∙ not-true b t)
+
+  pub others-more : allBelow (otherTest s) i ≡ true → not b ≡ false → allBelow (otherTest s) (i + 1) ≡ true
+  others-more h t = below-more (otherTest s) i h (sym q ∙ not-false b t)
 
 -- the count, what is behind the pairs, and the pairs
 module _ (s : List ℕ) (c : ℕ) (e : c ≡ getD s countAt 0) where
-  pub count-high : mostPairs < c → false ≡ pairsTest s (getD s countAt 0)
-  unfolding pairsTest
+  pub count-high : mostPairs < c → false ≡ loosePairsTest s (getD s countAt 0)
+  unfolding loosePairsTest
   count-high h = rw (← e) (rw (lt-leb c mostPairs h))
 
   pub count-free : {z : Bool} → c ≤ mostPairs → z ≡ every isZero (take (countAt - (pairsAt + pairSize * c)) (drop (pairsAt + pairSize * c) s))
       → not z ≡ true
-      → false ≡ pairsTest s (getD s countAt 0)
-  unfolding pairsTest freeTest
+      → false ≡ loosePairsTest s (getD s countAt 0)
+  unfolding loosePairsTest freeTest
   count-free {z} h q t = rw (← e) (rw (le-leb c mostPairs h, ← q, not-true z t))
 
   pub count-held : {z b : Bool} → c ≤ mostPairs → z ≡ every isZero (take (countAt - (pairsAt + pairSize * c)) (drop (pairsAt + pairSize * c) s))
       → not z ≡ false
-      → b ≡ allBelow (heldPairTest s) c → b ≡ pairsTest s (getD s countAt 0)
-  unfolding pairsTest freeTest
+      → b ≡ allBelow (placeTest s) c → b ≡ loosePairsTest s (getD s countAt 0)
+  unfolding loosePairsTest freeTest
   count-held {z} h q t d = rw (← e) (rw (le-leb c mostPairs h, ← q, not-false z t) d)
 
 -- the whole block
-module _ (s : List ℕ) (o : (k : ℕ) → getD s k 0 < 256) where
-  whole : {b : Bool} → b ≡ soundBlock s → b ≡ sound s
-  whole q = q ∙ sound-block s (octets-known s o)
+module _ (s : List ℕ) where
+  pub whole-length : (length s ≡ blockSize → ⊥) → false ≡ loose s
+  unfolding loose
+  whole-length h = sym (rw (ne-eqb (length s) blockSize h))
 
-  pub whole-length : (length s ≡ blockSize → ⊥) → false ≡ sound s
-  unfolding soundBlock
-  whole-length h = whole (sym (rw (ne-eqb (length s) blockSize h)))
-
-  pub whole-head : {b : Bool} → length s ≡ blockSize → b ≡ headTest (take headSize s) → not b ≡ true → false ≡ sound s
-  unfolding soundBlock
-  whole-head {b} h q t = whole (sym (rw (eq-eqb (length s) blockSize h, ← q, not-true b t)))
+  pub whole-head : {b : Bool} → length s ≡ blockSize → b ≡ headTest (take headSize s) → not b ≡ true → false ≡ loose s
+  unfolding loose
+  whole-head {b} h q t = sym (rw (eq-eqb (length s) blockSize h, ← q, not-true b t))
 
   pub whole-monitors : {b m : Bool} → length s ≡ blockSize → b ≡ headTest (take headSize s) → not b ≡ false
-      → m ≡ monitorsTest s → not m ≡ true → false ≡ sound s
-  unfolding soundBlock
-  whole-monitors {b} {m} h q t p u =
-      whole (sym (rw (eq-eqb (length s) blockSize h, ← q, not-false b t, ← p, not-true m u)))
+      → m ≡ monitorsTest s → not m ≡ true → false ≡ loose s
+  unfolding loose
+  whole-monitors {b} {m} h q t p u = sym (rw (eq-eqb (length s) blockSize h, ← q, not-false b t, ← p, not-true m u))
 
   pub whole-pairs : {b m p : Bool} → length s ≡ blockSize → b ≡ headTest (take headSize s) → not b ≡ false
-      → m ≡ monitorsTest s → not m ≡ false → p ≡ pairsTest s (getD s countAt 0) → p ≡ sound s
-  unfolding soundBlock
-  whole-pairs {b} {m} h q t d u e =
-      whole (e ∙ sym (rw (eq-eqb (length s) blockSize h, ← q, not-false b t, ← d, not-false m u)))
+      → m ≡ monitorsTest s → not m ≡ false → p ≡ loosePairsTest s (getD s countAt 0) → p ≡ loose s
+  unfolding loose
+  whole-pairs {b} {m} h q t d u e = e ∙ sym (rw (eq-eqb (length s) blockSize h, ← q, not-false b t, ← d, not-false m u))

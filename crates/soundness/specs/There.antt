@@ -23,11 +23,9 @@ use Rattle.model.specs.Block.{padTo, monitorBlock, pairBlock, padded, held, sou
 use Rattle.blocks.specs.Laid.{padded-parts}
 use Rattle.blocks.specs.Facts.{SoundModel, facts-sound, monitors-facts}
 use Rattle.blocks.specs.Tables.{from, length-from}
-use Rattle.soundness.specs.Below.{all-below}
+use Rattle.soundness.specs.Below.{allBelow, all-below}
 use Rattle.soundness.specs.Clauses.{pairRowAt, liveAt, headTest, monitorsTest, pairTest, placeTest, keyAt}
-use Rattle.soundness.specs.Clauses.{otherTest}
-use Rattle.soundness.specs.Clauses.{heldPairTest}
-use Rattle.soundness.specs.Clauses.{freeTest, pairsTest, soundBlock}
+use Rattle.soundness.specs.Clauses.{otherTest, freeTest, loosePairsTest, loose, othersTest}
 use Rattle.soundness.specs.Keys.{key-pair}
 use Rattle.soundness.specs.Rows.{one-cut, part-cut, pair-row}
 use Rattle.soundness.specs.Head.{HeadFacts, head-facts, head-row, little-lt}
@@ -46,32 +44,47 @@ pub record Clauses (s : List ℕ) : Type 0 where
   pub row : (i : ℕ) → i < getD s countAt 0 → placeTest s i ≡ true
   pub other : (i j : ℕ) → j < i → i < getD s countAt 0 → eqb (keyAt s i) (keyAt s j) ≡ false
 
-pub clauses : (s : List ℕ) → soundBlock s ≡ true → Clauses s
-unfolding soundBlock pairsTest heldPairTest otherTest
-clauses s e =
+-- the size and the number of pairs
+pub loose-size : (s : List ℕ) → loose s ≡ true → length s ≡ blockSize
+unfolding loose
+loose-size s e =
+    let a = eqb (length s) blockSize in
+    let b = headTest (take headSize s) in
+    let m = monitorsTest s in
+    eqb-true (length s) blockSize (and-left a b (and-left (a && b) m (and-left (a && b && m) (loosePairsTest s (getD s countAt 0)) e)))
+
+pub loose-few : (s : List ℕ) → loose s ≡ true → getD s countAt 0 ≤ mostPairs
+unfolding loose loosePairsTest
+loose-few s e =
+    let c : ℕ = getD s countAt 0 in
+    let f = leb c mostPairs in
+    let g = freeTest s c in
+    let h = allBelow (placeTest s) c in
+    leb-true c mostPairs (and-left f g (and-left (f && g) h (and-right (eqb (length s) blockSize && headTest (take headSize s) && monitorsTest s) (loosePairsTest s c) e)))
+
+pub clauses : (s : List ℕ) → loose s ≡ true → othersTest s ≡ true → Clauses s
+unfolding loose loosePairsTest othersTest otherTest
+clauses s e z =
     let c : ℕ = getD s countAt 0 in
     let a = eqb (length s) blockSize in
     let b = headTest (take headSize s) in
     let m = monitorsTest s in
-    let p = pairsTest s c in
+    let p = loosePairsTest s c in
     let e2 = and-left (a && b && m) p e in
     let e1 = and-left (a && b) m e2 in
     let q = and-right (a && b && m) p e in
     let f = leb c mostPairs in
     let g = freeTest s c in
-    let h = Rattle.soundness.specs.Below.allBelow (heldPairTest s) c in
-    let q1 = and-left (f && g) h q in
-    let each : (i : ℕ) → i < c → heldPairTest s i ≡ true = all-below (heldPairTest s) c (and-right (f && g) h q) in
+    let q1 = and-left (f && g) (allBelow (placeTest s) c) q in
     record {
       size = eqb-true (length s) blockSize (and-left a b e1);
       head = and-right a b e1;
       monitors = and-right (a && b) m e2;
       few = leb-true c mostPairs (and-left f g q1);
       free = and-right f g q1;
-      row = λ i k. and-left (placeTest s i) (otherTest s i) (each i k);
+      row = all-below (placeTest s) c (and-right (f && g) (allBelow (placeTest s) c) q);
       other = λ i j k n. not-true (eqb (keyAt s i) (keyAt s j))
-          (all-below (λ (j : ℕ). not (eqb (keyAt s i) (keyAt s j))) i
-          (and-right (placeTest s i) (otherTest s i) (each i n)) j k);
+          (all-below (λ (j : ℕ). not (eqb (keyAt s i) (keyAt s j))) i (all-below (otherTest s) c z i n) j k);
     }
 
 module _ (s : List ℕ) (o : every isOctet s ≡ true) (f : Clauses s) where

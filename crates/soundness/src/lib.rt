@@ -11,8 +11,8 @@ ghost use mathlib.Core.Path.{_≡_};
 ghost use lib.ListN.{length, take, getD};
 ghost use Rattle.model.specs.Block.{sound};
 ghost use Rattle.soundness.specs.Below.{allBelow};
-ghost use Rattle.soundness.specs.Clauses.{headTest, heldTest, monitorTest, placeTest, heldPairTest};
-ghost use Rattle.soundness.specs.Clauses.{monitorsTest, pairsTest};
+ghost use Rattle.soundness.specs.Clauses.{headTest, heldTest, monitorTest, placeTest};
+ghost use Rattle.soundness.specs.Clauses.{monitorsTest, loosePairsTest, loose};
 ghost use Rattle.soundness.specs.Code.{sumAbove};
 ghost use Rattle.soundness.specs.Fields.{windowTest, latestTest, emptyTest, blankTest, seenTest, restTest, siftsAt, addedTest, formTest};
 ghost use Rattle.octets.specs.Numbers.{numberAt};
@@ -230,15 +230,11 @@ fn pair_sound(s: &[u8], i: usize) -> bool
 
 fn held_pairs_sound(s: &[u8], c: usize) -> bool
     requires { ⌜ (length (now s) ≡ blockSize) × (c ≤ mostPairs) ⌝ }
-    ensures { λ b. ⌜ b ≡ allBelow (heldPairTest (now (s .entry))) c ⌝ }
+    ensures { λ b. ⌜ b ≡ allBelow (placeTest (now (s .entry))) c ⌝ }
 {
-    let mut seen = [0u8; keys::MARKS];
     let mut i = 0;
     while i < c {
-        let held = pair_sound(s, i);
-        let other = keys::take_key(&mut seen, s, i);
-        let good = held & other;
-        if !good {
+        if !pair_sound(s, i) {
             return false;
         }
         i += 1;
@@ -246,10 +242,10 @@ fn held_pairs_sound(s: &[u8], c: usize) -> bool
     true
 }
 
-// Whether the pairs are sound, with zeros behind them.
+// Whether the pairs hold what they may, with zeros behind them.
 fn pairs_sound(s: &[u8]) -> bool
     requires { ⌜ length (now s) ≡ blockSize ⌝ }
-    ensures { λ b. ⌜ b ≡ pairsTest (now (s .entry)) (getD (now (s .entry)) countAt 0) ⌝ }
+    ensures { λ b. ⌜ b ≡ loosePairsTest (now (s .entry)) (getD (now (s .entry)) countAt 0) ⌝ }
 {
     let c = octets::wide(s[State::COUNT_AT]);
     if State::PAIRS < c {
@@ -262,9 +258,9 @@ fn pairs_sound(s: &[u8]) -> bool
     held_pairs_sound(s, c)
 }
 
-// Whether the octets are a sound state's block.
-pub fn is_sound(s: &[u8]) -> bool
-    ensures { λ b. ⌜ b ≡ sound (now (s .entry)) ⌝ }
+// Whether the octets are a sound state's block, but that a pair may be held twice: where an index is compared with the pairs, that is told there.
+pub fn is_loose(s: &[u8]) -> bool
+    ensures { λ b. ⌜ b ≡ loose (now (s .entry)) ⌝ }
 {
     if s.len() != State::SIZE {
         return false;
@@ -276,4 +272,14 @@ pub fn is_sound(s: &[u8]) -> bool
         return false;
     }
     pairs_sound(s)
+}
+
+// Whether the octets are a sound state's block.
+pub fn is_sound(s: &[u8]) -> bool
+    ensures { λ b. ⌜ b ≡ sound (now (s .entry)) ⌝ }
+{
+    if !is_loose(s) {
+        return false;
+    }
+    keys::are_others(s, octets::wide(s[State::COUNT_AT]))
 }

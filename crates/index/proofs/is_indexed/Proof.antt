@@ -1,63 +1,76 @@
-use Rattle.wholes.specs.Layout.{indexSize}
-use Prim.Native.Nat.{_-_}
 use mathlib.Core.Path.{refl}
-use lib.ListN.{length}
-use native.Mathlib.Omega.{arith}
-use Rattle.index.specs.Renewed.{indexed-not, indexed-is}
+use Rattle.model.specs.Layout.{pairsSize}
+use Rattle.wholes.specs.Layout.{entriesSize}
+use Rattle.index.specs.Renewed.{indexed-not, indexed-is, pairs-held}
 use borrow.Author.Needs.{needs}
 use Rattle.index.proofs.is_indexed.Statement.{statement}
 use Rattle.index.proofs.is_indexed.Tie as tie
 use Rattle.index.proofs.is_indexed.Reads as reads
 use Rattle.index.proofs.is_indexed.Lts as lts
-use Rattle.index.proofs.work_out.Reads as work-out-reads
-use Rattle.parts.proofs.same.Reads as same-reads
+use Rattle.index.proofs.walk.is_table.Reads as is-table-reads
+use Rattle.octets.proofs.at_most.Reads as at-most-reads
 
--- src/lib.rt:146:9
+-- src/lib.rt:184:9
 returns : tie.Need-returns
 returns c = indexed-not (c .before .before .args .s .now) (c .if1 .taken)
 
--- src/lib.rt:149:17
-slice-aggregate-work-out : tie.Need-slice-aggregate-work-out
-slice-aggregate-work-out c = search needs
+-- src/lib.rt:186:29
+shared-slice-read-at-most : tie.Need-shared-slice-read-at-most
+shared-slice-read-at-most c = search needs
 
--- src/lib.rt:149:5
-work-out-requires : tie.Need-work-out-requires
-work-out-requires c κs = search needs
+-- src/lib.rt:186:9
+at-most-requires : tie.Need-at-most-requires
+at-most-requires c κs = search needs
 
--- src/lib.rt:150:17
-slice-aggregate-same : tie.Need-slice-aggregate-same
-slice-aggregate-same c = search needs
+-- src/lib.rt:188:9
+sub-is-table : tie.Need-sub-is-table
+sub-is-table c = search needs
 
--- src/lib.rt:150:25
-sub-same : tie.Need-sub-same
-sub-same c = search needs
+-- src/lib.rt:188:9
+part-is-table-start : tie.Need-part-is-table-start
+part-is-table-start c = search needs
 
--- src/lib.rt:150:25
-part-same-start : tie.Need-part-same-start
-part-same-start c = search needs
+-- src/lib.rt:188:9
+part-is-table-end : tie.Need-part-is-table-end
+part-is-table-end c = search needs
 
--- src/lib.rt:150:25
-part-same-end : tie.Need-part-same-end
-part-same-end c = search needs
+-- src/lib.rt:189:9
+shared-slice-read-is-table : tie.Need-shared-slice-read-is-table
+shared-slice-read-is-table c = search needs
 
--- src/lib.rt:150:5
-same-requires : tie.Need-same-requires
-same-requires c κs = search needs
+-- src/lib.rt:190:9
+sub-is-table-2 : tie.Need-sub-is-table-2
+sub-is-table-2 c = search needs
 
--- src/lib.rt:142:1
+-- src/lib.rt:190:9
+part-is-table-start-2 : tie.Need-part-is-table-start-2
+part-is-table-start-2 c = search needs
+
+-- src/lib.rt:190:9
+part-is-table-end-2 : tie.Need-part-is-table-end-2
+part-is-table-end-2 c = search needs
+
+-- src/lib.rt:187:5
+is-table-requires : tie.Need-is-table-requires
+is-table-requires c κs = search needs
+
+-- src/lib.rt:180:1
 returns-2 : tie.Need-returns-2
-returns-2 c = let a = c .before .before .before .before .before .before .before .before in indexed-is (a .args .s .now) (omega arith) _ indexSize (c .before .before .before .before .work-out .ensures) refl (c .same .ensures)
+returns-2 c = let a = c .before .before .before .before .before .before .before .before in indexed-is (a .args .s .now) (c .before .before .before .before .before .before .if1 .left) entriesSize _ (pairs-held (a .args .s .now) _ pairsSize _ (c .before .before .before .before .before .before .if1 .left) (c .before .before .before .before .at-most .ensures .0) refl refl) refl (c .is-table .ensures)
 
 pub is-indexed-spec : {M : Type 1} → statement M
 is-indexed-spec =
     tie.close
     (tie.spec
     returns
-    slice-aggregate-work-out
-    work-out-requires
-    slice-aggregate-same
-    sub-same
-    part-same-start
-    part-same-end
-    same-requires
+    shared-slice-read-at-most
+    at-most-requires
+    sub-is-table
+    part-is-table-start
+    part-is-table-end
+    shared-slice-read-is-table
+    sub-is-table-2
+    part-is-table-start-2
+    part-is-table-end-2
+    is-table-requires
     returns-2)

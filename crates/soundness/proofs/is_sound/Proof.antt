@@ -1,50 +1,48 @@
-use Rattle.soundness.specs.CodePairs.{whole-length, whole-head, whole-monitors, whole-pairs}
 use native.Mathlib.Omega.{arith}
+use mathlib.Core.Path.{sym, _∙_}
+use borrow.Author.Tests.{not-false}
+use Rattle.soundness.specs.There.{loose-size, loose-few}
+use Rattle.soundness.specs.Same.{whole-loose, whole-others}
 use borrow.Author.Needs.{needs}
 use Rattle.soundness.proofs.is_sound.Statement.{statement}
 use Rattle.soundness.proofs.is_sound.Tie as tie
 use Rattle.soundness.proofs.is_sound.Reads as reads
 use Rattle.soundness.proofs.is_sound.Lts as lts
-use Rattle.soundness.proofs.head_sound.Reads as head-sound-reads
-use Rattle.soundness.proofs.monitors_sound.Reads as monitors-sound-reads
-use Rattle.soundness.proofs.pairs_sound.Reads as pairs-sound-reads
+use Rattle.octets.proofs.wide.Reads as wide-reads
+use Rattle.soundness.proofs.is_loose.Reads as is-loose-reads
+use Rattle.soundness.proofs.keys.are_others.Reads as are-others-reads
 
--- src/lib.rt:252:9
+-- src/lib.rt:281:9
+is-loose-requires : tie.Need-is-loose-requires
+is-loose-requires c κs = search needs
+
+-- src/lib.rt:282:9
 returns : tie.Need-returns
-returns c = whole-length (c .before .before .args .s .now) (λ k. omega (arith, c .before .shared-slice-known .given k)) (c .if1 .taken)
+returns c = whole-loose (c .before .before .before .args .s .now) (λ k. omega (arith, c .before .before .shared-slice-known .given k)) (c .before .is-loose .ensures) (c .if1 .taken)
 
--- src/lib.rt:254:9
-head-sound-requires : tie.Need-head-sound-requires
-head-sound-requires c κs = search needs
+-- src/lib.rt:284:38
+shared-slice-read-wide : tie.Need-shared-slice-read-wide
+shared-slice-read-wide c = let n = loose-size (c .before .before .before .before .args .s .now) (sym (c .before .before .is-loose .ensures) ∙ not-false _ (c .before .if1 .left)) in omega arith
 
--- src/lib.rt:255:9
+-- src/lib.rt:284:25
+wide-requires : tie.Need-wide-requires
+wide-requires c κs = search needs
+
+-- src/lib.rt:284:5
+are-others-requires : tie.Need-are-others-requires
+are-others-requires c κs = let l = sym (c .before .before .before .is-loose .ensures) ∙ not-false _ (c .before .before .if1 .left) in (loose-size (c .before .before .before .before .before .args .s .now) l, let n = loose-few (c .before .before .before .before .before .args .s .now) l in let w = c .wide .ensures .0 in omega arith)
+
+-- src/lib.rt:278:1
 returns-2 : tie.Need-returns-2
-returns-2 c = whole-head (c .before .before .before .before .args .s .now) (λ k. omega (arith, c .before .before .before .shared-slice-known .given k)) (c .before .before .if1 .left) (c .before .head-sound .ensures) (c .if2 .taken)
-
--- src/lib.rt:257:9
-monitors-sound-requires : tie.Need-monitors-sound-requires
-monitors-sound-requires c κs = search needs
-
--- src/lib.rt:258:9
-returns-3 : tie.Need-returns-3
-returns-3 c = whole-monitors (c .before .before .before .before .before .before .args .s .now) (λ k. omega (arith, c .before .before .before .before .before .shared-slice-known .given k)) (c .before .before .before .before .if1 .left) (c .before .before .before .head-sound .ensures) (c .before .before .if2 .left) (c .before .monitors-sound .ensures) (c .if3 .taken)
-
--- src/lib.rt:260:5
-pairs-sound-requires : tie.Need-pairs-sound-requires
-pairs-sound-requires c κs = search needs
-
--- src/lib.rt:248:1
-returns-4 : tie.Need-returns-4
-returns-4 c = whole-pairs (c .before .before .before .before .before .before .before .args .s .now) (λ k. omega (arith, c .before .before .before .before .before .before .shared-slice-known .given k)) (c .before .before .before .before .before .if1 .left) (c .before .before .before .before .head-sound .ensures) (c .before .before .before .if2 .left) (c .before .before .monitors-sound .ensures) (c .before .if3 .left) (c .pairs-sound .ensures)
+returns-2 c = whole-others (c .before .before .before .before .before .before .args .s .now) (λ k. omega (arith, c .before .before .before .before .before .shared-slice-known .given k)) (c .before .before .before .before .is-loose .ensures) (c .before .before .before .if1 .left) (c .before .wide .ensures .0) (c .are-others .ensures)
 
 pub is-sound-spec : {M : Type 1} → statement M
 is-sound-spec =
     tie.close
     (tie.spec
+    is-loose-requires
     returns
-    head-sound-requires
-    returns-2
-    monitors-sound-requires
-    returns-3
-    pairs-sound-requires
-    returns-4)
+    shared-slice-read-wide
+    wide-requires
+    are-others-requires
+    returns-2)

@@ -1,0 +1,81 @@
+use borrow.Author.Needs.{needs}
+use native.Mathlib.Omega.{arith}
+use Prim.Native.Nat.{_+_, _-_, _*_, _≤_}
+use mathlib.Core.Path.{_≡_, refl}
+use mathlib.Core.Bool.{_&&_}
+use mathlib.Core.List.{map}
+use lib.ListN.{take, drop}
+use Rattle.laws.specs.Tests.{sames}
+use Rattle.laws.specs.Rows.{rows}
+use Rattle.model.specs.Layout.{mostPairs}
+use Rattle.wholes.specs.Layout.{entrySize}
+use Rattle.index.specs.Walk.{rowMask}
+use Rattle.index.specs.Compared.{gathered-more, gathered-end}
+use Rattle.index.proofs.walk.is_gathered.Statement.{statement}
+use Rattle.index.proofs.walk.is_gathered.Tie as tie
+use Rattle.index.proofs.walk.is_gathered.Reads as reads
+use Rattle.index.proofs.walk.is_gathered.Lts as lts
+use Rattle.octets.proofs.get16.Reads as get16-reads
+
+abbrev Inv-loop : tie.InvT-loop
+Inv-loop table masks k all₀ j₀ all j = (j ≤ k) × (sames (map rowMask (take k (rows entrySize mostPairs table))) (take k masks) ≡ (all && sames (drop j (map rowMask (take k (rows entrySize mostPairs table)))) (drop j (take k masks))))
+
+abbrev μ-loop : tie.MeasureT-loop
+μ-loop table masks k all₀ j₀ all j = k - j
+
+-- src/walk.rt:104:5
+loop-holds : tie.Need-loop-holds Inv-loop μ-loop
+loop-holds c = (omega arith, refl)
+
+-- src/walk.rt:105:41
+mul-get16 : tie.Need-mul-get16 Inv-loop μ-loop
+mul-get16 c = omega arith
+
+-- src/walk.rt:105:41
+add-get16 : tie.Need-add-get16 Inv-loop μ-loop
+add-get16 c = omega arith
+
+-- src/walk.rt:105:13
+get16-requires : tie.Need-get16-requires Inv-loop μ-loop
+get16-requires c κs = search needs
+
+-- src/walk.rt:106:30
+mul-all : tie.Need-mul-all Inv-loop μ-loop
+mul-all c = omega arith
+
+-- src/walk.rt:106:30
+shared-slice-read-all : tie.Need-shared-slice-read-all Inv-loop μ-loop
+shared-slice-read-all c = omega arith
+
+-- src/walk.rt:107:9
+add-j : tie.Need-add-j Inv-loop μ-loop
+add-j c = omega arith
+
+-- src/walk.rt:104:5
+loop-less : tie.Need-loop-less Inv-loop μ-loop
+loop-less c = omega arith
+
+-- src/walk.rt:104:5
+loop-again : tie.Need-loop-again Inv-loop μ-loop
+loop-again c = let a = c .before .before .before .before .before .before in let l = c .before .before .before .loop in (omega arith, gathered-more (a .args .table .now) (a .args .masks .now) (a .args .k) (a .pre .1) (a .pre .2) (l .all) (l .j) (l .inv .1) (a .pre .0) (omega arith) (c .before .get16 .ensures))
+
+-- src/walk.rt:98:1
+returns : tie.Need-returns Inv-loop μ-loop
+returns c = let a = c .before .before .before .before in let l = c .before .loop in gathered-end (a .args .table .now) (a .args .masks .now) (a .args .k) (a .pre .1) (a .pre .2) (l .all) (l .j) (l .inv .1) (omega arith)
+
+pub is-gathered-spec : {M : Type 1} → statement M
+is-gathered-spec =
+    tie.close
+    (tie.spec
+    Inv-loop
+    μ-loop
+    loop-holds
+    mul-get16
+    add-get16
+    get16-requires
+    mul-all
+    shared-slice-read-all
+    add-j
+    loop-less
+    loop-again
+    returns)
