@@ -14,7 +14,7 @@ use lib.Seq.{length-take-le, take-at, drop-at, take-all, take-take, getD-take, g
 use Rattle.laws.specs.Tests.{pick, sames, sames-eq, eq-sames, and-left, and-right, and-both}
 use Rattle.laws.specs.Loops.{every, map-append, every-take, every-drop}
 use Rattle.laws.specs.Rows.{row, rows, past, flat, flat-rows, row-at, length-rows, length-row}
-use Rattle.octets.specs.Little.{little, value, octetsOf, isOctet, little-value, little-drop, little-row, octets-value}
+use Rattle.octets.specs.Little.{little, value, octetsOf, isOctet, little-value, little-drop, little-row, little-take, octets-value}
 use Rattle.octets.specs.Numbers.{numberAt, number-of}
 use Rattle.parts.specs.Parts.{isZero, same-step, same-end}
 use Rattle.rule.specs.Base.{All}
@@ -348,10 +348,13 @@ module _ (t masks : List ℕ) (k : ℕ) (m : length masks ≡ mostPairs) (b : k 
       ∙ little-row 2 entrySize j maskAt t (omega arith)
 
   module _ (all : Bool) (j : ℕ) (q : sames xs ys ≡ (all && sames (drop j xs) (drop j ys))) where
-    pub gathered-more : length t ≡ entriesSize → j < k → {v : ℕ} → v ≡ numberAt 2 t (entrySize * j + maskAt)
+    pub gathered-more : length t ≡ entriesSize → j < k → (n : ℕ) → n ≡ entrySize → {v : ℕ} → v ≡ numberAt 2 (take n (drop (entrySize * j) t)) maskAt
         → sames xs ys ≡ ((all && eqb v (getD masks j 0)) && sames (drop (j + 1) xs) (drop (j + 1) ys))
-    gathered-more l h {v} e =
-        let u : getD xs j 0 ≡ v = mask-at j h ∙ sym (number-of 2 t (entrySize * j + maskAt) e (omega arith)) in
+    gathered-more l h n i {v} e =
+        let r : List ℕ = drop (entrySize * j) t in
+        let d : length (take n r) ≡ n = length-take-le n r (rw (length-drop (entrySize * j) t) (omega arith)) in
+        let u : getD xs j 0 ≡ v =
+        mask-at j h ∙ sym (number-of 2 (take n r) maskAt e (omega arith) ∙ little-take 2 n r maskAt (omega arith) ∙ little-drop 2 (entrySize * j) t maskAt) in
         let w : getD ys j 0 ≡ getD masks j 0 = getD-take k masks j 0 h in
         same-step xs ys all j (xs-long ∙ sym ys-long) q (omega (arith, xs-long))
         ∙ ap (λ (x : ℕ). (all && eqb x (getD ys j 0)) && sames (drop (j + 1) xs) (drop (j + 1) ys)) u

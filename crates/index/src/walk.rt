@@ -102,7 +102,9 @@ fn is_gathered(table: &[u8], masks: &[u16], k: usize) -> bool
     let mut all = true;
     let mut j = 0;
     while j < k {
-        let mask = octets::get16(table, Whole::ENTRY * j + Whole::MASK_AT);
+        let from = Whole::ENTRY * j;
+        let to = from + Whole::ENTRY;
+        let mask = octets::get16(&table[from..to], Whole::MASK_AT);
         all = all & (mask == masks[j]);
         j += 1;
     }

@@ -171,7 +171,7 @@ module _ (s : List ℕ) (l : length s ≡ blockSize) where
       (lt-leb (getD r prefixLengthAt 0) mostPrefix (rw e b))))
 
   pub head-short : (n : ℕ) {z : Bool} {v : ℕ} → n ≡ getD s prefixLengthAt 0 → n ≤ mostPrefix
-      → z ≡ every isZero (take (headSize - (8 + n)) (drop (8 + n) s)) → v ≡ numberAt 2 s opcodeAt
+      → z ≡ every isZero (drop (8 + n) (take headSize s)) → v ≡ numberAt 2 s opcodeAt
       → (leb (getD s filterAt 0) 1 && leb 0xFC00 v && z) ≡ headTest (take headSize s)
   unfolding headTest
   head-short n {z} {v} e b p q =
@@ -179,9 +179,7 @@ module _ (s : List ℕ) (l : length s ≡ blockSize) where
       let c : getD r prefixLengthAt 0 ≡ n = getD-take headSize s 7 0 (omega arith) ∙ sym e in
       let f : getD r filterAt 0 ≡ getD s filterAt 0 = getD-take headSize s 4 0 (omega arith) in
       let o : little 2 r opcodeAt ≡ v = little-take 2 headSize s 5 (omega arith) ∙ sym (number-of 2 s 5 q (omega arith)) in
-      let d : z ≡ every isZero (drop (8 + n) r) =
-      p ∙ ap (every isZero) (part-of (8 + n) headSize s (omega arith) (omega arith)) in
-      rw (c, f, o, d, le-leb n mostPrefix b)
+      rw (c, f, o, p, le-leb n mostPrefix b)
       (go (leb (getD s filterAt 0) 1 && leb 0xFC00 v) (every isZero (drop (8 + n) r)))
     where
       go : (x y : Bool) → (x && y) ≡ (x && true && y)

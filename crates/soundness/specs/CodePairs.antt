@@ -28,6 +28,7 @@ use Rattle.soundness.specs.Clauses.{liveAt, pairTest}
 use Rattle.soundness.specs.Clauses.{placeTest, keyAt, otherTest, freeTest, monitorsTest, loosePairsTest, loose}
 use Rattle.soundness.specs.Fields.{fieldsTest}
 use Rattle.soundness.specs.Fields.{pair-tests}
+use Rattle.soundness.specs.Code.{part-of}
 use Rattle.soundness.specs.Front.{live-row, live-none}
 use Rattle.soundness.specs.Pairs.{length-pairRowAt, octets-pairRowAt}
 use Rattle.model.specs.Layout.{blockSize, countAt, extraAt, handleAt, headSize, monitorSize, monitorsAt, mostMonitors, mostPairs, pairSize, pairsAt, positionAt}
@@ -156,22 +157,24 @@ module _ (s : List ℕ) (i : ℕ) {b : Bool} (q : b ≡ otherTest s i) where
   others-more h t = below-more (otherTest s) i h (sym q ∙ not-false b t)
 
 -- the count, what is behind the pairs, and the pairs
-module _ (s : List ℕ) (c : ℕ) (e : c ≡ getD s countAt 0) where
+module _ (s : List ℕ) (l : length s ≡ blockSize) (c : ℕ) (e : c ≡ getD s countAt 0) where
+  free-part : {z : Bool} → c ≤ mostPairs → z ≡ every isZero (drop (pairsAt + pairSize * c) (take countAt s)) → z ≡ freeTest s c
+  unfolding freeTest
+  free-part h q = q ∙ ap (every isZero) (sym (part-of (pairsAt + pairSize * c) countAt s (omega arith) (omega arith)))
+
   pub count-high : mostPairs < c → false ≡ loosePairsTest s (getD s countAt 0)
   unfolding loosePairsTest
   count-high h = rw (← e) (rw (lt-leb c mostPairs h))
 
-  pub count-free : {z : Bool} → c ≤ mostPairs → z ≡ every isZero (take (countAt - (pairsAt + pairSize * c)) (drop (pairsAt + pairSize * c) s))
-      → not z ≡ true
+  pub count-free : {z : Bool} → c ≤ mostPairs → z ≡ every isZero (drop (pairsAt + pairSize * c) (take countAt s)) → not z ≡ true
       → false ≡ loosePairsTest s (getD s countAt 0)
-  unfolding loosePairsTest freeTest
-  count-free {z} h q t = rw (← e) (rw (le-leb c mostPairs h, ← q, not-true z t))
+  unfolding loosePairsTest
+  count-free {z} h q t = let f : z ≡ freeTest s c = free-part h q in rw (← e) (rw (le-leb c mostPairs h, ← f, not-true z t))
 
-  pub count-held : {z b : Bool} → c ≤ mostPairs → z ≡ every isZero (take (countAt - (pairsAt + pairSize * c)) (drop (pairsAt + pairSize * c) s))
-      → not z ≡ false
+  pub count-held : {z b : Bool} → c ≤ mostPairs → z ≡ every isZero (drop (pairsAt + pairSize * c) (take countAt s)) → not z ≡ false
       → b ≡ allBelow (placeTest s) c → b ≡ loosePairsTest s (getD s countAt 0)
-  unfolding loosePairsTest freeTest
-  count-held {z} h q t d = rw (← e) (rw (le-leb c mostPairs h, ← q, not-false z t) d)
+  unfolding loosePairsTest
+  count-held {z} h q t d = let f : z ≡ freeTest s c = free-part h q in rw (← e) (rw (le-leb c mostPairs h, ← f, not-false z t) d)
 
 -- the whole block
 module _ (s : List ℕ) where

@@ -85,7 +85,7 @@ fn monitor_sound(r: &[u8], place: usize) -> bool
     ensures { λ b. ⌜ b ≡ monitorTest place (now (r .entry)) ⌝ }
 {
     if r[State::INTERVAL_AT] == 0 {
-        return parts::zeros(r);
+        return tails::zeros_from(r, 0);
     }
     held_sound(r, place)
 }
@@ -116,7 +116,7 @@ fn head_sound(s: &[u8]) -> bool
         return false;
     }
     let a = State::PREFIX_AT + n;
-    let behind = parts::zeros(&s[a..State::MONITORS_AT]);
+    let behind = tails::zeros_from(&s[..State::MONITORS_AT], a);
     let opcode = octets::get16(s, State::OPCODE_AT);
     (s[State::FILTER_AT] <= 1) & (State::LEAST_OPCODE <= opcode) & behind
 }
@@ -252,7 +252,7 @@ fn pairs_sound(s: &[u8]) -> bool
         return false;
     }
     let a = State::PAIRS_AT + State::PAIR_ROW * c;
-    if !parts::zeros(&s[a..State::COUNT_AT]) {
+    if !tails::zeros_from(&s[..State::COUNT_AT], a) {
         return false;
     }
     held_pairs_sound(s, c)

@@ -1,33 +1,33 @@
 use Rattle.soundness.specs.Code.{monitor-empty, monitor-used}
-use mathlib.Core.Path.{_≡_, refl, sym, _∙_}
 use borrow.Author.Needs.{needs}
 use Rattle.soundness.proofs.monitor_sound.Statement.{statement}
 use Rattle.soundness.proofs.monitor_sound.Tie as tie
 use Rattle.soundness.proofs.monitor_sound.Reads as reads
 use Rattle.soundness.proofs.monitor_sound.Lts as lts
-use Rattle.parts.proofs.zeros.Reads as zeros-reads
 use Rattle.soundness.proofs.held_sound.Reads as held-sound-reads
+use Rattle.soundness.proofs.tails.zeros_from.Reads as zeros-from-reads
 
--- src/lib.rt:100:8
+-- src/lib.rt:87:8
 shared-slice-read-if1 : tie.Need-shared-slice-read-if1
 shared-slice-read-if1 c = search needs
 
--- src/lib.rt:101:9
-zeros-requires : tie.Need-zeros-requires
-zeros-requires c κs = search needs
+-- src/lib.rt:88:9
+zeros-from-requires : tie.Need-zeros-from-requires
+zeros-from-requires c κs = search needs
 
--- src/lib.rt:101:9
+-- src/lib.rt:88:9
 returns : tie.Need-returns
-returns c = let a = c .before .before .before .before .args in monitor-empty (a .place) (a .r .now) (c .before .if1 .taken) (c .zeros .ensures)
+returns c = let a = c .before .before .before .before .args in monitor-empty (a .place) (a .r .now) (c .before .if1 .taken) (c .zeros-from .ensures)
 
--- src/lib.rt:103:5
+-- src/lib.rt:90:5
 held-sound-requires : tie.Need-held-sound-requires
 held-sound-requires c κs = search needs
 
--- src/lib.rt:96:1
+-- src/lib.rt:83:1
 returns-2 : tie.Need-returns-2
 returns-2 c = let a = c .before .before .before .before .args in monitor-used (a .place) (a .r .now) (c .before .if1 .left) (c .held-sound .ensures)
 
 pub monitor-sound-spec : {M : Type 1} → statement M
 monitor-sound-spec =
-    tie.close (tie.spec shared-slice-read-if1 zeros-requires returns held-sound-requires returns-2)
+    tie.close
+    (tie.spec shared-slice-read-if1 zeros-from-requires returns held-sound-requires returns-2)

@@ -1,5 +1,5 @@
-use borrow.Author.Needs.{needs}
 use native.Mathlib.Omega.{arith}
+use borrow.Author.Needs.{needs}
 use Prim.Native.Nat.{_+_, _-_, _*_, _≤_}
 use mathlib.Core.Path.{_≡_, refl}
 use mathlib.Core.Bool.{_&&_}
@@ -27,27 +27,39 @@ abbrev μ-loop : tie.MeasureT-loop
 loop-holds : tie.Need-loop-holds Inv-loop μ-loop
 loop-holds c = (omega arith, refl)
 
--- src/walk.rt:105:41
-mul-get16 : tie.Need-mul-get16 Inv-loop μ-loop
-mul-get16 c = omega arith
+-- src/walk.rt:105:20
+mul-from : tie.Need-mul-from Inv-loop μ-loop
+mul-from c = omega arith
 
--- src/walk.rt:105:41
-add-get16 : tie.Need-add-get16 Inv-loop μ-loop
-add-get16 c = omega arith
+-- src/walk.rt:106:18
+add-to : tie.Need-add-to Inv-loop μ-loop
+add-to c = omega arith
 
--- src/walk.rt:105:13
+-- src/walk.rt:107:34
+sub-get16 : tie.Need-sub-get16 Inv-loop μ-loop
+sub-get16 c = omega arith
+
+-- src/walk.rt:107:34
+part-get16-start : tie.Need-part-get16-start Inv-loop μ-loop
+part-get16-start c = omega arith
+
+-- src/walk.rt:107:34
+part-get16-end : tie.Need-part-get16-end Inv-loop μ-loop
+part-get16-end c = omega arith
+
+-- src/walk.rt:107:13
 get16-requires : tie.Need-get16-requires Inv-loop μ-loop
 get16-requires c κs = search needs
 
--- src/walk.rt:106:30
+-- src/walk.rt:108:30
 mul-all : tie.Need-mul-all Inv-loop μ-loop
 mul-all c = omega arith
 
--- src/walk.rt:106:30
+-- src/walk.rt:108:30
 shared-slice-read-all : tie.Need-shared-slice-read-all Inv-loop μ-loop
 shared-slice-read-all c = omega arith
 
--- src/walk.rt:107:9
+-- src/walk.rt:109:9
 add-j : tie.Need-add-j Inv-loop μ-loop
 add-j c = omega arith
 
@@ -57,7 +69,7 @@ loop-less c = omega arith
 
 -- src/walk.rt:104:5
 loop-again : tie.Need-loop-again Inv-loop μ-loop
-loop-again c = let a = c .before .before .before .before .before .before in let l = c .before .before .before .loop in (omega arith, gathered-more (a .args .table .now) (a .args .masks .now) (a .args .k) (a .pre .1) (a .pre .2) (l .all) (l .j) (l .inv .1) (a .pre .0) (omega arith) (c .before .get16 .ensures))
+loop-again c = let a = c .before .before .before .before .before .before .before in let l = c .before .before .before .before .loop in (omega arith, gathered-more (a .args .table .now) (a .args .masks .now) (a .args .k) (a .pre .1) (a .pre .2) (l .all) (l .j) (l .inv .1) (a .pre .0) (omega arith) (entrySize * l .j + entrySize - entrySize * l .j) (omega arith) (c .before .get16 .ensures))
 
 -- src/walk.rt:98:1
 returns : tie.Need-returns Inv-loop μ-loop
@@ -70,8 +82,11 @@ is-gathered-spec =
     Inv-loop
     μ-loop
     loop-holds
-    mul-get16
-    add-get16
+    mul-from
+    add-to
+    sub-get16
+    part-get16-start
+    part-get16-end
     get16-requires
     mul-all
     shared-slice-read-all
