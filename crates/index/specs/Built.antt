@@ -1,25 +1,22 @@
 -- The loop over the pairs: each is noted in the table in turn. Document 02, T-02. Assumes nothing.
-use Prim.Native.Nat.{ℕ, zero, suc, _+_, _-_, _*_, _/_, _%_, _≤_, _<_}
+use Prim.Native.Nat.{ℕ, _+_, _-_, _*_, _/_, _%_, _≤_, _<_}
 use mathlib.Core.Path.{_≡_, refl, sym, ap, _∙_, subst}
-use mathlib.Core.Bool.{Bool, true, false}
+use mathlib.Core.Bool.{true}
 use mathlib.Core.List.{List, [], _∷_, _++_, map}
 use native.Mathlib.Nat.{add-zero}
 use native.Mathlib.Numerals.{add-one}
 use native.Mathlib.Omega.{arith}
-use lib.ListN.{length, take, drop, getD, replicate, length-take}
+use lib.ListN.{length, take, drop, getD, replicate}
 use lib.Seq.{take-suc, drop-cons, length-take-le}
 use Rattle.laws.specs.Loops.{every, every-take, every-drop}
 use Rattle.laws.specs.Rows.{row, rows, row-at, length-rows, length-row}
 use Rattle.octets.specs.Little.{little, value, isOctet, little-value, little-row}
-use Rattle.rule.specs.Base.{All}
 use Rattle.model.specs.Types.{Pair, watched, device}
 use Rattle.model.specs.Image.{pairIn}
-use Rattle.model.specs.Layout.{addressAt, addressSize, handleAt, kindAt, mostPairs, pairSize, pairsSize}
-use Rattle.blocks.specs.Rows.{octets-cons}
+use Rattle.model.specs.Layout.{kindAt, mostPairs, pairSize, pairsSize}
 use Rattle.wholes.specs.Layout.{entriesSize}
 use Rattle.wholes.specs.Index.{Entry, entryTable, noted, notedAll, indexOf}
 use Rattle.wholes.specs.Sizes.{Seven}
-use Rattle.index.specs.Table.{Tabled}
 use Rattle.index.specs.Seen.{Kept, seen-none}
 
 -- the index with one pair more

@@ -6,26 +6,25 @@ use mathlib.Core.Logic.{_⊎_, inl, inr}
 use mathlib.Core.Bool.{Bool, true, false, _&&_, false≢true}
 use mathlib.Core.List.{List, [], _∷_, _++_, map}
 use native.Mathlib.Omega.{arith}
-use native.Mathlib.Numerals.{add-one}
-use borrow.Author.Tests.{eq-eqb, ne-eqb, eqb-true}
+use borrow.Author.Tests.{eq-eqb, eqb-true}
 use lib.Dec.{eqb}
 use lib.ListN.{length, take, drop, getD, replicate, length-append, length-drop, length-take, take-append-drop, List·getD-map}
 use lib.Seq.{length-take-le, take-at, drop-at, take-all, take-take, getD-take, getD-at, split-at}
 use Rattle.laws.specs.Tests.{pick, sames, sames-eq, eq-sames, and-left, and-right, and-both}
 use Rattle.laws.specs.Loops.{every, map-append, every-take, every-drop}
-use Rattle.laws.specs.Rows.{row, rows, past, flat, flat-rows, row-at, length-rows, length-row}
+use Rattle.laws.specs.Rows.{rows, past, flat, flat-rows, row-at, length-rows}
 use Rattle.octets.specs.Little.{little, value, octetsOf, isOctet, little-value, little-drop, little-row, little-take, octets-value}
 use Rattle.octets.specs.Numbers.{numberAt, number-of}
 use Rattle.parts.specs.Parts.{isZero, same-step, same-end}
 use Rattle.rule.specs.Base.{All}
+use Rattle.blocks.specs.Tables.{take-rows}
 use Rattle.model.specs.Types.{Pair, watched}
-use Rattle.model.specs.Watch.{holds}
 use Rattle.model.specs.Image.{pairIn}
-use Rattle.model.specs.Layout.{mostMonitors, mostPairs, pairSize, pairsSize}
+use Rattle.model.specs.Layout.{mostPairs, pairSize, pairsSize}
 use Rattle.wholes.specs.Layout.{entriesSize, entrySize, maskAt}
 use Rattle.wholes.specs.Index.{Entry, bitOf, noted, notedAll, withHandle, indexOf, entryRow, entryTable}
 use Rattle.wholes.specs.Sizes.{Seven, Known, Fitting, index-fits, index-length, length-entryRows, length-entryTable}
-use Rattle.wholes.specs.Watched.{hasBit, maskOf, mask-holds}
+use Rattle.wholes.specs.Watched.{mask-holds}
 use Rattle.index.specs.Table.{Tabled, withEntry, value-same, table-rows}
 use Rattle.index.specs.Built.{index-snoc, pair-next, more}
 use Rattle.index.specs.Once.{once, once-none, once-more, once-held, once-high}
@@ -233,12 +232,6 @@ same-rows (r ∷ rs) (e ∷ es) g a p q =
       same-rows rs es (g .1) (a .1) (ap (drop 1) p) (ap (drop 1) q),
     )
 
-front-rows : (n k m : ℕ) (t : List ℕ) → k ≤ m → take k (rows n m t) ≡ rows n k t
-unfolding rows
-front-rows n zero m t h = refl
-front-rows n (suc k) zero t h = absurd (omega arith)
-front-rows n (suc k) (suc m) t h = ap (λ (l : List (List ℕ)). take n t ∷ l) (front-rows n k m (drop n t) (omega arith))
-
 good-rows : (k : ℕ) (t : List ℕ) → entrySize * k ≤ length t → every isOctet t ≡ true
     → All (λ (r : List ℕ). (length r ≡ entrySize) × (every isOctet r ≡ true)) (rows entrySize k t)
 unfolding rows
@@ -276,7 +269,7 @@ module _ (es : List Entry) (k : ℕ) (t masks : List ℕ) (l : length t ≡ entr
   table-then p z =
       let b = small in
       let c : k ≡ length es = w .count in
-      let f : es-rows ≡ rows entrySize k t = front-rows entrySize k mostPairs t small in
+      let f : es-rows ≡ rows entrySize k t = take-rows entrySize k mostPairs t small in
       let g : es-rows ≡ map entryRow es =
       same-rows es-rows es (subst (All (λ (r : List ℕ). (length r ≡ entrySize) × (every isOctet r ≡ true))) (sym f) (good-rows k t (omega arith) o)) (w .fits)
       (w .devices) (p ∙ w .gathered) in

@@ -4,10 +4,9 @@ use Prim.Native.Nat.{ℕ, _≤_, _<_}
 use mathlib.Core.Path.{_≡_, refl, sym, ap, _∙_}
 use mathlib.Core.Bool.{Bool, true, false, _&&_, _||_, not, false≢true}
 use mathlib.Core.List.{List, [], _∷_, _++_}
-use native.Mathlib.Omega.{arith}
-use borrow.Author.Tests.{eqb-true, eq-eqb, lt-ltb, ltb-true}
+use borrow.Author.Tests.{eqb-true, eq-eqb, lt-ltb}
 use lib.Dec.{ltb, eqb}
-use Rattle.laws.specs.Tests.{sames, sames-eq, eq-sames, and-left, and-right, and-both, and-not-left, and-not-right, both}
+use Rattle.laws.specs.Tests.{sames, sames-eq, eq-sames, and-left, and-right, and-both, and-not-left, and-not-right}
 use Rattle.laws.specs.Loops.{every, some, every-append}
 use Rattle.model.specs.Types.{Pair, watched}
 use Rattle.model.specs.Watch.{isPair, holds}

@@ -1,29 +1,23 @@
 -- The index of a block of any octets: whether it is that of the pairs held, and the block with it. Document 02, T-02. Assumes nothing.
-use Prim.Native.Nat.{ℕ, zero, suc, _+_, _-_, _*_, _≤_, _<_}
-use mathlib.Core.Path.{_≡_, refl, sym, ap, _∙_, subst}
+use Prim.Native.Nat.{ℕ, _+_, _-_}
+use mathlib.Core.Path.{_≡_, refl, sym, ap, _∙_}
 use mathlib.Core.Bool.{Bool, true, false, _&&_}
 use mathlib.Core.List.{List, [], _∷_, _++_, map}
-use native.Mathlib.Nat.{zero-add}
 use native.Mathlib.Omega.{arith}
-use borrow.Author.Tests.{eq-eqb, ne-eqb, leb-true}
+use borrow.Author.Tests.{eq-eqb, ne-eqb}
 use lib.Dec.{eqb, leb}
-use lib.ListN.{length, take, drop, getD, set, replicate, length-drop, length-replicate, replicate-append-replicate, drop-of-length-le}
+use lib.ListN.{length, take, drop, getD, length-drop}
 use lib.Seq.{take-suc, getD-drop}
 use Rattle.laws.specs.Put.{put, putIf, put-of}
-use Rattle.laws.specs.Tests.{pick, pick-true, pick-false, sames, and-left, and-right, and-not-left}
-use Rattle.laws.specs.Loops.{every}
-use Rattle.octets.specs.Little.{isOctet}
-use Rattle.blocks.specs.Block.{length-padded}
-use Rattle.laws.specs.Rows.{rows, flat}
+use Rattle.laws.specs.Tests.{pick, pick-true, pick-false, sames, and-not-left}
+use Rattle.laws.specs.Rows.{rows}
 use Rattle.octets.specs.Numbers.{atMost, numberAt}
-use Rattle.model.specs.Types.{Model, Pair, fresh, blank}
+use Rattle.model.specs.Types.{Pair}
 use Rattle.model.specs.Image.{pairIn}
-use Rattle.model.specs.Sound.{soundSettings, octetsUpTo}
-use Rattle.model.specs.Block.{held, padded, pairTable}
-use Rattle.model.specs.Engine.{begin as beginCore}
-use Rattle.model.specs.Layout.{blockSize, countAt, mostPairs, mostPrefix, pairSize, pairsAt, pairsSize}
+use Rattle.model.specs.Block.{held, pairTable}
+use Rattle.model.specs.Layout.{countAt, mostPairs, pairSize, pairsAt, pairsSize}
 use Rattle.wholes.specs.Layout.{entriesSize, entryCountAt, entrySize, indexAt, indexSize, wholeSize}
-use Rattle.wholes.specs.Index.{entryTable, indexBlock, indexOf, maskFor, maskIn, notedAll}
+use Rattle.wholes.specs.Index.{entryTable, indexBlock, indexOf, maskFor, maskIn}
 use Rattle.wholes.specs.Kept.{pairEvent}
 use Rattle.index.specs.Read.{rows-most, rows-part}
 use Rattle.index.specs.Once.{once}

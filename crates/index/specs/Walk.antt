@@ -1,27 +1,26 @@
 -- The walk over the pairs with the entries of a table that stands there already: nothing is copied. Each pair finds its entry or is the first of
 -- the next one, and its handle goes into a mask beside that entry; in the end the masks are compared. Document 02, T-02. Assumes nothing.
 use Prim.Native.Nat.{ℕ, zero, suc, _+_, _-_, _*_, _/_, _%_, _^_, _≤_, _<_}
-use mathlib.Core.Path.{_≡_, refl, sym, ap, _∙_, subst}
-use mathlib.Core.Logic.{_⊎_, inl, inr}
-use mathlib.Core.Bool.{Bool, true, false, _&&_, false≢true}
+use mathlib.Core.Path.{_≡_, refl, sym, ap, _∙_}
+use mathlib.Core.Logic.{_⊎_}
+use mathlib.Core.Bool.{Bool, true, false}
 use mathlib.Core.List.{List, [], _∷_, _++_, map}
 use native.Mathlib.Nat.{add-zero, zero-div, mod-eq-of-lt}
 use native.Mathlib.Numerals.{add-one}
 use native.Mathlib.Omega.{arith}
-use borrow.Author.Tests.{eq-eqb, ne-eqb, eqb-true}
 use lib.Bits.{bitOr}
 use lib.Dec.{eqb}
-use lib.ListN.{length, take, drop, getD, set, length-append, take-append-drop, List·getD-map}
-use lib.Seq.{length-take-le, take-at, drop-at, take-all, take-suc, take-suc-set, take-set-lt, getD-take, getD-at}
+use lib.ListN.{length, take, getD, set, length-append, List·getD-map}
+use lib.Seq.{take-at, drop-at, take-all, take-suc-set, take-set-lt, getD-take}
 use Rattle.laws.specs.Tests.{pick, sames}
 use Rattle.laws.specs.Loops.{map-append, map-take}
 use Rattle.laws.specs.Rows.{rows, row-at, length-rows}
 use Rattle.octets.specs.Little.{little, value, octetsOf, little-value, little-drop, little-row, length-octets, value-octets}
 use Rattle.rule.specs.Base.{All}
 use Rattle.model.specs.Layout.{mostMonitors, mostPairs}
-use Rattle.wholes.specs.Layout.{entrySize, entriesSize, maskAt}
-use Rattle.wholes.specs.Index.{Entry, bitOf, noted, notedAll, withHandle, entryRow, entryTable}
-use Rattle.wholes.specs.Sizes.{Seven, Fitting, length-entryRow, noted-fits, noted-length}
+use Rattle.wholes.specs.Layout.{entrySize, maskAt}
+use Rattle.wholes.specs.Index.{Entry, bitOf, noted, entryRow}
+use Rattle.wholes.specs.Sizes.{Seven, Fitting, length-entryRow, noted-fits}
 use Rattle.wholes.specs.Watched.{hasBit, maskOf}
 use Rattle.index.specs.Table.{placeIn, withEntry, withBit}
 use Rattle.index.specs.Found.{entry-test, new, old}

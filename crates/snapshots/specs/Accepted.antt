@@ -1,21 +1,21 @@
 -- When a whole block is sound, and which texts are images with editions, told by the block that their lines were stored in: exactly those that
 -- save writes. Document 01, The image; Refusal numbers, 10; document 02, T-12. Assumes nothing.
-use Prim.Native.Nat.{ℕ, zero, suc, _+_, _-_, _*_, _≤_, _<_}
-use mathlib.Core.Path.{_≡_, refl, sym, ap, _∙_, subst}
+use Prim.Native.Nat.{ℕ, _+_, _-_, _≤_, _<_}
+use mathlib.Core.Path.{_≡_, refl, sym, ap, _∙_}
 use mathlib.Core.Bool.{Bool, true, false, _&&_, false≢true}
-use mathlib.Core.List.{List, [], _∷_, _++_}
+use mathlib.Core.List.{List, [], _∷_}
 use native.Mathlib.Omega.{arith}
 use borrow.Author.Tests.{eq-eqb, ne-eqb, le-leb, lt-leb, lt-ltb}
 use lib.Dec.{leb, eqb}
 use lib.ListN.{length, take, drop, getD, replicate, length-replicate}
-use Rattle.laws.specs.Put.{put, putIf, put-of, put-if-true, put-if-false, take-put, length-put}
+use Rattle.laws.specs.Put.{put, putIf, put-of, put-if-true, put-if-false}
 use Rattle.laws.specs.Rows.{put-whole}
-use Rattle.laws.specs.Tests.{pick, pick-true, pick-false, and-both, and-left, and-right, and-not-left, and-not-right, sames, sames-eq, eq-sames, sames-refl}
+use Rattle.laws.specs.Tests.{pick, pick-true, pick-false, and-both, and-left, and-right, and-not-left, and-not-right, sames, sames-eq, eq-sames}
 use Rattle.lines.specs.Hex.{textOf}
 use Rattle.laws.specs.Loops.{each, every, every-take}
 use Rattle.octets.specs.Little.{isOctet}
 use Rattle.rule.specs.Base.{All}
-use Rattle.sessions.specs.Machine.{coreRoom, saveRoom, lastNumber}
+use Rattle.sessions.specs.Machine.{saveRoom}
 use Rattle.model.specs.Block.{held, sound}
 use Rattle.model.specs.Layout.{blockSize, mostMonitors, prefixLengthAt}
 use Rattle.blocks.specs.Facts.{sound-facts}
@@ -24,17 +24,16 @@ use Rattle.state.specs.Start.{octets-known}
 use Rattle.soundness.specs.Clauses.{loose}
 use Rattle.soundness.specs.Same.{sound-loose, loose-sound}
 use Rattle.restore.specs.Rows.{Row}
-use Rattle.model.specs.Types.{Model, Pair, fresh}
-use Rattle.model.specs.Sound.{apart, soundModel, soundSettings, octetsUpTo}
-use Rattle.steps.specs.Keeps.{fresh-sound}
-use Rattle.editions.specs.Editions.{freshOn, soundEdition, soundEditions, rising, prefixFor, inForce, Gateway, soundGateway, imageOn, heldOn, isImageOn, recordsOn, mostEditions}
+use Rattle.model.specs.Types.{Model, Pair}
+use Rattle.model.specs.Sound.{apart, soundModel}
+use Rattle.editions.specs.Editions.{Gateway, soundGateway, imageOn, heldOn, isImageOn, recordsOn}
 use Rattle.editions.specs.Images.{held-image}
 use Rattle.editions.specs.Exactly.{image-most-on}
 use Rattle.wholes.specs.Layout.{indexAt, indexSize, wholeSize}
 use Rattle.wholes.specs.Index.{indexBlock}
 use Rattle.wholes.specs.Whole.{heldWhole, laidWith, whole, soundWhole}
-use Rattle.wholes.specs.Laid.{soundPrefixes, sound-both, unsound-core, unsound-prefixes, core-holds, core-good, index-is, sound-size, sound-whole, whole-good, whole-held, whole-length}
-use Rattle.wholes.specs.Engine.{blockIn, blankOn}
+use Rattle.wholes.specs.Laid.{sound-both, unsound-core, unsound-prefixes, core-holds, core-good, index-is, sound-size, sound-whole, whole-good, whole-held}
+use Rattle.wholes.specs.Engine.{blockIn}
 use Rattle.index.specs.Once.{isLow, once}
 use Rattle.index.specs.Renewed.{isIndexed, indexedOnce, renewed}
 use Rattle.index.specs.Begun.{blankIn, blank-is}

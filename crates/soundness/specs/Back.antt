@@ -8,9 +8,9 @@ use mathlib.Core.Option.{Option, none, some}
 use native.Mathlib.Omega.{arith}
 use lib.Dec.{eqb}
 use lib.ListN.{length, take, drop, getD, replicate, length-append, length-drop}
-use lib.Seq.{length-take-le, take-at, drop-at, drop-drop, take-add}
+use lib.Seq.{length-take-le, drop-at, drop-drop, take-add}
 use borrow.Author.Tests.{le-leb, eq-eqb}
-use Rattle.laws.specs.Tests.{and-both, cases-le}
+use Rattle.laws.specs.Tests.{cases-le}
 use Rattle.laws.specs.Loops.{every, every-at}
 use Rattle.laws.specs.Rows.{flat}
 use Rattle.octets.specs.Little.{little, octetsOf, isOctet}
@@ -21,14 +21,14 @@ use Rattle.model.specs.Types.{Model, Monitor, Pair, watched}
 use Rattle.model.specs.Image.{headRow, pairRow, pairIn}
 use Rattle.model.specs.Watch.{isPair}
 use Rattle.model.specs.Sound.{soundOf, soundPair}
-use Rattle.model.specs.Block.{padTo, pairBlock, padded, held, sound}
+use Rattle.model.specs.Block.{padTo, pairBlock, held, sound}
 use Rattle.blocks.specs.Laid.{take-head}
 use Rattle.blocks.specs.Rows.{length-headRow, length-pairRow, headRow-filter, headRow-opcode, headRow-count, getD-past}
 use Rattle.blocks.specs.Facts.{SoundMonitor, SoundModel}
 use Rattle.blocks.specs.Bounds.{Fits, live-handle, live-monitor, pairs-fit, pair-at, pair-fits, fits-in}
 use Rattle.blocks.specs.Pairs.{length-pairPlace}
 use Rattle.blocks.specs.Fields.{keyOf, timesOf, place-split}
-use Rattle.blocks.specs.Block.{Measured, padded-held, sound-length, sound-octets, tables, length-head}
+use Rattle.blocks.specs.Block.{padded-held, sound-length, sound-octets}
 use Rattle.blocks.specs.Held.{held-facts-of, held-measured, held-count, held-monitor, held-pair, held-part}
 use Rattle.soundness.specs.Below.{below-all, run-zeros}
 use Rattle.soundness.specs.Clauses.{monitorRowAt, pairRowAt, monitorOfRow, monitorTest, liveAt, headTest}

@@ -1,7 +1,7 @@
 -- A window that holds nothing, zeros but for the kept RSSI, holds what it may, whatever its monitor. Document 01, The image ("Sound"; "every
 -- unused octet and place of the state 0"). Assumes nothing.
-use Prim.Native.Nat.{ℕ, _+_, _*_, _^_, _≤_, _<_}
-use mathlib.Core.Path.{_≡_, refl, sym, ap, _∙_}
+use Prim.Native.Nat.{ℕ, _+_, _*_, _^_}
+use mathlib.Core.Path.{_≡_, refl, sym, _∙_}
 use mathlib.Core.Bool.{Bool, true, false, _&&_}
 use mathlib.Core.List.{List}
 use native.Mathlib.Omega.{arith}
@@ -17,7 +17,7 @@ use Rattle.model.specs.Level.{sumInRange}
 use Rattle.soundness.specs.Fields.{windowTest, latestTest, emptyTest, restTest, blankTest}
 use Rattle.soundness.specs.Tails.{front, nothing}
 use Rattle.soundness.specs.Code.{sumAbove, above-range}
-use Rattle.model.specs.Layout.{dataAt, eventAt, lengthAt, mostData, packetsAt, pairSize, rssiAt, sumAt, ticksAt}
+use Rattle.model.specs.Layout.{dataAt, eventAt, lengthAt, packetsAt, pairSize, rssiAt, sumAt, ticksAt}
 
 -- by its numbers
 sum-none : sumInRange 0 0 ≡ true

@@ -17,7 +17,7 @@ use Rattle.model.specs.Image.{monitorIn, pairIn}
 use Rattle.model.specs.Monitors.{accepts}
 use Rattle.model.specs.Sound.{soundOf}
 use Rattle.soundness.specs.Below.{allBelow}
-use Rattle.model.specs.Layout.{blockSize, conditionAt, conditionLengthAt, countAt, dataAt, extraAt, filterAt, handleAt, headSize, intervalAt, lengthAt, monitorSize, monitorsAt, mostCondition, mostData, mostMonitors, mostPairs, mostPrefix, opcodeAt, pairSize, pairsAt, positionAt, prefixAt, prefixLengthAt, samplingAt, typeAt}
+use Rattle.model.specs.Layout.{blockSize, conditionAt, conditionLengthAt, countAt, dataAt, extraAt, filterAt, handleAt, headSize, intervalAt, lengthAt, monitorSize, monitorsAt, mostCondition, mostData, mostMonitors, mostPairs, mostPrefix, opcodeAt, pairSize, pairsAt, positionAt, prefixAt, prefixLengthAt}
 
 -- the monitor row of a handle, the pair row at a place
 unfoldable pub monitorRowAt : List ℕ → ℕ → List ℕ

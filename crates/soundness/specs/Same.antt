@@ -3,7 +3,7 @@
 use Prim.Native.Nat.{ℕ, _+_, _≤_, _<_}
 use mathlib.Core.Path.{_≡_, refl, sym, ap, _∙_}
 use mathlib.Core.Bool.{Bool, true, false, _&&_, not}
-use mathlib.Core.List.{List, [], map}
+use mathlib.Core.List.{List, []}
 use native.Mathlib.Omega.{arith}
 use lib.Dec.{eqb}
 use borrow.Author.Tests.{not-true, not-false}
@@ -23,7 +23,7 @@ use Rattle.soundness.specs.Below.{allBelow, test-eq, below-all}
 use Rattle.soundness.specs.Clauses.{pairRowAt, keyAt, otherTest, loose, othersTest}
 use Rattle.soundness.specs.Keys.{key-pair}
 use Rattle.soundness.specs.Pairs.{pairsOf, pairs-held, apart-at, length-pairRowAt, octets-pairRowAt, key-row}
-use Rattle.soundness.specs.There.{Clauses, clauses, clauses-sound, loose-size, loose-few}
+use Rattle.soundness.specs.There.{clauses, clauses-sound, loose-size, loose-few}
 use Rattle.soundness.specs.Back.{facts-loose, facts-others, sound-clauses}
 
 pub sound-both : (s : List ℕ) → every isOctet s ≡ true → (loose s && othersTest s) ≡ sound s

@@ -1,6 +1,5 @@
 use native.Mathlib.Omega.{arith}
 use mathlib.Core.Path.{sym}
-use mathlib.Core.Bool.{_&&_}
 use lib.Seq.{length-take-le}
 use Rattle.model.specs.Layout.{rssiAt}
 use borrow.Author.Needs.{needs}

@@ -1,4 +1,4 @@
-use mathlib.Core.Path.{sym, ap, _∙_}
+use mathlib.Core.Path.{sym, _∙_}
 use Rattle.soundness.specs.Blank.{blank-rest}
 use borrow.Author.Needs.{needs}
 use Rattle.soundness.proofs.rest_sound.Statement.{statement}

@@ -1,6 +1,6 @@
 use native.Mathlib.Omega.{arith}
-use Prim.Native.Nat.{_-_, _≤_}
-use mathlib.Core.Path.{_≡_, refl, ap, _∙_}
+use Prim.Native.Nat.{_-_}
+use mathlib.Core.Path.{refl, ap, _∙_}
 use mathlib.Core.Bool.{_&&_}
 use lib.Dec.{eqb}
 use Rattle.state.specs.Start.{octets-known}
