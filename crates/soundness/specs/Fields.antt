@@ -63,9 +63,12 @@ restTest position sampling sifting r =
     && emptyTest sifting (little 4 r packetsAt) (little 8 r sumAt) (getD r eventAt 0) (getD r lengthAt 0)
     && every isZero (drop (dataAt + getD r lengthAt 0) r))
 
--- a window that holds nothing
+-- a window that holds nothing but its ticks, and these
 unfoldable pub blankTest : List ℕ → Bool
-blankTest r = every isZero (drop ticksAt (take rssiAt r)) && every isZero (drop eventAt r)
+blankTest r = every isZero (drop packetsAt (take rssiAt r)) && every isZero (drop eventAt r)
+
+unfoldable pub ticksTest : ℕ → ℕ → Bool
+ticksTest sampling ticks = pick (leb 1 sampling && leb sampling 254) (ltb ticks sampling) (eqb ticks 0)
 
 -- whether the monitor whose row stands at an index filters duplicates
 unfoldable pub siftsAt : List ℕ → ℕ → Bool

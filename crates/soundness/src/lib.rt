@@ -14,7 +14,7 @@ ghost use Rattle.soundness.specs.Below.{allBelow};
 ghost use Rattle.soundness.specs.Clauses.{headTest, heldTest, monitorTest, placeTest};
 ghost use Rattle.soundness.specs.Clauses.{monitorsTest, loosePairsTest, loose};
 ghost use Rattle.soundness.specs.Code.{sumAbove};
-ghost use Rattle.soundness.specs.Fields.{windowTest, latestTest, emptyTest, blankTest, seenTest, restTest, siftsAt, addedTest, formTest};
+ghost use Rattle.soundness.specs.Fields.{windowTest, latestTest, emptyTest, blankTest, ticksTest, seenTest, restTest, siftsAt, addedTest, formTest};
 ghost use Rattle.octets.specs.Numbers.{numberAt};
 ghost use Rattle.model.specs.Layout.{blockSize, conditionLengthAt, countAt, headSize, monitorSize, mostCondition, mostPairs, pairSize, positionAt, samplingAt};
 
@@ -156,14 +156,24 @@ fn empty_sound(sifts: bool, packets: u32, sum: u64, event: u8, n: u8) -> bool
     (sum == 0) & latest
 }
 
-// Whether a row's window holds nothing: zeros but for the kept RSSI.
+// Whether a row's window holds nothing but its ticks: zeros behind them, but for the kept RSSI.
 fn is_blank(r: &[u8]) -> bool
     requires { ⌜ length (now r) ≡ pairSize ⌝ }
     ensures { λ b. ⌜ b ≡ blankTest (now (r .entry)) ⌝ }
 {
-    let counts = tails::zeros_from(&r[..State::RSSI_AT], State::TICKS_AT);
+    let counts = tails::zeros_from(&r[..State::RSSI_AT], State::PACKETS_AT);
     let latest = tails::zeros_from(r, State::EVENT_AT);
     counts & latest
+}
+
+// Whether the ticks of a window that holds nothing else are as its monitor's sampling period allows.
+fn ticks_sound(sampling: u8, ticks: u8) -> bool
+    ensures { λ b. ⌜ b ≡ ticksTest sampling ticks ⌝ }
+{
+    if ticks == 0 {
+        return true;
+    }
+    (ticks < sampling) & (sampling <= 254)
 }
 
 // Whether a row has an address type and an RSSI in range, and is silent for less than its monitor's interval.
@@ -194,13 +204,13 @@ fn held_window_sound(r: &[u8], position: u32, sampling: u8, sifts: bool) -> bool
     window & empty & behind
 }
 
-// The same, its monitor's row at an index of the block. A window that holds nothing is always sound, and most hold nothing.
+// The same, its monitor's row at an index of the block. Of a window that holds nothing only the ticks are asked, and most hold nothing.
 fn rest_sound(s: &[u8], r: &[u8], m: usize) -> bool
     requires { ⌜ (m + monitorSize ≤ length (now s)) × (length (now r) ≡ pairSize) ⌝ }
     ensures { λ b. ⌜ b ≡ restTest (numberAt 4 (now (s .entry)) positionAt) (getD (now (s .entry)) (m + samplingAt) 0) (siftsAt (now (s .entry)) m) (now (r .entry)) ⌝ }
 {
     if is_blank(r) {
-        return true;
+        return ticks_sound(s[m + State::SAMPLING_AT], r[State::TICKS_AT]);
     }
     let filtering = state::filtering_of(s[m + State::OPTIONS_AT], s[m + State::FILTERING_AT]);
     let position = octets::get32(s, State::POSITION_AT);
