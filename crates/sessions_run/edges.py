@@ -117,6 +117,7 @@ IMAGES = (
     ("600 ticks of 600", head() + monitor() + pair(silent=600) + end(), False),
     ("3 ticks of 4 in a window", head() + monitor() + pair(ticks=3) + end(), True),
     ("4 ticks of 4 in a window", head() + monitor() + pair(ticks=4) + end(), False),
+    ("4 ticks of 4 in a window with a packet", head() + monitor() + pair(ticks=4, packets=1, total=-50) + end(), False),
     ("sampling 0 and a tick", head() + monitor(sampling=0) + pair(ticks=1) + end(), False),
     ("sampling 255 and a tick", head() + monitor(sampling=255) + pair(ticks=1) + end(), False),
     ("sampling 255 and a packet", head() + monitor(sampling=255) + pair(packets=1) + end(), False),
