@@ -5,3 +5,4 @@ pub mod Monitors
 pub mod Keyed
 pub mod Options
 pub mod Asked
+pub mod Admitted

@@ -90,21 +90,36 @@ row-condition s h n c =
 unfoldable pub metRow : List ℕ → Packet → ℕ
 metRow r p = flag (inUse r && meetsCondition (monitorIn r .1) p)
 
-unmet : (a b c : Bool) (x : ℕ) → flag (a && b) ≡ 0 → pick a (pick (b && c) x 0) 0 ≡ 0
+unmet : (a : Bool) (x : ℕ) → flag a ≡ 0 → pick a x 0 ≡ 0
 unfolding flag pick
-unmet false b c x e = refl
-unmet true false c x e = refl
-unmet true true c x e = absurd (omega arith)
+unmet false x e = refl
+unmet true x e = absurd (omega arith)
 
-met : (a b c : Bool) (x : ℕ) → (flag (a && b) ≡ 0 → ⊥) → pick a (pick (b && c) x 0) 0 ≡ pick c x 0
+met : (a : Bool) (x : ℕ) → (flag a ≡ 0 → ⊥) → pick a x 0 ≡ x
 unfolding flag pick
-met true true c x n = refl
-met true false c x n = absurd (n refl)
-met false b c x n = absurd (n refl)
+met true x n = refl
+met false x n = absurd (n refl)
 
 -- the octet of a packet that matches, from the row's octets
-fullBits : Monitor → Packet → ℕ
+unfoldable pub fullBits : Monitor → Packet → ℕ
 fullBits m p = bits (good m p) (windowed m) (strong m p) (instant m p) (sifts m) (allows m (p .event))
+
+-- the octet of a row by its condition alone; its options are asked behind it
+unfoldable pub metMark : List ℕ → Packet → ℕ
+metMark r p = pick (inUse r && meetsCondition (monitorIn r .1) p) (fullBits (monitorIn r .1) p) 0
+
+turned : (a b c : Bool) (x : ℕ) → pick a (pick (b && c) x 0) 0 ≡ pick c (pick (a && b) x 0) 0
+unfolding pick
+turned false b true x = refl
+turned false b false x = refl
+turned true false true x = refl
+turned true false false x = refl
+turned true true true x = refl
+turned true true false x = refl
+
+pub met-admitted : (r : List ℕ) (p : Packet) → markRow r p ≡ pick (admits (parameters (monitorIn r .1)) p) (metMark r p) 0
+unfolding metMark markRow markOf matches fullBits
+met-admitted r p = turned (inUse r) (meetsCondition (monitorIn r .1) p) (admits (parameters (monitorIn r .1)) p) _
 
 row-fields : (r : List ℕ) (p : Packet) → bits (ltZ (dBm (getD r 2 0)) (dBm (p .rssi))) (leb 1 (getD r 4 0) && leb (getD r 4 0) 254)
     (leZ (dBm (getD r 1 0)) (dBm (p .rssi))) (eqb (getD r 4 0) 0 && letsThrough (filtering (parameters (monitorIn r .1))) (p .event))
@@ -161,32 +176,20 @@ module _ (s : List ℕ) (h : ℕ) (l : List ℕ) where
   abbrev one : List ℕ
   one = row monitorSize h (drop monitorsAt s)
 
-  pub mark-unmet : {x : ℕ} → x ≡ metRow one (packetOf l) → x ≡ 0 → 0 ≡ markRow one (packetOf l)
-  unfolding metRow markRow markOf matches
-  mark-unmet e z =
-      sym (unmet (inUse one) (meetsCondition (monitorIn one .1) (packetOf l)) (admits (parameters (monitorIn one .1)) (packetOf l)) _ (sym e ∙ z))
+  pub mark-unmet : {x : ℕ} → x ≡ metRow one (packetOf l) → x ≡ 0 → 0 ≡ metMark one (packetOf l)
+  unfolding metRow metMark
+  mark-unmet e z = sym (unmet (inUse one && meetsCondition (monitorIn one .1) (packetOf l)) _ (sym e ∙ z))
 
-  met-mark : {x : ℕ} {t : Bool} → x ≡ metRow one (packetOf l) → (x ≡ 0 → ⊥) → t ≡ admits (parameters (monitorIn one .1)) (packetOf l)
-      → markRow one (packetOf l) ≡ pick t (fullBits (monitorIn one .1) (packetOf l)) 0
-  unfolding metRow markRow markOf matches fullBits
-  met-mark {x} {t} e n f =
-      met (inUse one) (meetsCondition (monitorIn one .1) (packetOf l)) (admits (parameters (monitorIn one .1)) (packetOf l)) _ (λ z. n (e ∙ z))
-      ∙ ap (λ (b : Bool). pick b (fullBits (monitorIn one .1) (packetOf l)) 0) (sym f)
-
-  pub mark-barred : {x : ℕ} {t : Bool} → x ≡ metRow one (packetOf l) → (x ≡ 0 → ⊥)
-      → t ≡ admits (parameters (monitorIn one .1)) (packetOf l) → t ≡ false → 0 ≡ markRow one (packetOf l)
-  mark-barred {x} {t} e n f z = sym (met-mark e n f ∙ pick-false _ 0 z)
-
-  pub mark-met : {x r f : ℕ} {t : Bool} → x ≡ metRow one (packetOf l) → (x ≡ 0 → ⊥)
-      → t ≡ admits (parameters (monitorIn one .1)) (packetOf l) → t ≡ true
+  pub mark-met : {x r f : ℕ} → x ≡ metRow one (packetOf l) → (x ≡ 0 → ⊥)
       → f ≡ filteringOf (getD s (monitorsAt + monitorSize * h + extraAt) 0) (getD s (monitorsAt + monitorSize * h + (extraAt + 1)) 0)
       → r ≡ rowBits (getD s (monitorsAt + monitorSize * h + 1) 0) (getD s (monitorsAt + monitorSize * h + 2) 0) (getD s (monitorsAt + monitorSize * h + 4) 0)
       (getD l (length l - 1) 0) f (getD l 0 0)
-      → r ≡ markRow one (packetOf l)
-  mark-met {x} {r} {f} {t} e n d z o b =
+      → r ≡ metMark one (packetOf l)
+  unfolding metRow metMark
+  mark-met {x} {r} {f} e n o b =
       b ∙ ap (λ (k : ℕ). rowBits (getD s (monitorsAt + monitorSize * h + 1) 0) (getD s (monitorsAt + monitorSize * h + 2) 0)
       (getD s (monitorsAt + monitorSize * h + 4) 0) (getD l (length l - 1) 0) k (getD l 0 0)) o
-      ∙ row-bits s h l ∙ sym (met-mark e n d ∙ pick-true _ 0 z)
+      ∙ row-bits s h l ∙ sym (met (inUse one && meetsCondition (monitorIn one .1) (packetOf l)) _ (λ z. n (e ∙ z)))
 
 -- two rows, the first in use, with one type and one condition
 pub record Alike (s : List ℕ) (j h : ℕ) : Type 0 where

@@ -10,14 +10,14 @@ ghost use mathlib.Core.Path.{_≡_};
 ghost use lib.ListN.{length, drop};
 ghost use Rattle.laws.specs.Rows.{row};
 ghost use Rattle.model.specs.Frames.{packetOf};
-ghost use Rattle.marks.specs.Marks.{flag, markRow};
+ghost use Rattle.marks.specs.Marks.{flag};
 ghost use Rattle.marks.specs.Fields.{Framed, framed, scanAt, fitsFor, marksFit, marked};
-ghost use mathlib.Core.Bool.{true};
 ghost use Rattle.model.specs.Monitors.{meetsCondition};
 ghost use Rattle.model.specs.Image.{monitorIn};
-ghost use Rattle.marks.specs.Monitors.{rowBits, metRow};
+ghost use Rattle.marks.specs.Monitors.{rowBits, metRow, metMark};
 ghost use Rattle.marks.specs.Keyed.{privateOf, Told, ToldAll};
-ghost use Rattle.marks.specs.Asked.{askedOf, markIf, marksIf, heldFit, markedFor};
+ghost use Rattle.marks.specs.Asked.{askedOf, markIf, heldFit, markedFor};
+ghost use Rattle.marks.specs.Admitted.{metIf};
 ghost use Rattle.model.specs.Layout.{blockSize, monitorSize, monitorsAt, mostMonitors};
 
 fn bit(t: bool) -> u8
@@ -90,16 +90,13 @@ fn met_at(met: &[u8], s: &[u8], h: usize, payload: &[u8], scan: usize, private: 
     bit(matches_at(s, h, payload, scan))
 }
 
-// The octet of a handle, from whether its monitor is in use and its condition met.
+// The octet of a handle by its condition alone, from whether its monitor is in use and the condition met.
 fn mark_at(s: &[u8], h: usize, payload: &[u8], met: u8) -> u8
     requires { ⌜ (length (now s) ≡ blockSize) × (h < mostMonitors) × Framed (now payload)
         × (met ≡ metRow (row monitorSize h (drop monitorsAt (now s))) (packetOf (now payload))) ⌝ }
-    ensures { λ r. ⌜ r ≡ markRow (row monitorSize h (drop monitorsAt (now (s .entry)))) (packetOf (now (payload .entry))) ⌝ }
+    ensures { λ r. ⌜ r ≡ metMark (row monitorSize h (drop monitorsAt (now (s .entry)))) (packetOf (now (payload .entry))) ⌝ }
 {
     if met == 0 {
-        return 0;
-    }
-    if !options::admits_at(s, h, payload) {
         return 0;
     }
     let at = State::MONITORS_AT + State::MONITOR_ROW * h;
@@ -113,7 +110,7 @@ fn mark_at(s: &[u8], h: usize, payload: &[u8], met: u8) -> u8
     )
 }
 
-// The octet of a handle that is asked, 0 of another.
+// The same of a handle that is asked, 0 of another.
 fn mark_asked(
     met: &[u8],
     s: &[u8],
@@ -125,7 +122,7 @@ fn mark_asked(
 ) -> u8
     requires { ⌜ (length (now met) ≡ mostMonitors) × (length (now s) ≡ blockSize) × (h < mostMonitors) × Framed (now payload)
         × (scan ≡ scanAt (now payload)) × ((ask ≡ 0 → ⊥) → Told private (now met) (now s) (now payload) h) ⌝ }
-    ensures { λ r. ⌜ r ≡ markIf ask (markRow (row monitorSize h (drop monitorsAt (now (s .entry)))) (packetOf (now (payload .entry)))) ⌝ }
+    ensures { λ r. ⌜ r ≡ markIf ask (metMark (row monitorSize h (drop monitorsAt (now (s .entry)))) (packetOf (now (payload .entry)))) ⌝ }
 {
     if ask == 0 {
         return 0;
@@ -134,6 +131,7 @@ fn mark_asked(
     mark_at(s, h, payload, m)
 }
 
+// The first pass: the octets of the handles that are asked, by their conditions; 0 of the others.
 fn mark_each(
     acts: &mut [u8],
     met: &[u8],
@@ -145,7 +143,7 @@ fn mark_each(
 )
     requires { ⌜ (length (now acts) ≡ mostMonitors) × (length (now met) ≡ mostMonitors) × (length (now s) ≡ blockSize)
         × (length (now held) ≡ mostMonitors) × Framed (now payload) × ToldAll private (now met) (now s) (askedOf (now held) (now s) reach) (now payload) ⌝ }
-    ensures { λ _. ⌜ now (acts .exit) ≡ marksIf (askedOf (now (held .entry)) (now (s .entry)) reach) (now (s .entry)) (packetOf (now (payload .entry))) ⌝ }
+    ensures { λ _. ⌜ now (acts .exit) ≡ metIf (askedOf (now (held .entry)) (now (s .entry)) reach) (now (s .entry)) (packetOf (now (payload .entry))) ⌝ }
 {
     let scan = scan_at(payload);
     let mut h = 0;
@@ -164,28 +162,16 @@ fn is_private(payload: &[u8]) -> bool
     (payload[1] == 1) & resolve::is_resolvable(&payload[2..8])
 }
 
-// For a resolvable private address the keys are asked first, so that the cipher runs once a key.
-fn mark_private(acts: &mut [u8], s: &[u8], held: &[u8], reach: u16, payload: &[u8])
-    requires { ⌜ (length (now acts) ≡ mostMonitors) × (length (now s) ≡ blockSize) × (length (now held) ≡ mostMonitors) × Framed (now payload)
-        × (privateOf (now payload) ≡ true) ⌝ }
-    ensures { λ _. ⌜ now (acts .exit) ≡ marksIf (askedOf (now (held .entry)) (now (s .entry)) reach) (now (s .entry)) (packetOf (now (payload .entry))) ⌝ }
-{
-    let mut met = [0u8; State::MONITORS];
-    keys::met_keys(&mut met, s, held, reach, payload);
-    mark_each(acts, &met, s, held, reach, payload, true);
-}
-
-// The octets of the handles that are asked, 0 of the others.
-fn mark_in(acts: &mut [u8], s: &[u8], held: &[u8], reach: u16, payload: &[u8])
-    requires { ⌜ (length (now acts) ≡ mostMonitors) × (length (now s) ≡ blockSize) × (length (now held) ≡ mostMonitors) × Framed (now payload) ⌝ }
-    ensures { λ _. ⌜ now (acts .exit) ≡ marksIf (askedOf (now (held .entry)) (now (s .entry)) reach) (now (s .entry)) (packetOf (now (payload .entry))) ⌝ }
+// For a resolvable private address the keys of conditions are asked first, so that the cipher runs once a key. Answers whether it is such a one.
+fn find_keys(met: &mut [u8], s: &[u8], held: &[u8], reach: u16, payload: &[u8]) -> bool
+    requires { ⌜ (length (now met) ≡ mostMonitors) × (length (now s) ≡ blockSize) × (length (now held) ≡ mostMonitors) × Framed (now payload) ⌝ }
+    ensures { λ r. ⌜ ToldAll r (now (met .exit)) (now (s .entry)) (askedOf (now (held .entry)) (now (s .entry)) reach) (now (payload .entry)) ⌝ }
 {
     if is_private(payload) {
-        mark_private(acts, s, held, reach, payload);
-        return;
+        keys::met_keys(met, s, held, reach, payload);
+        return true;
     }
-    let met = [0u8; State::MONITORS];
-    mark_each(acts, &met, s, held, reach, payload, false);
+    false
 }
 
 // Where the scan response of a packet frame's payload begins. A payload of kind 02 has none: there the RSSI stands.
@@ -234,6 +220,9 @@ fn is_fit(n: usize, s: &[u8], payload: &[u8]) -> bool
     (n == State::MONITORS) & ((s.len() == State::SIZE) & framed)
 }
 
+// The passes are written out here and in mark_held: each is then a function with two callers, which stays one, and the cipher, which two of them
+// ask, stands below neither the match of conditions nor its stack.
+
 // The octets of the handles 0 to 15, from the block s and a packet frame's payload. Where acts is not of 16 octets, s no block of
 // 5,225 or the payload no packet frame's by its lengths, nothing is written and the answer is false.
 pub fn mark_all(acts: &mut [u8], s: &[u8], payload: &[u8]) -> bool
@@ -243,7 +232,10 @@ pub fn mark_all(acts: &mut [u8], s: &[u8], payload: &[u8]) -> bool
         return false;
     }
     let held = [1u8; State::MONITORS];
-    mark_in(acts, s, &held, 0, payload);
+    let mut met = [0u8; State::MONITORS];
+    let private = find_keys(&mut met, s, &held, 0, payload);
+    mark_each(acts, &met, s, &held, 0, payload, private);
+    options::admit_each(acts, s, payload);
     true
 }
 
@@ -261,6 +253,9 @@ pub fn mark_held(acts: &mut [u8], s: &[u8], payload: &[u8], held: &[u8], may: bo
         return false;
     }
     let reach = asks::reach_of(may, payload[payload.len() - 1]);
-    mark_in(acts, s, held, reach, payload);
+    let mut met = [0u8; State::MONITORS];
+    let private = find_keys(&mut met, s, held, reach, payload);
+    mark_each(acts, &met, s, held, reach, payload, private);
+    options::admit_each(acts, s, payload);
     true
 }

@@ -10,6 +10,8 @@ ghost use mathlib.Core.Bool.{true};
 ghost use Rattle.model.specs.Monitors.{admits, parameters};
 ghost use Rattle.blocks.specs.Added.{addedIn};
 ghost use Rattle.marks.specs.Options.{peerMeets, keyMeets};
+ghost use Rattle.marks.specs.Admitted.{admitsAt, admitted};
+ghost use Rattle.laws.specs.Tests.{pick};
 ghost use Rattle.model.specs.Image.{monitorIn};
 ghost use Rattle.model.specs.Layout.{blockSize, monitorSize, monitorsAt, mostMonitors};
 
@@ -63,4 +65,31 @@ pub(super) fn admits_at(s: &[u8], h: usize, payload: &[u8]) -> bool
         return true;
     }
     is_owner_at(s, h, payload)
+}
+
+// The octet of a handle that the first pass left, where its options admit the packet's device; else 0.
+fn admit_at(s: &[u8], h: usize, payload: &[u8], a: u8) -> u8
+    requires { ⌜ (length (now s) ≡ blockSize) × (h < mostMonitors) × Framed (now payload) ⌝ }
+    ensures { λ r. ⌜ r ≡ pick (admitsAt (now (s .entry)) (packetOf (now (payload .entry))) h) a 0 ⌝ }
+{
+    if a == 0 {
+        return 0;
+    }
+    if admits_at(s, h, payload) {
+        return a;
+    }
+    0
+}
+
+// The second pass: so of every handle.
+pub(super) fn admit_each(acts: &mut [u8], s: &[u8], payload: &[u8])
+    requires { ⌜ (length (now acts) ≡ mostMonitors) × (length (now s) ≡ blockSize) × Framed (now payload) ⌝ }
+    ensures { λ _. ⌜ now (acts .exit) ≡ admitted (now (acts .entry)) (now (s .entry)) (packetOf (now (payload .entry))) ⌝ }
+{
+    let mut h = 0;
+    while h < State::MONITORS {
+        let a = acts[h];
+        acts[h] = admit_at(s, h, payload, a);
+        h += 1;
+    }
 }

@@ -1,25 +1,15 @@
-use borrow.Author.Tests.{not-true, not-false}
-use Rattle.marks.specs.Monitors.{mark-unmet, mark-barred, mark-met}
+use Rattle.marks.specs.Monitors.{mark-unmet, mark-met}
 use borrow.Author.Needs.{needs}
 use Rattle.marks.proofs.mark_at.Statement.{statement}
 use Rattle.marks.proofs.mark_at.Tie as tie
 use Rattle.marks.proofs.mark_at.Reads as reads
 use Rattle.marks.proofs.mark_at.Lts as lts
-use Rattle.marks.proofs.options.admits_at.Reads as admits-at-reads
 use Rattle.marks.proofs.row_bits.Reads as row-bits-reads
 use Rattle.state.proofs.filtering_of.Reads as filtering-of-reads
 
 -- src/lib.rt:229:9
 returns : tie.Need-returns
 returns c = let a = c .before .before .before .args in mark-unmet (a .s .now) (a .h) (a .payload .now) (c .before .before .before .pre .3) (c .if1 .taken)
-
--- src/lib.rt:231:9
-admits-at-requires : tie.Need-admits-at-requires
-admits-at-requires c κs = search needs
-
--- src/lib.rt:232:9
-returns-2 : tie.Need-returns-2
-returns-2 c = let a = c .before .before .before .before .before .args in mark-barred (a .s .now) (a .h) (a .payload .now) (c .before .before .before .before .before .pre .3) (c .before .before .if1 .left) (c .before .admits-at .ensures) (not-true _ (c .if2 .taken))
 
 -- src/lib.rt:234:35
 mul-at : tie.Need-mul-at
@@ -90,16 +80,14 @@ row-bits-requires : tie.Need-row-bits-requires
 row-bits-requires c κs = search needs
 
 -- src/lib.rt:223:1
-returns-3 : tie.Need-returns-3
-returns-3 c = let a = c .before .before .before .before .before .before .before .before .before .before .before .before .before .before .args in mark-met (a .s .now) (a .h) (a .payload .now) (c .before .before .before .before .before .before .before .before .before .before .before .before .before .before .pre .3) (c .before .before .before .before .before .before .before .before .before .before .before .if1 .left) (c .before .before .before .before .before .before .before .before .before .before .admits-at .ensures) (not-false _ (c .before .before .before .before .before .before .before .before .before .if2 .left)) (c .before .before .filtering-of .ensures) (c .row-bits .ensures)
+returns-2 : tie.Need-returns-2
+returns-2 c = let a = c .before .before .before .before .before .before .before .before .before .before .before .before .args in mark-met (a .s .now) (a .h) (a .payload .now) (c .before .before .before .before .before .before .before .before .before .before .before .before .pre .3) (c .before .before .before .before .before .before .before .before .before .if1 .left) (c .before .before .filtering-of .ensures) (c .row-bits .ensures)
 
 pub mark-at-spec : {M : Type 1} → statement M
 mark-at-spec =
     tie.close
     (tie.spec
     returns
-    admits-at-requires
-    returns-2
     mul-at
     add-at
     add-row-bits
@@ -117,4 +105,4 @@ mark-at-spec =
     filtering-of-requires
     shared-slice-read-row-bits-5
     row-bits-requires
-    returns-3)
+    returns-2)

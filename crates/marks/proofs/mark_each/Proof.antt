@@ -9,9 +9,11 @@ use Rattle.laws.specs.Rows.{row}
 use Rattle.laws.specs.Put.{put, put-nil}
 use Rattle.model.specs.Frames.{packetOf}
 use Rattle.model.specs.Layout.{monitorSize, monitorsAt, mostMonitors}
-use Rattle.marks.specs.Marks.{markRow, marks-turn}
+use Rattle.marks.specs.Marks.{marks-turn}
+use Rattle.marks.specs.Monitors.{metMark}
+use Rattle.marks.specs.Admitted.{metIf, met-if-end}
 use Rattle.marks.specs.Keyed.{told-at}
-use Rattle.marks.specs.Asked.{askedOf, ask-said, markIf, marksIf, marks-if-end}
+use Rattle.marks.specs.Asked.{askedOf, ask-said, markIf}
 use Rattle.marks.proofs.mark_each.Statement.{statement}
 use Rattle.marks.proofs.mark_each.Tie as tie
 use Rattle.marks.proofs.mark_each.Reads as reads
@@ -21,7 +23,7 @@ use Rattle.marks.proofs.mark_asked.Reads as mark-asked-reads
 use Rattle.marks.proofs.scan_at.Reads as scan-at-reads
 
 abbrev Inv-loop : tie.InvT-loop
-Inv-loop acts₀ met s held reach payload private scan h₀ acts h = (h ≤ mostMonitors) × (length acts ≡ length acts₀) × (acts ≡ put acts₀ 0 (upTo (λ g. markIf (getD (askedOf held s reach) g 0) (markRow (row monitorSize g (drop monitorsAt s)) (packetOf payload)) ∷ []) h))
+Inv-loop acts₀ met s held reach payload private scan h₀ acts h = (h ≤ mostMonitors) × (length acts ≡ length acts₀) × (acts ≡ put acts₀ 0 (upTo (λ g. markIf (getD (askedOf held s reach) g 0) (metMark (row monitorSize g (drop monitorsAt s)) (packetOf payload)) ∷ []) h))
 
 abbrev μ-loop : tie.MeasureT-loop
 μ-loop acts₀ met s held reach payload private scan h₀ acts h = mostMonitors - h
@@ -73,7 +75,7 @@ loop-again c = let a = c .before .before .before .before .before .before .before
   omega arith,
   simp length-set (l .inv .1),
   rw (c .mark-asked .ensures, ask-said (a .held .now) (a .s .now) (a .reach) (l .h) (omega arith) (c .before .ask-at .ensures))
-      (marks-turn (λ g. markIf (getD (askedOf (a .held .now) (a .s .now) (a .reach)) g 0) (markRow (row monitorSize g (drop monitorsAt (a .s .now))) (packetOf (a .payload .now)))) (a .acts .now) (l .h)
+      (marks-turn (λ g. markIf (getD (askedOf (a .held .now) (a .s .now) (a .reach)) g 0) (metMark (row monitorSize g (drop monitorsAt (a .s .now))) (packetOf (a .payload .now)))) (a .acts .now) (l .h)
       (omega arith) (omega arith) (l .inv .2)),
 )
 
@@ -83,10 +85,10 @@ same-length c = c .before .loop .inv .1
 
 -- src/lib.rt:137:1
 returns : tie.Need-returns Inv-loop μ-loop
-unfolding marksIf
+unfolding metIf
 returns c = let a = c .before .before .before .before .before .before .before .before .args in let l = c .before .loop in
     let e : l .h ≡ mostMonitors = omega arith in
-    rw e at (l .inv .2) ∙ marks-if-end (askedOf (a .held .now) (a .s .now) (a .reach)) (a .s .now) (packetOf (a .payload .now)) (a .acts .now) (omega arith)
+    rw e at (l .inv .2) ∙ met-if-end (askedOf (a .held .now) (a .s .now) (a .reach)) (a .s .now) (packetOf (a .payload .now)) (a .acts .now) (omega arith)
 
 pub mark-each-spec : {M : Type 1} → statement M
 mark-each-spec =
