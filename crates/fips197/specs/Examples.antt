@@ -2,41 +2,8 @@
 use Prim.Native.Nat.{ℕ}
 use mathlib.Core.Path.{_≡_, refl}
 use mathlib.Core.List.{List, [], _∷_}
-use Rattle.laws.specs.Tests.{pick}
-use Rattle.fips197.specs.Field.{
-  _⊕_,
-  xtimes,
-  products,
-  _•_,
-  squares,
-  inverse,
-  bit,
-  affineBit,
-  affine,
-  substitute,
-}
-use Rattle.fips197.specs.Words.{word, sums, turn}
-use Rattle.fips197.specs.Cipher.{
-  cell,
-  column,
-  columns,
-  state,
-  subBytes,
-  shiftRows,
-  mixColumn,
-  mixColumns,
-  addRoundKey,
-  rotWord,
-  subWord,
-  powerOfX,
-  rcon,
-  temp,
-  nextWords,
-  keyExpansion,
-  roundKey,
-  rounds,
-  cipher,
-}
+use Rattle.fips197.specs.Cipher.{cipher}
+use Rattle.fips197.specs.Computed.{computed}
 
 -- Key, Input and the last state of the appendix
 unfoldable pub key : List ℕ
@@ -55,7 +22,5 @@ output =
     ∷ 0xdc ∷ 0x11 ∷ 0x85 ∷ 0x97 ∷ 0x19 ∷ 0x6a ∷ 0x0b ∷ 0x32 ∷ []
 
 pub appendix-b : cipher key input ≡ output
-unfolding key input output _⊕_ xtimes products _•_ squares inverse bit affineBit affine substitute word sums turn pick
-    cell column columns state subBytes shiftRows mixColumn mixColumns addRoundKey rotWord subWord powerOfX rcon temp
-    nextWords keyExpansion roundKey rounds cipher
+unfolding key input output computed
 appendix-b = refl

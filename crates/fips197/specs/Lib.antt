@@ -6,4 +6,5 @@ pub mod Words
 pub mod Cipher
 pub mod Tables
 pub mod Laws
+pub mod Computed
 pub mod Examples

@@ -101,143 +101,24 @@ watching =
 
 -- come out as they say; the checker runs the cipher at most a few times in one claim
 image-answers : answered models fresh (fresh (t03image .opcode) (t03image .prefix)) (t03image .frames) (t03image .replies) ≡ true
-unfolding t03image addKey from startOf reportOf
-    Rattle.model.specs.Rows.replyOf Rattle.model.specs.Rows.same Rattle.model.specs.Rows.imaged Rattle.model.specs.Rows.answered Rattle.model.specs.Rows.reached Rattle.model.specs.Rows.right Rattle.model.specs.Rows.cmd Rattle.model.specs.Rows.pkt Rattle.model.specs.Rows.adv Rattle.model.specs.Rows.tck Rattle.model.specs.Rows.tcks Rattle.model.specs.Rows.quiet Rattle.model.specs.Rows.addWatch Rattle.model.specs.Rows.added0 Rattle.model.specs.Rows.start0 Rattle.model.specs.Rows.stop0 Rattle.model.specs.Rows.report60 Rattle.model.specs.Rows.session Rattle.model.specs.Rows.on Rattle.model.specs.Rows.onAnswer Rattle.model.specs.Rows.addSampled Rattle.model.specs.Rows.invalid03 Rattle.model.specs.Rows.added1 Rattle.model.specs.Rows.added2
-    Rattle.model.specs.Types.ticksOf Rattle.model.specs.Types.device Rattle.model.specs.Types.deviceOf Rattle.model.specs.Types.watched Rattle.model.specs.Types.withLists Rattle.model.specs.Types.withFilter Rattle.model.specs.Types.moved Rattle.model.specs.Types.fresh Rattle.model.specs.Types.blank Rattle.model.specs.Types.scanText
-    Rattle.model.specs.Level.level Rattle.model.specs.Level.dBm Rattle.model.specs.Level.raised Rattle.model.specs.Level.signed Rattle.model.specs.Level.wrapped Rattle.model.specs.Level.floorOf Rattle.model.specs.Level.inRange Rattle.model.specs.Level.sumInRange Rattle.model.specs.Level.addRssi Rattle.model.specs.Level.mean
-    Rattle.model.specs.Frames.frameOf Rattle.model.specs.Frames.rawOf Rattle.model.specs.Frames.readRaw Rattle.model.specs.Frames.read Rattle.model.specs.Frames.write Rattle.model.specs.Frames.isCommand Rattle.model.specs.Frames.isPacket Rattle.model.specs.Frames.isScanned Rattle.model.specs.Frames.scanOf Rattle.model.specs.Frames.packetOf Rattle.model.specs.Frames.isTick Rattle.model.specs.Frames.typed
-    Rattle.model.specs.Monitors.ordered Rattle.model.specs.Monitors.settingsGood Rattle.model.specs.Monitors.conditionFault Rattle.model.specs.Monitors.faultOf Rattle.model.specs.Monitors.accepts Rattle.model.specs.Monitors.monitorOf Rattle.model.specs.Monitors.matches Rattle.model.specs.Monitors.good Rattle.model.specs.Monitors.strong Rattle.model.specs.Monitors.runOf Rattle.model.specs.Monitors.windowed Rattle.model.specs.Monitors.missing Rattle.model.specs.Monitors.parametersOf Rattle.model.specs.Monitors.parameters Rattle.model.specs.Monitors.options Rattle.model.specs.Monitors.filtering Rattle.model.specs.Monitors.peerType Rattle.model.specs.Monitors.peer Rattle.model.specs.Monitors.irk Rattle.model.specs.Monitors.bit Rattle.model.specs.Monitors.siftsBy Rattle.model.specs.Monitors.sifts Rattle.model.specs.Monitors.noOption Rattle.model.specs.Monitors.noKey Rattle.model.specs.Monitors.twoDevices Rattle.model.specs.Monitors.sampledSifting Rattle.model.specs.Monitors.allowed Rattle.model.specs.Monitors.isSecond Rattle.model.specs.Monitors.typeIn Rattle.model.specs.Monitors.extraOf Rattle.model.specs.Monitors.meetsCondition Rattle.model.specs.Monitors.admits Rattle.model.specs.Monitors.letsThrough Rattle.model.specs.Monitors.allows
-    Rattle.model.specs.Commands.table Rattle.model.specs.Commands.paramsIn Rattle.model.specs.Commands.answerIn Rattle.model.specs.Commands.present Rattle.model.specs.Commands.subOf Rattle.model.specs.Commands.adds Rattle.model.specs.Commands.readStatus Rattle.model.specs.Commands.addStatus Rattle.model.specs.Commands.cancelStatus Rattle.model.specs.Commands.enableStatus Rattle.model.specs.Commands.status Rattle.model.specs.Commands.handleOr Rattle.model.specs.Commands.newHandle Rattle.model.specs.Commands.features Rattle.model.specs.Commands.success Rattle.model.specs.Commands.failure Rattle.model.specs.Commands.returned Rattle.model.specs.Commands.ofOther Rattle.model.specs.Commands.cancelled Rattle.model.specs.Commands.added Rattle.model.specs.Commands.changed Rattle.model.specs.Commands.commanded
-    Rattle.model.specs.Watch.withSilent Rattle.model.specs.Watch.gathered Rattle.model.specs.Watch.withTicks Rattle.model.specs.Watch.emptied Rattle.model.specs.Watch.withLatest Rattle.model.specs.Watch.counts Rattle.model.specs.Watch.refreshed Rattle.model.specs.Watch.windowTakes Rattle.model.specs.Watch.atPacket Rattle.model.specs.Watch.duplicate Rattle.model.specs.Watch.remembered Rattle.model.specs.Watch.packetMove Rattle.model.specs.Watch.isPair Rattle.model.specs.Watch.holds Rattle.model.specs.Watch.begins Rattle.model.specs.Watch.withKept Rattle.model.specs.Watch.smaller Rattle.model.specs.Watch.least Rattle.model.specs.Watch.firstKeeping Rattle.model.specs.Watch.without Rattle.model.specs.Watch.hasRoom Rattle.model.specs.Watch.fits Rattle.model.specs.Watch.goesFor Rattle.model.specs.Watch.staysFor Rattle.model.specs.Watch.stopOf Rattle.model.specs.Watch.turnAnswer Rattle.model.specs.Watch.turnsAnswer Rattle.model.specs.Watch.startPair Rattle.model.specs.Watch.startLike Rattle.model.specs.Watch.startOf Rattle.model.specs.Watch.startsBelow Rattle.model.specs.Watch.turn Rattle.model.specs.Watch.turns Rattle.model.specs.Watch.packetPairs Rattle.model.specs.Watch.startsOf Rattle.model.specs.Watch.wants Rattle.model.specs.Watch.reasonFor Rattle.model.specs.Watch.allowsBy Rattle.model.specs.Watch.startTold Rattle.model.specs.Watch.reported Rattle.model.specs.Watch.packetAnswer Rattle.model.specs.Watch.goesOn Rattle.model.specs.Watch.closes Rattle.model.specs.Watch.windowTick Rattle.model.specs.Watch.atTick Rattle.model.specs.Watch.tickPairs Rattle.model.specs.Watch.windowSays Rattle.model.specs.Watch.tickOctets Rattle.model.specs.Watch.tickAnswer
-    Rattle.model.specs.Watch.keeps
-    Rattle.model.specs.Events.complete Rattle.model.specs.Events.event Rattle.model.specs.Events.startEvent Rattle.model.specs.Events.stopEvent Rattle.model.specs.Events.report Rattle.model.specs.Events.packetReport Rattle.model.specs.Events.windowReport Rattle.model.specs.Events.scanReport Rattle.model.specs.Events.packetReports
-    Rattle.model.specs.Step.stepTyped Rattle.model.specs.Step.answerTyped Rattle.model.specs.Step.refusalTyped Rattle.model.specs.Step.actTyped Rattle.model.specs.Step.act
-    Rattle.model.specs.Sound.octetsUpTo Rattle.model.specs.Sound.soundSettings Rattle.model.specs.Sound.soundMonitor Rattle.model.specs.Sound.soundExtra Rattle.model.specs.Sound.soundMonitors Rattle.model.specs.Sound.soundWindow Rattle.model.specs.Sound.soundEmpty Rattle.model.specs.Sound.soundLatest Rattle.model.specs.Sound.soundFields Rattle.model.specs.Sound.soundOf Rattle.model.specs.Sound.soundPair Rattle.model.specs.Sound.apart Rattle.model.specs.Sound.soundModel
-    Rattle.model.specs.Image.headRow Rattle.model.specs.Image.monitorRow Rattle.model.specs.Image.extraText Rattle.model.specs.Image.nameOf Rattle.model.specs.Image.monitorText Rattle.model.specs.Image.pairRow Rattle.model.specs.Image.endRow Rattle.model.specs.Image.records Rattle.model.specs.Image.imageText Rattle.model.specs.Image.monitorIn Rattle.model.specs.Image.extraIn Rattle.model.specs.Image.monitorFrom Rattle.model.specs.Image.monitorOn Rattle.model.specs.Image.pairIn Rattle.model.specs.Image.named Rattle.model.specs.Image.rowsNamed Rattle.model.specs.Image.isMonitor Rattle.model.specs.Image.monitorsOn Rattle.model.specs.Image.firstOf Rattle.model.specs.Image.modelIn Rattle.model.specs.Image.heldIn Rattle.model.specs.Image.isImage Rattle.model.specs.Image.readImage
-    Rattle.laws.specs.Rows.rows Rattle.laws.specs.Tests.pick Rattle.laws.specs.Tests.sames
-    Rattle.laws.specs.Loops.part Rattle.laws.specs.Loops.every Rattle.laws.specs.Loops.some Rattle.laws.specs.Loops.only Rattle.laws.specs.Loops.keep Rattle.laws.specs.Loops.when Rattle.laws.specs.Loops.each Rattle.laws.specs.Loops.upTo
-    Rattle.octets.specs.Little.little Rattle.octets.specs.Little.octetsOf Rattle.octets.specs.Little.value
-    Rattle.lines.specs.Hex.digit Rattle.lines.specs.Hex.isHex Rattle.lines.specs.Hex.nib Rattle.lines.specs.Hex.hexOf Rattle.lines.specs.Hex.textOf Rattle.lines.specs.Hex.isText Rattle.lines.specs.Hex.octetsIn Rattle.lines.specs.Hex.notLf
-    Rattle.lines.specs.Frame.isForm Rattle.lines.specs.Frame.isFrame Rattle.lines.specs.Frame.isLine
-    Rattle.advert.specs.Parts.partsFrom Rattle.advert.specs.Parts.parts
-    Rattle.advert.specs.Sections.sections Rattle.advert.specs.Sections.isType Rattle.advert.specs.Sections.contentsOf Rattle.advert.specs.Sections.contents Rattle.advert.specs.Either.both
-    Rattle.advert.specs.Pattern.holdsAt Rattle.advert.specs.Pattern.patterns Rattle.advert.specs.Pattern.extent Rattle.advert.specs.Pattern.fills Rattle.advert.specs.Pattern.patternsForm Rattle.advert.specs.Pattern.patternMeets Rattle.advert.specs.Pattern.patternsMeet
-    Rattle.advert.specs.Uuid.uuids Rattle.advert.specs.Uuid.listed Rattle.advert.specs.Uuid.uuidSize Rattle.advert.specs.Uuid.uuidForm Rattle.advert.specs.Uuid.uuidMeets
-    Rattle.advert.specs.Address.addressForm Rattle.advert.specs.Address.addressMeets Rattle.advert.specs.Irk.irkForm Rattle.advert.specs.Irk.irkMeets
-    key address addressLater addressOff top00 top10 top11
-    Rattle.resolve.specs.Resolve.bigOctets Rattle.resolve.specs.Resolve.bigValue Rattle.resolve.specs.Resolve.e Rattle.resolve.specs.Resolve.ah Rattle.resolve.specs.Resolve.keyOf Rattle.resolve.specs.Resolve.hashOf Rattle.resolve.specs.Resolve.prandOf Rattle.resolve.specs.Resolve.resolvable Rattle.resolve.specs.Resolve.resolvesBy
-    Rattle.fips197.specs.Field._⊕_ Rattle.fips197.specs.Field.xtimes Rattle.fips197.specs.Field.products Rattle.fips197.specs.Field._•_ Rattle.fips197.specs.Field.squares Rattle.fips197.specs.Field.inverse Rattle.fips197.specs.Field.bit Rattle.fips197.specs.Field.affineBit Rattle.fips197.specs.Field.affine Rattle.fips197.specs.Field.substitute
-    Rattle.fips197.specs.Words.word Rattle.fips197.specs.Words.sums Rattle.fips197.specs.Words.turn
-    Rattle.fips197.specs.Cipher.cell Rattle.fips197.specs.Cipher.column Rattle.fips197.specs.Cipher.columns Rattle.fips197.specs.Cipher.state Rattle.fips197.specs.Cipher.subBytes Rattle.fips197.specs.Cipher.shiftRows Rattle.fips197.specs.Cipher.mixColumn Rattle.fips197.specs.Cipher.mixColumns Rattle.fips197.specs.Cipher.addRoundKey Rattle.fips197.specs.Cipher.rotWord Rattle.fips197.specs.Cipher.subWord Rattle.fips197.specs.Cipher.powerOfX Rattle.fips197.specs.Cipher.rcon Rattle.fips197.specs.Cipher.temp Rattle.fips197.specs.Cipher.nextWords Rattle.fips197.specs.Cipher.keyExpansion Rattle.fips197.specs.Cipher.roundKey Rattle.fips197.specs.Cipher.rounds Rattle.fips197.specs.Cipher.cipher
-    Rattle.advert.specs.Condition.wellFormed Rattle.advert.specs.Condition.formOf Rattle.advert.specs.Condition.formStatus Rattle.advert.specs.Condition.meets
-    Rattle.sessions.specs.Session.refuseIf Rattle.sessions.specs.Session.stateAfter Rattle.sessions.specs.Session.judge Rattle.sessions.specs.Session.answer
-    Rattle.sessions.specs.Machine.lastNumber
-    Rattle.sessions.specs.Saved.cutFrom Rattle.sessions.specs.Saved.cut Rattle.sessions.specs.Saved.withAnswer Rattle.sessions.specs.Saved.resume Rattle.sessions.specs.Saved.replayLines Rattle.sessions.specs.Saved.replay
+unfolding t03image addKey from startOf reportOf key address addressLater addressOff top00 top10 top11
+    Rattle.resolve.specs.Computed.computed Rattle.model.specs.Computed.computed
 image-answers = refl
 
 parts-hold : (reached models fresh (fresh (t03image .opcode) (t03image .prefix)) (t03image .frames) ≡ watching)
     × (answered models fresh watching (from 3 1 addressLater 0xC4 ∷ []) (wrote (startOf addressLater ++ reportOf addressLater 0xC4) ∷ []) ≡ true)
-unfolding t03image watching addKey from startOf reportOf
-    Rattle.model.specs.Rows.replyOf Rattle.model.specs.Rows.same Rattle.model.specs.Rows.imaged Rattle.model.specs.Rows.answered Rattle.model.specs.Rows.reached Rattle.model.specs.Rows.right Rattle.model.specs.Rows.cmd Rattle.model.specs.Rows.pkt Rattle.model.specs.Rows.adv Rattle.model.specs.Rows.tck Rattle.model.specs.Rows.tcks Rattle.model.specs.Rows.quiet Rattle.model.specs.Rows.addWatch Rattle.model.specs.Rows.added0 Rattle.model.specs.Rows.start0 Rattle.model.specs.Rows.stop0 Rattle.model.specs.Rows.report60 Rattle.model.specs.Rows.session Rattle.model.specs.Rows.on Rattle.model.specs.Rows.onAnswer Rattle.model.specs.Rows.addSampled Rattle.model.specs.Rows.invalid03 Rattle.model.specs.Rows.added1 Rattle.model.specs.Rows.added2
-    Rattle.model.specs.Types.ticksOf Rattle.model.specs.Types.device Rattle.model.specs.Types.deviceOf Rattle.model.specs.Types.watched Rattle.model.specs.Types.withLists Rattle.model.specs.Types.withFilter Rattle.model.specs.Types.moved Rattle.model.specs.Types.fresh Rattle.model.specs.Types.blank Rattle.model.specs.Types.scanText
-    Rattle.model.specs.Level.level Rattle.model.specs.Level.dBm Rattle.model.specs.Level.raised Rattle.model.specs.Level.signed Rattle.model.specs.Level.wrapped Rattle.model.specs.Level.floorOf Rattle.model.specs.Level.inRange Rattle.model.specs.Level.sumInRange Rattle.model.specs.Level.addRssi Rattle.model.specs.Level.mean
-    Rattle.model.specs.Frames.frameOf Rattle.model.specs.Frames.rawOf Rattle.model.specs.Frames.readRaw Rattle.model.specs.Frames.read Rattle.model.specs.Frames.write Rattle.model.specs.Frames.isCommand Rattle.model.specs.Frames.isPacket Rattle.model.specs.Frames.isScanned Rattle.model.specs.Frames.scanOf Rattle.model.specs.Frames.packetOf Rattle.model.specs.Frames.isTick Rattle.model.specs.Frames.typed
-    Rattle.model.specs.Monitors.ordered Rattle.model.specs.Monitors.settingsGood Rattle.model.specs.Monitors.conditionFault Rattle.model.specs.Monitors.faultOf Rattle.model.specs.Monitors.accepts Rattle.model.specs.Monitors.monitorOf Rattle.model.specs.Monitors.matches Rattle.model.specs.Monitors.good Rattle.model.specs.Monitors.strong Rattle.model.specs.Monitors.runOf Rattle.model.specs.Monitors.windowed Rattle.model.specs.Monitors.missing Rattle.model.specs.Monitors.parametersOf Rattle.model.specs.Monitors.parameters Rattle.model.specs.Monitors.options Rattle.model.specs.Monitors.filtering Rattle.model.specs.Monitors.peerType Rattle.model.specs.Monitors.peer Rattle.model.specs.Monitors.irk Rattle.model.specs.Monitors.bit Rattle.model.specs.Monitors.siftsBy Rattle.model.specs.Monitors.sifts Rattle.model.specs.Monitors.noOption Rattle.model.specs.Monitors.noKey Rattle.model.specs.Monitors.twoDevices Rattle.model.specs.Monitors.sampledSifting Rattle.model.specs.Monitors.allowed Rattle.model.specs.Monitors.isSecond Rattle.model.specs.Monitors.typeIn Rattle.model.specs.Monitors.extraOf Rattle.model.specs.Monitors.meetsCondition Rattle.model.specs.Monitors.admits Rattle.model.specs.Monitors.letsThrough Rattle.model.specs.Monitors.allows
-    Rattle.model.specs.Commands.table Rattle.model.specs.Commands.paramsIn Rattle.model.specs.Commands.answerIn Rattle.model.specs.Commands.present Rattle.model.specs.Commands.subOf Rattle.model.specs.Commands.adds Rattle.model.specs.Commands.readStatus Rattle.model.specs.Commands.addStatus Rattle.model.specs.Commands.cancelStatus Rattle.model.specs.Commands.enableStatus Rattle.model.specs.Commands.status Rattle.model.specs.Commands.handleOr Rattle.model.specs.Commands.newHandle Rattle.model.specs.Commands.features Rattle.model.specs.Commands.success Rattle.model.specs.Commands.failure Rattle.model.specs.Commands.returned Rattle.model.specs.Commands.ofOther Rattle.model.specs.Commands.cancelled Rattle.model.specs.Commands.added Rattle.model.specs.Commands.changed Rattle.model.specs.Commands.commanded
-    Rattle.model.specs.Watch.withSilent Rattle.model.specs.Watch.gathered Rattle.model.specs.Watch.withTicks Rattle.model.specs.Watch.emptied Rattle.model.specs.Watch.withLatest Rattle.model.specs.Watch.counts Rattle.model.specs.Watch.refreshed Rattle.model.specs.Watch.windowTakes Rattle.model.specs.Watch.atPacket Rattle.model.specs.Watch.duplicate Rattle.model.specs.Watch.remembered Rattle.model.specs.Watch.packetMove Rattle.model.specs.Watch.isPair Rattle.model.specs.Watch.holds Rattle.model.specs.Watch.begins Rattle.model.specs.Watch.withKept Rattle.model.specs.Watch.smaller Rattle.model.specs.Watch.least Rattle.model.specs.Watch.firstKeeping Rattle.model.specs.Watch.without Rattle.model.specs.Watch.hasRoom Rattle.model.specs.Watch.fits Rattle.model.specs.Watch.goesFor Rattle.model.specs.Watch.staysFor Rattle.model.specs.Watch.stopOf Rattle.model.specs.Watch.turnAnswer Rattle.model.specs.Watch.turnsAnswer Rattle.model.specs.Watch.startPair Rattle.model.specs.Watch.startLike Rattle.model.specs.Watch.startOf Rattle.model.specs.Watch.startsBelow Rattle.model.specs.Watch.turn Rattle.model.specs.Watch.turns Rattle.model.specs.Watch.packetPairs Rattle.model.specs.Watch.startsOf Rattle.model.specs.Watch.wants Rattle.model.specs.Watch.reasonFor Rattle.model.specs.Watch.allowsBy Rattle.model.specs.Watch.startTold Rattle.model.specs.Watch.reported Rattle.model.specs.Watch.packetAnswer Rattle.model.specs.Watch.goesOn Rattle.model.specs.Watch.closes Rattle.model.specs.Watch.windowTick Rattle.model.specs.Watch.atTick Rattle.model.specs.Watch.tickPairs Rattle.model.specs.Watch.windowSays Rattle.model.specs.Watch.tickOctets Rattle.model.specs.Watch.tickAnswer
-    Rattle.model.specs.Watch.keeps
-    Rattle.model.specs.Events.complete Rattle.model.specs.Events.event Rattle.model.specs.Events.startEvent Rattle.model.specs.Events.stopEvent Rattle.model.specs.Events.report Rattle.model.specs.Events.packetReport Rattle.model.specs.Events.windowReport Rattle.model.specs.Events.scanReport Rattle.model.specs.Events.packetReports
-    Rattle.model.specs.Step.stepTyped Rattle.model.specs.Step.answerTyped Rattle.model.specs.Step.refusalTyped Rattle.model.specs.Step.actTyped Rattle.model.specs.Step.act
-    Rattle.model.specs.Sound.octetsUpTo Rattle.model.specs.Sound.soundSettings Rattle.model.specs.Sound.soundMonitor Rattle.model.specs.Sound.soundExtra Rattle.model.specs.Sound.soundMonitors Rattle.model.specs.Sound.soundWindow Rattle.model.specs.Sound.soundEmpty Rattle.model.specs.Sound.soundLatest Rattle.model.specs.Sound.soundFields Rattle.model.specs.Sound.soundOf Rattle.model.specs.Sound.soundPair Rattle.model.specs.Sound.apart Rattle.model.specs.Sound.soundModel
-    Rattle.model.specs.Image.headRow Rattle.model.specs.Image.monitorRow Rattle.model.specs.Image.extraText Rattle.model.specs.Image.nameOf Rattle.model.specs.Image.monitorText Rattle.model.specs.Image.pairRow Rattle.model.specs.Image.endRow Rattle.model.specs.Image.records Rattle.model.specs.Image.imageText Rattle.model.specs.Image.monitorIn Rattle.model.specs.Image.extraIn Rattle.model.specs.Image.monitorFrom Rattle.model.specs.Image.monitorOn Rattle.model.specs.Image.pairIn Rattle.model.specs.Image.named Rattle.model.specs.Image.rowsNamed Rattle.model.specs.Image.isMonitor Rattle.model.specs.Image.monitorsOn Rattle.model.specs.Image.firstOf Rattle.model.specs.Image.modelIn Rattle.model.specs.Image.heldIn Rattle.model.specs.Image.isImage Rattle.model.specs.Image.readImage
-    Rattle.laws.specs.Rows.rows Rattle.laws.specs.Tests.pick Rattle.laws.specs.Tests.sames
-    Rattle.laws.specs.Loops.part Rattle.laws.specs.Loops.every Rattle.laws.specs.Loops.some Rattle.laws.specs.Loops.only Rattle.laws.specs.Loops.keep Rattle.laws.specs.Loops.when Rattle.laws.specs.Loops.each Rattle.laws.specs.Loops.upTo
-    Rattle.octets.specs.Little.little Rattle.octets.specs.Little.octetsOf Rattle.octets.specs.Little.value
-    Rattle.lines.specs.Hex.digit Rattle.lines.specs.Hex.isHex Rattle.lines.specs.Hex.nib Rattle.lines.specs.Hex.hexOf Rattle.lines.specs.Hex.textOf Rattle.lines.specs.Hex.isText Rattle.lines.specs.Hex.octetsIn Rattle.lines.specs.Hex.notLf
-    Rattle.lines.specs.Frame.isForm Rattle.lines.specs.Frame.isFrame Rattle.lines.specs.Frame.isLine
-    Rattle.advert.specs.Parts.partsFrom Rattle.advert.specs.Parts.parts
-    Rattle.advert.specs.Sections.sections Rattle.advert.specs.Sections.isType Rattle.advert.specs.Sections.contentsOf Rattle.advert.specs.Sections.contents Rattle.advert.specs.Either.both
-    Rattle.advert.specs.Pattern.holdsAt Rattle.advert.specs.Pattern.patterns Rattle.advert.specs.Pattern.extent Rattle.advert.specs.Pattern.fills Rattle.advert.specs.Pattern.patternsForm Rattle.advert.specs.Pattern.patternMeets Rattle.advert.specs.Pattern.patternsMeet
-    Rattle.advert.specs.Uuid.uuids Rattle.advert.specs.Uuid.listed Rattle.advert.specs.Uuid.uuidSize Rattle.advert.specs.Uuid.uuidForm Rattle.advert.specs.Uuid.uuidMeets
-    Rattle.advert.specs.Address.addressForm Rattle.advert.specs.Address.addressMeets Rattle.advert.specs.Irk.irkForm Rattle.advert.specs.Irk.irkMeets
-    key address addressLater addressOff top00 top10 top11
-    Rattle.resolve.specs.Resolve.bigOctets Rattle.resolve.specs.Resolve.bigValue Rattle.resolve.specs.Resolve.e Rattle.resolve.specs.Resolve.ah Rattle.resolve.specs.Resolve.keyOf Rattle.resolve.specs.Resolve.hashOf Rattle.resolve.specs.Resolve.prandOf Rattle.resolve.specs.Resolve.resolvable Rattle.resolve.specs.Resolve.resolvesBy
-    Rattle.fips197.specs.Field._⊕_ Rattle.fips197.specs.Field.xtimes Rattle.fips197.specs.Field.products Rattle.fips197.specs.Field._•_ Rattle.fips197.specs.Field.squares Rattle.fips197.specs.Field.inverse Rattle.fips197.specs.Field.bit Rattle.fips197.specs.Field.affineBit Rattle.fips197.specs.Field.affine Rattle.fips197.specs.Field.substitute
-    Rattle.fips197.specs.Words.word Rattle.fips197.specs.Words.sums Rattle.fips197.specs.Words.turn
-    Rattle.fips197.specs.Cipher.cell Rattle.fips197.specs.Cipher.column Rattle.fips197.specs.Cipher.columns Rattle.fips197.specs.Cipher.state Rattle.fips197.specs.Cipher.subBytes Rattle.fips197.specs.Cipher.shiftRows Rattle.fips197.specs.Cipher.mixColumn Rattle.fips197.specs.Cipher.mixColumns Rattle.fips197.specs.Cipher.addRoundKey Rattle.fips197.specs.Cipher.rotWord Rattle.fips197.specs.Cipher.subWord Rattle.fips197.specs.Cipher.powerOfX Rattle.fips197.specs.Cipher.rcon Rattle.fips197.specs.Cipher.temp Rattle.fips197.specs.Cipher.nextWords Rattle.fips197.specs.Cipher.keyExpansion Rattle.fips197.specs.Cipher.roundKey Rattle.fips197.specs.Cipher.rounds Rattle.fips197.specs.Cipher.cipher
-    Rattle.advert.specs.Condition.wellFormed Rattle.advert.specs.Condition.formOf Rattle.advert.specs.Condition.formStatus Rattle.advert.specs.Condition.meets
-    Rattle.sessions.specs.Session.refuseIf Rattle.sessions.specs.Session.stateAfter Rattle.sessions.specs.Session.judge Rattle.sessions.specs.Session.answer
-    Rattle.sessions.specs.Machine.lastNumber
-    Rattle.sessions.specs.Saved.cutFrom Rattle.sessions.specs.Saved.cut Rattle.sessions.specs.Saved.withAnswer Rattle.sessions.specs.Saved.resume Rattle.sessions.specs.Saved.replayLines Rattle.sessions.specs.Saved.replay
+unfolding t03image watching addKey from startOf reportOf key address addressLater addressOff top00 top10 top11
+    Rattle.resolve.specs.Computed.computed Rattle.model.specs.Computed.computed
 parts-hold = (refl, refl)
 
 not-holds : right models fresh t03not ≡ true
-unfolding t03not addKey from
-    Rattle.model.specs.Rows.replyOf Rattle.model.specs.Rows.same Rattle.model.specs.Rows.imaged Rattle.model.specs.Rows.answered Rattle.model.specs.Rows.reached Rattle.model.specs.Rows.right Rattle.model.specs.Rows.cmd Rattle.model.specs.Rows.pkt Rattle.model.specs.Rows.adv Rattle.model.specs.Rows.tck Rattle.model.specs.Rows.tcks Rattle.model.specs.Rows.quiet Rattle.model.specs.Rows.addWatch Rattle.model.specs.Rows.added0 Rattle.model.specs.Rows.start0 Rattle.model.specs.Rows.stop0 Rattle.model.specs.Rows.report60 Rattle.model.specs.Rows.session Rattle.model.specs.Rows.on Rattle.model.specs.Rows.onAnswer Rattle.model.specs.Rows.addSampled Rattle.model.specs.Rows.invalid03 Rattle.model.specs.Rows.added1 Rattle.model.specs.Rows.added2
-    Rattle.model.specs.Types.ticksOf Rattle.model.specs.Types.device Rattle.model.specs.Types.deviceOf Rattle.model.specs.Types.watched Rattle.model.specs.Types.withLists Rattle.model.specs.Types.withFilter Rattle.model.specs.Types.moved Rattle.model.specs.Types.fresh Rattle.model.specs.Types.blank Rattle.model.specs.Types.scanText
-    Rattle.model.specs.Level.level Rattle.model.specs.Level.dBm Rattle.model.specs.Level.raised Rattle.model.specs.Level.signed Rattle.model.specs.Level.wrapped Rattle.model.specs.Level.floorOf Rattle.model.specs.Level.inRange Rattle.model.specs.Level.sumInRange Rattle.model.specs.Level.addRssi Rattle.model.specs.Level.mean
-    Rattle.model.specs.Frames.frameOf Rattle.model.specs.Frames.rawOf Rattle.model.specs.Frames.readRaw Rattle.model.specs.Frames.read Rattle.model.specs.Frames.write Rattle.model.specs.Frames.isCommand Rattle.model.specs.Frames.isPacket Rattle.model.specs.Frames.isScanned Rattle.model.specs.Frames.scanOf Rattle.model.specs.Frames.packetOf Rattle.model.specs.Frames.isTick Rattle.model.specs.Frames.typed
-    Rattle.model.specs.Monitors.ordered Rattle.model.specs.Monitors.settingsGood Rattle.model.specs.Monitors.conditionFault Rattle.model.specs.Monitors.faultOf Rattle.model.specs.Monitors.accepts Rattle.model.specs.Monitors.monitorOf Rattle.model.specs.Monitors.matches Rattle.model.specs.Monitors.good Rattle.model.specs.Monitors.strong Rattle.model.specs.Monitors.runOf Rattle.model.specs.Monitors.windowed Rattle.model.specs.Monitors.missing Rattle.model.specs.Monitors.parametersOf Rattle.model.specs.Monitors.parameters Rattle.model.specs.Monitors.options Rattle.model.specs.Monitors.filtering Rattle.model.specs.Monitors.peerType Rattle.model.specs.Monitors.peer Rattle.model.specs.Monitors.irk Rattle.model.specs.Monitors.bit Rattle.model.specs.Monitors.siftsBy Rattle.model.specs.Monitors.sifts Rattle.model.specs.Monitors.noOption Rattle.model.specs.Monitors.noKey Rattle.model.specs.Monitors.twoDevices Rattle.model.specs.Monitors.sampledSifting Rattle.model.specs.Monitors.allowed Rattle.model.specs.Monitors.isSecond Rattle.model.specs.Monitors.typeIn Rattle.model.specs.Monitors.extraOf Rattle.model.specs.Monitors.meetsCondition Rattle.model.specs.Monitors.admits Rattle.model.specs.Monitors.letsThrough Rattle.model.specs.Monitors.allows
-    Rattle.model.specs.Commands.table Rattle.model.specs.Commands.paramsIn Rattle.model.specs.Commands.answerIn Rattle.model.specs.Commands.present Rattle.model.specs.Commands.subOf Rattle.model.specs.Commands.adds Rattle.model.specs.Commands.readStatus Rattle.model.specs.Commands.addStatus Rattle.model.specs.Commands.cancelStatus Rattle.model.specs.Commands.enableStatus Rattle.model.specs.Commands.status Rattle.model.specs.Commands.handleOr Rattle.model.specs.Commands.newHandle Rattle.model.specs.Commands.features Rattle.model.specs.Commands.success Rattle.model.specs.Commands.failure Rattle.model.specs.Commands.returned Rattle.model.specs.Commands.ofOther Rattle.model.specs.Commands.cancelled Rattle.model.specs.Commands.added Rattle.model.specs.Commands.changed Rattle.model.specs.Commands.commanded
-    Rattle.model.specs.Watch.withSilent Rattle.model.specs.Watch.gathered Rattle.model.specs.Watch.withTicks Rattle.model.specs.Watch.emptied Rattle.model.specs.Watch.withLatest Rattle.model.specs.Watch.counts Rattle.model.specs.Watch.refreshed Rattle.model.specs.Watch.windowTakes Rattle.model.specs.Watch.atPacket Rattle.model.specs.Watch.duplicate Rattle.model.specs.Watch.remembered Rattle.model.specs.Watch.packetMove Rattle.model.specs.Watch.isPair Rattle.model.specs.Watch.holds Rattle.model.specs.Watch.begins Rattle.model.specs.Watch.withKept Rattle.model.specs.Watch.smaller Rattle.model.specs.Watch.least Rattle.model.specs.Watch.firstKeeping Rattle.model.specs.Watch.without Rattle.model.specs.Watch.hasRoom Rattle.model.specs.Watch.fits Rattle.model.specs.Watch.goesFor Rattle.model.specs.Watch.staysFor Rattle.model.specs.Watch.stopOf Rattle.model.specs.Watch.turnAnswer Rattle.model.specs.Watch.turnsAnswer Rattle.model.specs.Watch.startPair Rattle.model.specs.Watch.startLike Rattle.model.specs.Watch.startOf Rattle.model.specs.Watch.startsBelow Rattle.model.specs.Watch.turn Rattle.model.specs.Watch.turns Rattle.model.specs.Watch.packetPairs Rattle.model.specs.Watch.startsOf Rattle.model.specs.Watch.wants Rattle.model.specs.Watch.reasonFor Rattle.model.specs.Watch.allowsBy Rattle.model.specs.Watch.startTold Rattle.model.specs.Watch.reported Rattle.model.specs.Watch.packetAnswer Rattle.model.specs.Watch.goesOn Rattle.model.specs.Watch.closes Rattle.model.specs.Watch.windowTick Rattle.model.specs.Watch.atTick Rattle.model.specs.Watch.tickPairs Rattle.model.specs.Watch.windowSays Rattle.model.specs.Watch.tickOctets Rattle.model.specs.Watch.tickAnswer
-    Rattle.model.specs.Watch.keeps
-    Rattle.model.specs.Events.complete Rattle.model.specs.Events.event Rattle.model.specs.Events.startEvent Rattle.model.specs.Events.stopEvent Rattle.model.specs.Events.report Rattle.model.specs.Events.packetReport Rattle.model.specs.Events.windowReport Rattle.model.specs.Events.scanReport Rattle.model.specs.Events.packetReports
-    Rattle.model.specs.Step.stepTyped Rattle.model.specs.Step.answerTyped Rattle.model.specs.Step.refusalTyped Rattle.model.specs.Step.actTyped Rattle.model.specs.Step.act
-    Rattle.model.specs.Sound.octetsUpTo Rattle.model.specs.Sound.soundSettings Rattle.model.specs.Sound.soundMonitor Rattle.model.specs.Sound.soundExtra Rattle.model.specs.Sound.soundMonitors Rattle.model.specs.Sound.soundWindow Rattle.model.specs.Sound.soundEmpty Rattle.model.specs.Sound.soundLatest Rattle.model.specs.Sound.soundFields Rattle.model.specs.Sound.soundOf Rattle.model.specs.Sound.soundPair Rattle.model.specs.Sound.apart Rattle.model.specs.Sound.soundModel
-    Rattle.model.specs.Image.headRow Rattle.model.specs.Image.monitorRow Rattle.model.specs.Image.extraText Rattle.model.specs.Image.nameOf Rattle.model.specs.Image.monitorText Rattle.model.specs.Image.pairRow Rattle.model.specs.Image.endRow Rattle.model.specs.Image.records Rattle.model.specs.Image.imageText Rattle.model.specs.Image.monitorIn Rattle.model.specs.Image.extraIn Rattle.model.specs.Image.monitorFrom Rattle.model.specs.Image.monitorOn Rattle.model.specs.Image.pairIn Rattle.model.specs.Image.named Rattle.model.specs.Image.rowsNamed Rattle.model.specs.Image.isMonitor Rattle.model.specs.Image.monitorsOn Rattle.model.specs.Image.firstOf Rattle.model.specs.Image.modelIn Rattle.model.specs.Image.heldIn Rattle.model.specs.Image.isImage Rattle.model.specs.Image.readImage
-    Rattle.laws.specs.Rows.rows Rattle.laws.specs.Tests.pick Rattle.laws.specs.Tests.sames
-    Rattle.laws.specs.Loops.part Rattle.laws.specs.Loops.every Rattle.laws.specs.Loops.some Rattle.laws.specs.Loops.only Rattle.laws.specs.Loops.keep Rattle.laws.specs.Loops.when Rattle.laws.specs.Loops.each Rattle.laws.specs.Loops.upTo
-    Rattle.octets.specs.Little.little Rattle.octets.specs.Little.octetsOf Rattle.octets.specs.Little.value
-    Rattle.lines.specs.Hex.digit Rattle.lines.specs.Hex.isHex Rattle.lines.specs.Hex.nib Rattle.lines.specs.Hex.hexOf Rattle.lines.specs.Hex.textOf Rattle.lines.specs.Hex.isText Rattle.lines.specs.Hex.octetsIn Rattle.lines.specs.Hex.notLf
-    Rattle.lines.specs.Frame.isForm Rattle.lines.specs.Frame.isFrame Rattle.lines.specs.Frame.isLine
-    Rattle.advert.specs.Parts.partsFrom Rattle.advert.specs.Parts.parts
-    Rattle.advert.specs.Sections.sections Rattle.advert.specs.Sections.isType Rattle.advert.specs.Sections.contentsOf Rattle.advert.specs.Sections.contents Rattle.advert.specs.Either.both
-    Rattle.advert.specs.Pattern.holdsAt Rattle.advert.specs.Pattern.patterns Rattle.advert.specs.Pattern.extent Rattle.advert.specs.Pattern.fills Rattle.advert.specs.Pattern.patternsForm Rattle.advert.specs.Pattern.patternMeets Rattle.advert.specs.Pattern.patternsMeet
-    Rattle.advert.specs.Uuid.uuids Rattle.advert.specs.Uuid.listed Rattle.advert.specs.Uuid.uuidSize Rattle.advert.specs.Uuid.uuidForm Rattle.advert.specs.Uuid.uuidMeets
-    Rattle.advert.specs.Address.addressForm Rattle.advert.specs.Address.addressMeets Rattle.advert.specs.Irk.irkForm Rattle.advert.specs.Irk.irkMeets
-    key address addressLater addressOff top00 top10 top11
-    Rattle.resolve.specs.Resolve.bigOctets Rattle.resolve.specs.Resolve.bigValue Rattle.resolve.specs.Resolve.e Rattle.resolve.specs.Resolve.ah Rattle.resolve.specs.Resolve.keyOf Rattle.resolve.specs.Resolve.hashOf Rattle.resolve.specs.Resolve.prandOf Rattle.resolve.specs.Resolve.resolvable Rattle.resolve.specs.Resolve.resolvesBy
-    Rattle.fips197.specs.Field._⊕_ Rattle.fips197.specs.Field.xtimes Rattle.fips197.specs.Field.products Rattle.fips197.specs.Field._•_ Rattle.fips197.specs.Field.squares Rattle.fips197.specs.Field.inverse Rattle.fips197.specs.Field.bit Rattle.fips197.specs.Field.affineBit Rattle.fips197.specs.Field.affine Rattle.fips197.specs.Field.substitute
-    Rattle.fips197.specs.Words.word Rattle.fips197.specs.Words.sums Rattle.fips197.specs.Words.turn
-    Rattle.fips197.specs.Cipher.cell Rattle.fips197.specs.Cipher.column Rattle.fips197.specs.Cipher.columns Rattle.fips197.specs.Cipher.state Rattle.fips197.specs.Cipher.subBytes Rattle.fips197.specs.Cipher.shiftRows Rattle.fips197.specs.Cipher.mixColumn Rattle.fips197.specs.Cipher.mixColumns Rattle.fips197.specs.Cipher.addRoundKey Rattle.fips197.specs.Cipher.rotWord Rattle.fips197.specs.Cipher.subWord Rattle.fips197.specs.Cipher.powerOfX Rattle.fips197.specs.Cipher.rcon Rattle.fips197.specs.Cipher.temp Rattle.fips197.specs.Cipher.nextWords Rattle.fips197.specs.Cipher.keyExpansion Rattle.fips197.specs.Cipher.roundKey Rattle.fips197.specs.Cipher.rounds Rattle.fips197.specs.Cipher.cipher
-    Rattle.advert.specs.Condition.wellFormed Rattle.advert.specs.Condition.formOf Rattle.advert.specs.Condition.formStatus Rattle.advert.specs.Condition.meets
-    Rattle.sessions.specs.Session.refuseIf Rattle.sessions.specs.Session.stateAfter Rattle.sessions.specs.Session.judge Rattle.sessions.specs.Session.answer
-    Rattle.sessions.specs.Machine.lastNumber
-    Rattle.sessions.specs.Saved.cutFrom Rattle.sessions.specs.Saved.cut Rattle.sessions.specs.Saved.withAnswer Rattle.sessions.specs.Saved.resume Rattle.sessions.specs.Saved.replayLines Rattle.sessions.specs.Saved.replay
+unfolding t03not addKey from key address addressLater addressOff top00 top10 top11
+    Rattle.resolve.specs.Computed.computed Rattle.model.specs.Computed.computed
 not-holds = refl
 
 second-holds : right models fresh t13key ≡ true
-unfolding t13key fromData reportData startOf addSecond second ofAa aa bb
-    Rattle.model.specs.Rows.replyOf Rattle.model.specs.Rows.same Rattle.model.specs.Rows.imaged Rattle.model.specs.Rows.answered Rattle.model.specs.Rows.reached Rattle.model.specs.Rows.right Rattle.model.specs.Rows.cmd Rattle.model.specs.Rows.pkt Rattle.model.specs.Rows.adv Rattle.model.specs.Rows.tck Rattle.model.specs.Rows.tcks Rattle.model.specs.Rows.quiet Rattle.model.specs.Rows.addWatch Rattle.model.specs.Rows.added0 Rattle.model.specs.Rows.start0 Rattle.model.specs.Rows.stop0 Rattle.model.specs.Rows.report60 Rattle.model.specs.Rows.session Rattle.model.specs.Rows.on Rattle.model.specs.Rows.onAnswer Rattle.model.specs.Rows.addSampled Rattle.model.specs.Rows.invalid03 Rattle.model.specs.Rows.added1 Rattle.model.specs.Rows.added2
-    Rattle.model.specs.Types.ticksOf Rattle.model.specs.Types.device Rattle.model.specs.Types.deviceOf Rattle.model.specs.Types.watched Rattle.model.specs.Types.withLists Rattle.model.specs.Types.withFilter Rattle.model.specs.Types.moved Rattle.model.specs.Types.fresh Rattle.model.specs.Types.blank Rattle.model.specs.Types.scanText
-    Rattle.model.specs.Level.level Rattle.model.specs.Level.dBm Rattle.model.specs.Level.raised Rattle.model.specs.Level.signed Rattle.model.specs.Level.wrapped Rattle.model.specs.Level.floorOf Rattle.model.specs.Level.inRange Rattle.model.specs.Level.sumInRange Rattle.model.specs.Level.addRssi Rattle.model.specs.Level.mean
-    Rattle.model.specs.Frames.frameOf Rattle.model.specs.Frames.rawOf Rattle.model.specs.Frames.readRaw Rattle.model.specs.Frames.read Rattle.model.specs.Frames.write Rattle.model.specs.Frames.isCommand Rattle.model.specs.Frames.isPacket Rattle.model.specs.Frames.isScanned Rattle.model.specs.Frames.scanOf Rattle.model.specs.Frames.packetOf Rattle.model.specs.Frames.isTick Rattle.model.specs.Frames.typed
-    Rattle.model.specs.Monitors.ordered Rattle.model.specs.Monitors.settingsGood Rattle.model.specs.Monitors.conditionFault Rattle.model.specs.Monitors.faultOf Rattle.model.specs.Monitors.accepts Rattle.model.specs.Monitors.monitorOf Rattle.model.specs.Monitors.matches Rattle.model.specs.Monitors.good Rattle.model.specs.Monitors.strong Rattle.model.specs.Monitors.runOf Rattle.model.specs.Monitors.windowed Rattle.model.specs.Monitors.missing Rattle.model.specs.Monitors.parametersOf Rattle.model.specs.Monitors.parameters Rattle.model.specs.Monitors.options Rattle.model.specs.Monitors.filtering Rattle.model.specs.Monitors.peerType Rattle.model.specs.Monitors.peer Rattle.model.specs.Monitors.irk Rattle.model.specs.Monitors.bit Rattle.model.specs.Monitors.siftsBy Rattle.model.specs.Monitors.sifts Rattle.model.specs.Monitors.noOption Rattle.model.specs.Monitors.noKey Rattle.model.specs.Monitors.twoDevices Rattle.model.specs.Monitors.sampledSifting Rattle.model.specs.Monitors.allowed Rattle.model.specs.Monitors.isSecond Rattle.model.specs.Monitors.typeIn Rattle.model.specs.Monitors.extraOf Rattle.model.specs.Monitors.meetsCondition Rattle.model.specs.Monitors.admits Rattle.model.specs.Monitors.letsThrough Rattle.model.specs.Monitors.allows
-    Rattle.model.specs.Commands.table Rattle.model.specs.Commands.paramsIn Rattle.model.specs.Commands.answerIn Rattle.model.specs.Commands.present Rattle.model.specs.Commands.subOf Rattle.model.specs.Commands.adds Rattle.model.specs.Commands.readStatus Rattle.model.specs.Commands.addStatus Rattle.model.specs.Commands.cancelStatus Rattle.model.specs.Commands.enableStatus Rattle.model.specs.Commands.status Rattle.model.specs.Commands.handleOr Rattle.model.specs.Commands.newHandle Rattle.model.specs.Commands.features Rattle.model.specs.Commands.success Rattle.model.specs.Commands.failure Rattle.model.specs.Commands.returned Rattle.model.specs.Commands.ofOther Rattle.model.specs.Commands.cancelled Rattle.model.specs.Commands.added Rattle.model.specs.Commands.changed Rattle.model.specs.Commands.commanded
-    Rattle.model.specs.Watch.withSilent Rattle.model.specs.Watch.gathered Rattle.model.specs.Watch.withTicks Rattle.model.specs.Watch.emptied Rattle.model.specs.Watch.withLatest Rattle.model.specs.Watch.counts Rattle.model.specs.Watch.refreshed Rattle.model.specs.Watch.windowTakes Rattle.model.specs.Watch.atPacket Rattle.model.specs.Watch.duplicate Rattle.model.specs.Watch.remembered Rattle.model.specs.Watch.packetMove Rattle.model.specs.Watch.isPair Rattle.model.specs.Watch.holds Rattle.model.specs.Watch.begins Rattle.model.specs.Watch.withKept Rattle.model.specs.Watch.smaller Rattle.model.specs.Watch.least Rattle.model.specs.Watch.firstKeeping Rattle.model.specs.Watch.without Rattle.model.specs.Watch.hasRoom Rattle.model.specs.Watch.fits Rattle.model.specs.Watch.goesFor Rattle.model.specs.Watch.staysFor Rattle.model.specs.Watch.stopOf Rattle.model.specs.Watch.turnAnswer Rattle.model.specs.Watch.turnsAnswer Rattle.model.specs.Watch.startPair Rattle.model.specs.Watch.startLike Rattle.model.specs.Watch.startOf Rattle.model.specs.Watch.startsBelow Rattle.model.specs.Watch.turn Rattle.model.specs.Watch.turns Rattle.model.specs.Watch.packetPairs Rattle.model.specs.Watch.startsOf Rattle.model.specs.Watch.wants Rattle.model.specs.Watch.reasonFor Rattle.model.specs.Watch.allowsBy Rattle.model.specs.Watch.startTold Rattle.model.specs.Watch.reported Rattle.model.specs.Watch.packetAnswer Rattle.model.specs.Watch.goesOn Rattle.model.specs.Watch.closes Rattle.model.specs.Watch.windowTick Rattle.model.specs.Watch.atTick Rattle.model.specs.Watch.tickPairs Rattle.model.specs.Watch.windowSays Rattle.model.specs.Watch.tickOctets Rattle.model.specs.Watch.tickAnswer Rattle.model.specs.Watch.keeps
-    Rattle.model.specs.Events.complete Rattle.model.specs.Events.event Rattle.model.specs.Events.startEvent Rattle.model.specs.Events.stopEvent Rattle.model.specs.Events.report Rattle.model.specs.Events.packetReport Rattle.model.specs.Events.windowReport Rattle.model.specs.Events.scanReport Rattle.model.specs.Events.packetReports
-    Rattle.model.specs.Step.stepTyped Rattle.model.specs.Step.answerTyped Rattle.model.specs.Step.refusalTyped Rattle.model.specs.Step.actTyped Rattle.model.specs.Step.act
-    Rattle.model.specs.Sound.octetsUpTo Rattle.model.specs.Sound.soundSettings Rattle.model.specs.Sound.soundMonitor Rattle.model.specs.Sound.soundExtra Rattle.model.specs.Sound.soundMonitors Rattle.model.specs.Sound.soundWindow Rattle.model.specs.Sound.soundEmpty Rattle.model.specs.Sound.soundLatest Rattle.model.specs.Sound.soundFields Rattle.model.specs.Sound.soundOf Rattle.model.specs.Sound.soundPair Rattle.model.specs.Sound.apart Rattle.model.specs.Sound.soundModel
-    Rattle.model.specs.Image.headRow Rattle.model.specs.Image.monitorRow Rattle.model.specs.Image.extraText Rattle.model.specs.Image.nameOf Rattle.model.specs.Image.monitorText Rattle.model.specs.Image.pairRow Rattle.model.specs.Image.endRow Rattle.model.specs.Image.records Rattle.model.specs.Image.imageText Rattle.model.specs.Image.monitorIn Rattle.model.specs.Image.extraIn Rattle.model.specs.Image.monitorFrom Rattle.model.specs.Image.monitorOn Rattle.model.specs.Image.pairIn Rattle.model.specs.Image.named Rattle.model.specs.Image.rowsNamed Rattle.model.specs.Image.isMonitor Rattle.model.specs.Image.monitorsOn Rattle.model.specs.Image.firstOf Rattle.model.specs.Image.modelIn Rattle.model.specs.Image.heldIn Rattle.model.specs.Image.isImage Rattle.model.specs.Image.readImage
-    Rattle.laws.specs.Rows.rows Rattle.laws.specs.Tests.pick Rattle.laws.specs.Tests.sames
-    Rattle.laws.specs.Loops.part Rattle.laws.specs.Loops.every Rattle.laws.specs.Loops.some Rattle.laws.specs.Loops.only Rattle.laws.specs.Loops.keep Rattle.laws.specs.Loops.when Rattle.laws.specs.Loops.each Rattle.laws.specs.Loops.upTo
-    Rattle.octets.specs.Little.little Rattle.octets.specs.Little.octetsOf Rattle.octets.specs.Little.value
-    Rattle.lines.specs.Hex.digit Rattle.lines.specs.Hex.isHex Rattle.lines.specs.Hex.nib Rattle.lines.specs.Hex.hexOf Rattle.lines.specs.Hex.textOf Rattle.lines.specs.Hex.isText Rattle.lines.specs.Hex.octetsIn Rattle.lines.specs.Hex.notLf
-    Rattle.lines.specs.Frame.isForm Rattle.lines.specs.Frame.isFrame Rattle.lines.specs.Frame.isLine
-    Rattle.advert.specs.Parts.partsFrom Rattle.advert.specs.Parts.parts
-    Rattle.advert.specs.Sections.sections Rattle.advert.specs.Sections.isType Rattle.advert.specs.Sections.contentsOf Rattle.advert.specs.Sections.contents Rattle.advert.specs.Either.both
-    Rattle.advert.specs.Pattern.holdsAt Rattle.advert.specs.Pattern.patterns Rattle.advert.specs.Pattern.extent Rattle.advert.specs.Pattern.fills Rattle.advert.specs.Pattern.patternsForm Rattle.advert.specs.Pattern.patternMeets Rattle.advert.specs.Pattern.patternsMeet
-    Rattle.advert.specs.Uuid.uuids Rattle.advert.specs.Uuid.listed Rattle.advert.specs.Uuid.uuidSize Rattle.advert.specs.Uuid.uuidForm Rattle.advert.specs.Uuid.uuidMeets
-    Rattle.advert.specs.Address.addressForm Rattle.advert.specs.Address.addressMeets Rattle.advert.specs.Irk.irkForm Rattle.advert.specs.Irk.irkMeets
-    key address addressLater addressOff top00 top10 top11
-    Rattle.resolve.specs.Resolve.bigOctets Rattle.resolve.specs.Resolve.bigValue Rattle.resolve.specs.Resolve.e Rattle.resolve.specs.Resolve.ah Rattle.resolve.specs.Resolve.keyOf Rattle.resolve.specs.Resolve.hashOf Rattle.resolve.specs.Resolve.prandOf Rattle.resolve.specs.Resolve.resolvable Rattle.resolve.specs.Resolve.resolvesBy
-    Rattle.fips197.specs.Field._⊕_ Rattle.fips197.specs.Field.xtimes Rattle.fips197.specs.Field.products Rattle.fips197.specs.Field._•_ Rattle.fips197.specs.Field.squares Rattle.fips197.specs.Field.inverse Rattle.fips197.specs.Field.bit Rattle.fips197.specs.Field.affineBit Rattle.fips197.specs.Field.affine Rattle.fips197.specs.Field.substitute
-    Rattle.fips197.specs.Words.word Rattle.fips197.specs.Words.sums Rattle.fips197.specs.Words.turn
-    Rattle.fips197.specs.Cipher.cell Rattle.fips197.specs.Cipher.column Rattle.fips197.specs.Cipher.columns Rattle.fips197.specs.Cipher.state Rattle.fips197.specs.Cipher.subBytes Rattle.fips197.specs.Cipher.shiftRows Rattle.fips197.specs.Cipher.mixColumn Rattle.fips197.specs.Cipher.mixColumns Rattle.fips197.specs.Cipher.addRoundKey Rattle.fips197.specs.Cipher.rotWord Rattle.fips197.specs.Cipher.subWord Rattle.fips197.specs.Cipher.powerOfX Rattle.fips197.specs.Cipher.rcon Rattle.fips197.specs.Cipher.temp Rattle.fips197.specs.Cipher.nextWords Rattle.fips197.specs.Cipher.keyExpansion Rattle.fips197.specs.Cipher.roundKey Rattle.fips197.specs.Cipher.rounds Rattle.fips197.specs.Cipher.cipher
-    Rattle.advert.specs.Condition.wellFormed Rattle.advert.specs.Condition.formOf Rattle.advert.specs.Condition.formStatus Rattle.advert.specs.Condition.meets
-    Rattle.sessions.specs.Session.refuseIf Rattle.sessions.specs.Session.stateAfter Rattle.sessions.specs.Session.judge Rattle.sessions.specs.Session.answer
-    Rattle.sessions.specs.Machine.lastNumber
-    Rattle.sessions.specs.Saved.cutFrom Rattle.sessions.specs.Saved.cut Rattle.sessions.specs.Saved.withAnswer Rattle.sessions.specs.Saved.resume Rattle.sessions.specs.Saved.replayLines Rattle.sessions.specs.Saved.replay
+unfolding t13key fromData reportData startOf addSecond second ofAa aa bb key address addressLater addressOff top00
+    top10 top11 Rattle.resolve.specs.Computed.computed Rattle.model.specs.Computed.computed
 second-holds = refl
 
 image-shown : imaged (t03image .image) (models .encode watching) ≡ true

@@ -22,4 +22,5 @@ pub mod Lengths
 pub mod Rows
 pub mod Requests
 pub mod Second
+pub mod Computed
 pub mod Edges

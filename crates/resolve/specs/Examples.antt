@@ -3,77 +3,25 @@ use Prim.Native.Nat.{ℕ}
 use mathlib.Core.Bool.{true, false}
 use mathlib.Core.List.{List, [], _∷_}
 use mathlib.Core.Path.{_≡_, refl}
-use Rattle.laws.specs.Tests.{pick}
-use Rattle.octets.specs.Little.{little, octetsOf, value}
-use Rattle.fips197.specs.Field.{
-  _⊕_,
-  xtimes,
-  products,
-  _•_,
-  squares,
-  inverse,
-  bit,
-  affineBit,
-  affine,
-  substitute,
-}
-use Rattle.fips197.specs.Words.{word, sums, turn}
-use Rattle.fips197.specs.Cipher.{
-  cell,
-  column,
-  columns,
-  state,
-  subBytes,
-  shiftRows,
-  mixColumn,
-  mixColumns,
-  addRoundKey,
-  rotWord,
-  subWord,
-  powerOfX,
-  rcon,
-  temp,
-  nextWords,
-  keyExpansion,
-  roundKey,
-  rounds,
-  cipher,
-}
-use Rattle.resolve.specs.Resolve.{
-  bigOctets,
-  bigValue,
-  e,
-  ah,
-  keyOf,
-  hashOf,
-  prandOf,
-  resolvable,
-  resolvesBy,
-}
+use Rattle.octets.specs.Little.{little}
+use Rattle.resolve.specs.Resolve.{ah, keyOf, hashOf, prandOf, resolvable, resolvesBy}
+use Rattle.resolve.specs.Computed.{computed}
 
 pub sample : ah 0xec0234a357c8ad05341010a60a397d9b 0x708194 ≡ 0x0dfbaa
-unfolding ah e bigOctets bigValue octetsOf value _⊕_ xtimes products _•_ squares inverse bit affineBit affine
-    substitute word sums turn pick cell column columns state subBytes shiftRows mixColumn mixColumns addRoundKey rotWord
-    subWord powerOfX rcon temp nextWords keyExpansion roundKey rounds cipher
+unfolding computed
 sample = refl
 
 -- another prand, the key with its least bit changed, the key in the other octet order: by OpenSSL (crates/aes_run/vectors.py has the command)
 another : ah 0xec0234a357c8ad05341010a60a397d9b 0x5a31c7 ≡ 0x79cdd6
-unfolding ah e bigOctets bigValue octetsOf value _⊕_ xtimes products _•_ squares inverse bit affineBit affine
-    substitute word sums turn pick cell column columns state subBytes shiftRows mixColumn mixColumns addRoundKey rotWord
-    subWord powerOfX rcon temp nextWords keyExpansion roundKey rounds cipher
+unfolding computed
 another = refl
 
 bit-changed : ah 0xec0234a357c8ad05341010a60a397d9a 0x708194 ≡ 0x04a514
-unfolding ah e bigOctets bigValue octetsOf value _⊕_ xtimes products _•_ squares inverse bit affineBit affine
-    substitute word sums turn pick cell column columns state subBytes shiftRows mixColumn mixColumns addRoundKey rotWord
-    subWord powerOfX rcon temp nextWords keyExpansion roundKey rounds cipher
+unfolding computed
 bit-changed = refl
 
 turned-round : ah 0x9b7d390aa610103405adc857a33402ec 0x708194 ≡ 0xa0cd8f
-unfolding ah e bigOctets bigValue octetsOf value _⊕_ xtimes products _•_ squares inverse bit affineBit affine
-    substitute word sums turn pick cell column columns state subBytes shiftRows mixColumn mixColumns addRoundKey rotWord
-    subWord powerOfX rcon temp nextWords keyExpansion roundKey rounds cipher
+unfolding computed
 turned-round = refl
 
 -- keys as a condition has them, the least octet first: the sample's, that with its least bit changed, that in the other order

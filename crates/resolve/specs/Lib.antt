@@ -2,4 +2,5 @@
 -- sample.
 pub mod Resolve
 pub mod Laws
+pub mod Computed
 pub mod Examples

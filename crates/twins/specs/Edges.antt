@@ -55,64 +55,41 @@ givens =
     ∷ record { state = record { opcode = 0xFC1E; editions = []; frames = [] }; lent = answerRoom; frame = tck 1; reply = refusal 7 } ∷ []
 
 pub limits : every rightly givens ≡ true
-unfolding Rattle.model.specs.Types.ticksOf Rattle.model.specs.Types.device Rattle.model.specs.Types.deviceOf Rattle.model.specs.Types.watched
-    Rattle.model.specs.Types.scanText Rattle.model.specs.Types.withLists Rattle.model.specs.Types.withFilter Rattle.model.specs.Types.moved
-    Rattle.model.specs.Types.fresh Rattle.model.specs.Types.blank Rattle.model.specs.Frames.frameOf Rattle.model.specs.Frames.rawOf
-    Rattle.model.specs.Frames.readRaw Rattle.model.specs.Frames.read Rattle.model.specs.Frames.write Rattle.model.specs.Frames.isCommand
-    Rattle.model.specs.Frames.isPacket Rattle.model.specs.Frames.isScanned Rattle.model.specs.Frames.hasPacket Rattle.model.specs.Frames.scanOf
-    Rattle.model.specs.Frames.packetOf Rattle.model.specs.Frames.isTick Rattle.model.specs.Frames.typed Rattle.model.specs.Rows.replyOf
-    Rattle.model.specs.Rows.same Rattle.model.specs.Rows.imaged Rattle.model.specs.Rows.answered Rattle.model.specs.Rows.reached
-    Rattle.model.specs.Rows.right Rattle.model.specs.Rows.allRight Rattle.model.specs.Rows.cmd Rattle.model.specs.Rows.pkt Rattle.model.specs.Rows.adv
-    Rattle.model.specs.Rows.tck Rattle.model.specs.Rows.tcks Rattle.model.specs.Rows.quiet Rattle.model.specs.Rows.addWatch
-    Rattle.model.specs.Rows.added0 Rattle.model.specs.Rows.start0 Rattle.model.specs.Rows.stop0 Rattle.model.specs.Rows.report60
-    Rattle.model.specs.Rows.session Rattle.model.specs.Rows.on Rattle.model.specs.Rows.onAnswer Rattle.model.specs.Rows.addSampled
-    Rattle.model.specs.Rows.invalid03 Rattle.model.specs.Rows.added1 Rattle.model.specs.Rows.added2 Rattle.model.specs.Level.level
-    Rattle.model.specs.Level.dBm Rattle.model.specs.Level.raised Rattle.model.specs.Level.signed Rattle.model.specs.Level.wrapped
-    Rattle.model.specs.Level.floorOf Rattle.model.specs.Level.inRange Rattle.model.specs.Level.addRssi Rattle.model.specs.Level.mean
-    Rattle.model.specs.Commands.table Rattle.model.specs.Commands.paramsIn Rattle.model.specs.Commands.answerIn Rattle.model.specs.Commands.present
-    Rattle.model.specs.Commands.subOf Rattle.model.specs.Commands.readStatus Rattle.model.specs.Commands.adds Rattle.model.specs.Commands.addStatus
-    Rattle.model.specs.Commands.cancelStatus Rattle.model.specs.Commands.enableStatus Rattle.model.specs.Commands.status
-    Rattle.model.specs.Commands.handleOr Rattle.model.specs.Commands.newHandle Rattle.model.specs.Commands.features Rattle.model.specs.Commands.success
-    Rattle.model.specs.Commands.failure Rattle.model.specs.Commands.returned Rattle.model.specs.Commands.ofOther Rattle.model.specs.Commands.cancelled
-    Rattle.model.specs.Commands.added Rattle.model.specs.Commands.changed Rattle.model.specs.Commands.commanded Rattle.model.specs.Sound.octetsUpTo
-    Rattle.model.specs.Sound.soundSettings Rattle.model.specs.Sound.soundExtra Rattle.model.specs.Sound.soundMonitor
-    Rattle.model.specs.Sound.soundMonitors Rattle.model.specs.Sound.soundWindow Rattle.model.specs.Sound.soundLatest
-    Rattle.model.specs.Sound.soundEmpty Rattle.model.specs.Sound.soundFields Rattle.model.specs.Sound.soundOf Rattle.model.specs.Sound.soundPair
-    Rattle.model.specs.Sound.apart Rattle.model.specs.Sound.soundModel Rattle.pasts.specs.Pair.count Rattle.pasts.specs.Pair.ticksIn
-    Rattle.pasts.specs.Pair.heardAt Rattle.pasts.specs.Pair.heard Rattle.pasts.specs.Pair.silentIn Rattle.pasts.specs.Pair.unbroken
-    Rattle.pasts.specs.Pair.cancels Rattle.pasts.specs.Pair.stretch Rattle.pasts.specs.Pair.windowTicks Rattle.pasts.specs.Pair.window
-    Rattle.pasts.specs.Pair.sumOf Rattle.pasts.specs.Pair.newestOr Rattle.pasts.specs.Pair.keptIn Rattle.pasts.specs.Pair.alike
-    Rattle.pasts.specs.Pair.lastReason Rattle.pasts.specs.Pair.newest Rattle.pasts.specs.Pair.lastOf Rattle.pasts.specs.Pair.eventOr
-    Rattle.pasts.specs.Pair.advOf Rattle.pasts.specs.Pair.pairOf Rattle.pasts.specs.Past.enables Rattle.pasts.specs.Past.enableIn
-    Rattle.pasts.specs.Past.filterAfter Rattle.pasts.specs.Past.offers Rattle.pasts.specs.Past.lowestFree Rattle.pasts.specs.Past.isAt
-    Rattle.pasts.specs.Past.offered Rattle.pasts.specs.Past.monitorAfter Rattle.pasts.specs.Past.named Rattle.pasts.specs.Past.listed
-    Rattle.pasts.specs.Past.monitorsAfter Rattle.pasts.specs.Past.since Rattle.pasts.specs.Past.sinceStart Rattle.pasts.specs.Past.sameStart
-    Rattle.pasts.specs.Past.among Rattle.pasts.specs.Past.stands Rattle.pasts.specs.Past.watchBy Rattle.pasts.specs.Past.weaker
-    Rattle.pasts.specs.Past.weakest Rattle.pasts.specs.Past.keptNow Rattle.pasts.specs.Past.isOf Rattle.pasts.specs.Past.roomIn
-    Rattle.pasts.specs.Past.above Rattle.pasts.specs.Past.isStart Rattle.pasts.specs.Past.startOf Rattle.pasts.specs.Past.goesFor
-    Rattle.pasts.specs.Past.staysBut Rattle.pasts.specs.Past.turnBy Rattle.pasts.specs.Past.turnsBy Rattle.pasts.specs.Past.deedsAt
-    Rattle.pasts.specs.Past.deeds Rattle.pasts.specs.Past.watch Rattle.pasts.specs.Past.pairAfter Rattle.pasts.specs.Past.stateAfter
-    Rattle.pasts.specs.Says.turnSays Rattle.pasts.specs.Says.turnsSay Rattle.pasts.specs.Says.reasonBy Rattle.pasts.specs.Says.tellsStart
-    Rattle.pasts.specs.Says.isReported Rattle.pasts.specs.Says.packetSays Rattle.pasts.specs.Says.ends Rattle.pasts.specs.Says.closes
-    Rattle.pasts.specs.Says.hasTold Rattle.pasts.specs.Says.tellsWindow Rattle.pasts.specs.Says.tickSaysOf Rattle.pasts.specs.Says.tickSays
-    Rattle.pasts.specs.Says.says Rattle.laws.specs.Loops.part Rattle.laws.specs.Loops.every Rattle.laws.specs.Loops.some Rattle.laws.specs.Loops.only
-    Rattle.laws.specs.Loops.keep Rattle.laws.specs.Loops.when Rattle.laws.specs.Loops.each Rattle.laws.specs.Loops.upTo Rattle.laws.specs.Tests.pick
-    Rattle.laws.specs.Tests.sames Rattle.octets.specs.Little.little Rattle.octets.specs.Little.octetsOf Rattle.octets.specs.Little.value
-    Rattle.lines.specs.Frame.isForm Rattle.lines.specs.Frame.isFrame Rattle.lines.specs.Frame.isLine Rattle.sessions.specs.Session.refuseIf
-    Rattle.sessions.specs.Session.stateAfter Rattle.sessions.specs.Session.written Rattle.sessions.specs.Session.entries
-    Rattle.sessions.specs.Session.judge Rattle.sessions.specs.Session.answer Rattle.sessions.specs.Session.image Rattle.sessions.specs.Session.reply
-    Rattle.sessions.specs.Session.after Rattle.sessions.specs.Session.ran Rattle.sessions.specs.Session.walk Rattle.sessions.specs.Session.trace
-    Rattle.sessions.specs.Session.executed Rattle.sessions.specs.Session.answers Rattle.sessions.specs.Session.linesOf
-    Rattle.sessions.specs.Session.journal Rattle.sessions.specs.Machine.lastNumber Rattle.editions.specs.Editions.withPrefix
-    Rattle.editions.specs.Editions.inForce Rattle.editions.specs.Editions.prefixFor Rattle.editions.specs.Editions.rising
-    Rattle.editions.specs.Editions.soundEdition Rattle.editions.specs.Editions.soundEditions Rattle.editions.specs.Editions.soundGateway
-    Rattle.editions.specs.Editions.freshOn Rattle.editions.specs.Editions.beside Rattle.editions.specs.Editions.actOn
-    Rattle.editions.specs.Editions.lastFrom Rattle.editions.specs.Editions.addEdition Rattle.editions.specs.Editions.editionRow
-    Rattle.editions.specs.Editions.recordsOn Rattle.editions.specs.Editions.imageOn Rattle.editions.specs.Editions.editionIn
-    Rattle.editions.specs.Editions.isImageOn Rattle.editions.specs.Editions.readOn Rattle.twins.specs.Twin.typedIn
-    Rattle.twins.specs.Twin.pastFrom Rattle.twins.specs.Twin.pastOf Rattle.twins.specs.Twin.refusalBy
-    Rattle.twins.specs.Twin.runs Rattle.twins.specs.Twin.runAll Rattle.twins.specs.Twin.soundTwin
-    Rattle.twins.specs.Twin.gatewayOf Rattle.twins.specs.Twin.keepsOn Rattle.twins.specs.Twin.actTwin
-    Rattle.twins.specs.Twin.withEdition Rattle.twins.specs.Twin.addTwin Rattle.twins.specs.Twin.freshTwin
-    Rattle.twins.specs.Twin.beginTwin ticked rightly other empty givens
+unfolding Rattle.pasts.specs.Pair.count Rattle.pasts.specs.Pair.ticksIn Rattle.pasts.specs.Pair.heardAt
+    Rattle.pasts.specs.Pair.heard Rattle.pasts.specs.Pair.silentIn Rattle.pasts.specs.Pair.unbroken
+    Rattle.pasts.specs.Pair.cancels Rattle.pasts.specs.Pair.stretch Rattle.pasts.specs.Pair.windowTicks
+    Rattle.pasts.specs.Pair.window Rattle.pasts.specs.Pair.sumOf Rattle.pasts.specs.Pair.newestOr
+    Rattle.pasts.specs.Pair.keptIn Rattle.pasts.specs.Pair.alike Rattle.pasts.specs.Pair.lastReason
+    Rattle.pasts.specs.Pair.newest Rattle.pasts.specs.Pair.lastOf Rattle.pasts.specs.Pair.eventOr
+    Rattle.pasts.specs.Pair.advOf Rattle.pasts.specs.Pair.pairOf Rattle.pasts.specs.Past.enables
+    Rattle.pasts.specs.Past.enableIn Rattle.pasts.specs.Past.filterAfter Rattle.pasts.specs.Past.offers
+    Rattle.pasts.specs.Past.lowestFree Rattle.pasts.specs.Past.isAt Rattle.pasts.specs.Past.offered
+    Rattle.pasts.specs.Past.monitorAfter Rattle.pasts.specs.Past.named Rattle.pasts.specs.Past.listed
+    Rattle.pasts.specs.Past.monitorsAfter Rattle.pasts.specs.Past.since Rattle.pasts.specs.Past.sinceStart
+    Rattle.pasts.specs.Past.sameStart Rattle.pasts.specs.Past.among Rattle.pasts.specs.Past.stands
+    Rattle.pasts.specs.Past.watchBy Rattle.pasts.specs.Past.weaker Rattle.pasts.specs.Past.weakest
+    Rattle.pasts.specs.Past.keptNow Rattle.pasts.specs.Past.isOf Rattle.pasts.specs.Past.roomIn
+    Rattle.pasts.specs.Past.above Rattle.pasts.specs.Past.isStart Rattle.pasts.specs.Past.startOf
+    Rattle.pasts.specs.Past.goesFor Rattle.pasts.specs.Past.staysBut Rattle.pasts.specs.Past.turnBy
+    Rattle.pasts.specs.Past.turnsBy Rattle.pasts.specs.Past.deedsAt Rattle.pasts.specs.Past.deeds
+    Rattle.pasts.specs.Past.watch Rattle.pasts.specs.Past.pairAfter Rattle.pasts.specs.Past.stateAfter
+    Rattle.pasts.specs.Says.turnSays Rattle.pasts.specs.Says.turnsSay Rattle.pasts.specs.Says.reasonBy
+    Rattle.pasts.specs.Says.tellsStart Rattle.pasts.specs.Says.isReported Rattle.pasts.specs.Says.packetSays
+    Rattle.pasts.specs.Says.ends Rattle.pasts.specs.Says.closes Rattle.pasts.specs.Says.hasTold
+    Rattle.pasts.specs.Says.tellsWindow Rattle.pasts.specs.Says.tickSaysOf Rattle.pasts.specs.Says.tickSays
+    Rattle.pasts.specs.Says.says Rattle.editions.specs.Editions.withPrefix Rattle.editions.specs.Editions.inForce
+    Rattle.editions.specs.Editions.prefixFor Rattle.editions.specs.Editions.rising
+    Rattle.editions.specs.Editions.soundEdition Rattle.editions.specs.Editions.soundEditions
+    Rattle.editions.specs.Editions.soundGateway Rattle.editions.specs.Editions.freshOn
+    Rattle.editions.specs.Editions.beside Rattle.editions.specs.Editions.actOn Rattle.editions.specs.Editions.lastFrom
+    Rattle.editions.specs.Editions.addEdition Rattle.editions.specs.Editions.editionRow
+    Rattle.editions.specs.Editions.recordsOn Rattle.editions.specs.Editions.imageOn
+    Rattle.editions.specs.Editions.editionIn Rattle.editions.specs.Editions.isImageOn
+    Rattle.editions.specs.Editions.readOn Rattle.twins.specs.Twin.typedIn Rattle.twins.specs.Twin.pastFrom
+    Rattle.twins.specs.Twin.pastOf Rattle.twins.specs.Twin.refusalBy Rattle.twins.specs.Twin.runs
+    Rattle.twins.specs.Twin.runAll Rattle.twins.specs.Twin.soundTwin
+    Rattle.twins.specs.Twin.gatewayOf Rattle.twins.specs.Twin.keepsOn
+    Rattle.twins.specs.Twin.actTwin Rattle.twins.specs.Twin.withEdition
+    Rattle.twins.specs.Twin.addTwin Rattle.twins.specs.Twin.freshTwin
+    Rattle.twins.specs.Twin.beginTwin ticked rightly other empty givens Rattle.model.specs.Computed.computed
 limits = refl

@@ -102,59 +102,6 @@ askings =
     ∷ []
 
 pub askings-hold : every rightly askings ≡ true
-unfolding pairsAfter rightly at row addShort addOf pktOf crossed askings bitOf withHandle noted notedAll indexOf entryRow maskIn handlesFrom handlesOf
-    Rattle.laws.specs.Rows.flat
-    Rattle.model.specs.Rows.replyOf Rattle.model.specs.Rows.same Rattle.model.specs.Rows.imaged Rattle.model.specs.Rows.answered Rattle.model.specs.Rows.reached Rattle.model.specs.Rows.right Rattle.model.specs.Rows.allRight
-    Rattle.model.specs.Rows.cmd Rattle.model.specs.Rows.pkt Rattle.model.specs.Rows.adv Rattle.model.specs.Rows.tck Rattle.model.specs.Rows.tcks Rattle.model.specs.Rows.quiet Rattle.model.specs.Rows.addWatch
-    Rattle.model.specs.Rows.added0 Rattle.model.specs.Rows.start0 Rattle.model.specs.Rows.stop0 Rattle.model.specs.Rows.report60 Rattle.model.specs.Rows.session Rattle.model.specs.Rows.on Rattle.model.specs.Rows.onAnswer
-    Rattle.model.specs.Rows.addSampled Rattle.model.specs.Rows.invalid03 Rattle.model.specs.Rows.added1 Rattle.model.specs.Rows.added2 Rattle.model.specs.Requests.addEqual Rattle.model.specs.Requests.reportAt
-    Rattle.model.specs.Requests.equalAdded Rattle.model.specs.Requests.equalStart Rattle.model.specs.Requests.equalLow Rattle.model.specs.Requests.equalGood Rattle.model.specs.Requests.requests Rattle.model.specs.Requests.scn
-    Rattle.model.specs.Requests.rep Rattle.model.specs.Requests.addFf Rattle.model.specs.Requests.aa Rattle.model.specs.Requests.bb Rattle.model.specs.Requests.t06sizes Rattle.model.specs.Requests.t06events
-    Rattle.model.specs.Requests.t06texts Rattle.model.specs.Requests.t06straddle Rattle.model.specs.Requests.t06off Rattle.model.specs.Requests.t06window Rattle.model.specs.Requests.t06start Rattle.model.specs.Requests.from
-    Rattle.model.specs.Requests.repOf Rattle.model.specs.Requests.evt Rattle.model.specs.Requests.addFor Rattle.model.specs.Requests.addedAt Rattle.model.specs.Requests.evts Rattle.model.specs.Requests.adds
-    Rattle.model.specs.Requests.addsSaid Rattle.model.specs.Requests.crowd Rattle.model.specs.Requests.crowdSaid Rattle.model.specs.Requests.t05full Rattle.model.specs.Requests.t05two Rattle.model.specs.Requests.t05first
-    Rattle.model.specs.Requests.t05kept Rattle.model.specs.Requests.addKey Rattle.model.specs.Requests.t03sizes Rattle.model.specs.Second.addSecond Rattle.model.specs.Second.zeroKey Rattle.model.specs.Second.ofAa
-    Rattle.model.specs.Second.ofDevice Rattle.model.specs.Second.ofKey Rattle.model.specs.Second.addPlain Rattle.model.specs.Second.second Rattle.model.specs.Second.sent Rattle.model.specs.Second.longAa
-    Rattle.model.specs.Types.ticksOf Rattle.model.specs.Types.device Rattle.model.specs.Types.deviceOf Rattle.model.specs.Types.watched Rattle.model.specs.Types.withLists Rattle.model.specs.Types.withFilter
-    Rattle.model.specs.Types.moved Rattle.model.specs.Types.fresh Rattle.model.specs.Types.blank Rattle.model.specs.Types.scanText Rattle.model.specs.Level.level Rattle.model.specs.Level.dBm Rattle.model.specs.Level.raised
-    Rattle.model.specs.Level.signed Rattle.model.specs.Level.wrapped Rattle.model.specs.Level.floorOf Rattle.model.specs.Level.inRange Rattle.model.specs.Level.sumInRange Rattle.model.specs.Level.addRssi
-    Rattle.model.specs.Level.mean Rattle.model.specs.Frames.frameOf Rattle.model.specs.Frames.rawOf Rattle.model.specs.Frames.readRaw Rattle.model.specs.Frames.read Rattle.model.specs.Frames.write
-    Rattle.model.specs.Frames.isCommand Rattle.model.specs.Frames.isPacket Rattle.model.specs.Frames.isScanned Rattle.model.specs.Frames.scanOf Rattle.model.specs.Frames.packetOf Rattle.model.specs.Frames.isTick
-    Rattle.model.specs.Frames.typed Rattle.model.specs.Monitors.ordered Rattle.model.specs.Monitors.settingsGood Rattle.model.specs.Monitors.conditionFault Rattle.model.specs.Monitors.faultOf Rattle.model.specs.Monitors.accepts
-    Rattle.model.specs.Monitors.monitorOf Rattle.model.specs.Monitors.matches Rattle.model.specs.Monitors.good Rattle.model.specs.Monitors.strong Rattle.model.specs.Monitors.runOf Rattle.model.specs.Monitors.windowed
-    Rattle.model.specs.Monitors.missing Rattle.model.specs.Monitors.parametersOf Rattle.model.specs.Monitors.parameters Rattle.model.specs.Monitors.options Rattle.model.specs.Monitors.filtering Rattle.model.specs.Monitors.peerType
-    Rattle.model.specs.Monitors.peer Rattle.model.specs.Monitors.irk Rattle.model.specs.Monitors.bit Rattle.model.specs.Monitors.siftsBy Rattle.model.specs.Monitors.sifts Rattle.model.specs.Monitors.noOption
-    Rattle.model.specs.Monitors.noKey Rattle.model.specs.Monitors.twoDevices Rattle.model.specs.Monitors.sampledSifting Rattle.model.specs.Monitors.allowed Rattle.model.specs.Monitors.isSecond Rattle.model.specs.Monitors.typeIn
-    Rattle.model.specs.Monitors.extraOf Rattle.model.specs.Monitors.meetsCondition Rattle.model.specs.Monitors.admits Rattle.model.specs.Monitors.letsThrough Rattle.model.specs.Monitors.allows Rattle.model.specs.Commands.table
-    Rattle.model.specs.Commands.paramsIn Rattle.model.specs.Commands.answerIn Rattle.model.specs.Commands.present Rattle.model.specs.Commands.subOf Rattle.model.specs.Commands.adds Rattle.model.specs.Commands.readStatus
-    Rattle.model.specs.Commands.addStatus Rattle.model.specs.Commands.cancelStatus Rattle.model.specs.Commands.enableStatus Rattle.model.specs.Commands.status Rattle.model.specs.Commands.handleOr
-    Rattle.model.specs.Commands.newHandle Rattle.model.specs.Commands.features Rattle.model.specs.Commands.success Rattle.model.specs.Commands.failure Rattle.model.specs.Commands.returned Rattle.model.specs.Commands.ofOther
-    Rattle.model.specs.Commands.cancelled Rattle.model.specs.Commands.added Rattle.model.specs.Commands.changed Rattle.model.specs.Commands.commanded Rattle.model.specs.Watch.withSilent Rattle.model.specs.Watch.gathered
-    Rattle.model.specs.Watch.withTicks Rattle.model.specs.Watch.emptied Rattle.model.specs.Watch.withLatest Rattle.model.specs.Watch.counts Rattle.model.specs.Watch.refreshed Rattle.model.specs.Watch.windowTakes
-    Rattle.model.specs.Watch.atPacket Rattle.model.specs.Watch.duplicate Rattle.model.specs.Watch.remembered Rattle.model.specs.Watch.packetMove Rattle.model.specs.Watch.isPair Rattle.model.specs.Watch.holds
-    Rattle.model.specs.Watch.begins Rattle.model.specs.Watch.withKept Rattle.model.specs.Watch.smaller Rattle.model.specs.Watch.least Rattle.model.specs.Watch.firstKeeping Rattle.model.specs.Watch.without
-    Rattle.model.specs.Watch.hasRoom Rattle.model.specs.Watch.fits Rattle.model.specs.Watch.goesFor Rattle.model.specs.Watch.staysFor Rattle.model.specs.Watch.stopOf Rattle.model.specs.Watch.turnAnswer
-    Rattle.model.specs.Watch.turnsAnswer Rattle.model.specs.Watch.startPair Rattle.model.specs.Watch.startLike Rattle.model.specs.Watch.startOf Rattle.model.specs.Watch.startsBelow Rattle.model.specs.Watch.turn
-    Rattle.model.specs.Watch.turns Rattle.model.specs.Watch.packetPairs Rattle.model.specs.Watch.startsOf Rattle.model.specs.Watch.wants Rattle.model.specs.Watch.reasonFor Rattle.model.specs.Watch.allowsBy
-    Rattle.model.specs.Watch.startTold Rattle.model.specs.Watch.reported Rattle.model.specs.Watch.packetAnswer Rattle.model.specs.Watch.goesOn Rattle.model.specs.Watch.closes Rattle.model.specs.Watch.windowTick
-    Rattle.model.specs.Watch.atTick Rattle.model.specs.Watch.tickPairs Rattle.model.specs.Watch.windowSays Rattle.model.specs.Watch.tickOctets Rattle.model.specs.Watch.tickAnswer Rattle.model.specs.Watch.keeps
-    Rattle.model.specs.Events.complete Rattle.model.specs.Events.event Rattle.model.specs.Events.startEvent Rattle.model.specs.Events.stopEvent Rattle.model.specs.Events.report Rattle.model.specs.Events.packetReport
-    Rattle.model.specs.Events.windowReport Rattle.model.specs.Events.scanReport Rattle.model.specs.Events.packetReports Rattle.model.specs.Step.stepTyped Rattle.model.specs.Step.answerTyped Rattle.model.specs.Step.refusalTyped
-    Rattle.model.specs.Step.actTyped Rattle.model.specs.Step.act Rattle.model.specs.Sound.octetsUpTo Rattle.model.specs.Sound.soundSettings Rattle.model.specs.Sound.soundMonitor Rattle.model.specs.Sound.soundExtra
-    Rattle.model.specs.Sound.soundMonitors Rattle.model.specs.Sound.soundWindow Rattle.model.specs.Sound.soundEmpty Rattle.model.specs.Sound.soundLatest Rattle.model.specs.Sound.soundFields Rattle.model.specs.Sound.soundOf
-    Rattle.model.specs.Sound.soundPair Rattle.model.specs.Sound.apart Rattle.model.specs.Sound.soundModel Rattle.model.specs.Image.headRow Rattle.model.specs.Image.monitorRow Rattle.model.specs.Image.extraText
-    Rattle.model.specs.Image.nameOf Rattle.model.specs.Image.monitorText Rattle.model.specs.Image.pairRow Rattle.model.specs.Image.endRow Rattle.model.specs.Image.records Rattle.model.specs.Image.imageText
-    Rattle.model.specs.Image.monitorIn Rattle.model.specs.Image.extraIn Rattle.model.specs.Image.monitorFrom Rattle.model.specs.Image.monitorOn Rattle.model.specs.Image.pairIn Rattle.model.specs.Image.named
-    Rattle.model.specs.Image.rowsNamed Rattle.model.specs.Image.isMonitor Rattle.model.specs.Image.monitorsOn Rattle.model.specs.Image.firstOf Rattle.model.specs.Image.modelIn Rattle.model.specs.Image.heldIn
-    Rattle.model.specs.Image.isImage Rattle.model.specs.Image.readImage Rattle.laws.specs.Rows.rows Rattle.laws.specs.Tests.pick Rattle.laws.specs.Tests.sames Rattle.laws.specs.Loops.part Rattle.laws.specs.Loops.every
-    Rattle.laws.specs.Loops.some Rattle.laws.specs.Loops.only Rattle.laws.specs.Loops.keep Rattle.laws.specs.Loops.when Rattle.laws.specs.Loops.each Rattle.laws.specs.Loops.upTo Rattle.octets.specs.Little.little
-    Rattle.octets.specs.Little.octetsOf Rattle.octets.specs.Little.value Rattle.lines.specs.Hex.digit Rattle.lines.specs.Hex.isHex Rattle.lines.specs.Hex.nib Rattle.lines.specs.Hex.hexOf Rattle.lines.specs.Hex.textOf
-    Rattle.lines.specs.Hex.isText Rattle.lines.specs.Hex.octetsIn Rattle.lines.specs.Hex.notLf Rattle.lines.specs.Frame.isForm Rattle.lines.specs.Frame.isFrame Rattle.lines.specs.Frame.isLine Rattle.advert.specs.Parts.partsFrom
-    Rattle.advert.specs.Parts.parts Rattle.advert.specs.Sections.sections Rattle.advert.specs.Sections.isType Rattle.advert.specs.Sections.contentsOf Rattle.advert.specs.Sections.contents Rattle.advert.specs.Either.both
-    Rattle.advert.specs.Pattern.holdsAt Rattle.advert.specs.Pattern.patterns Rattle.advert.specs.Pattern.extent Rattle.advert.specs.Pattern.fills Rattle.advert.specs.Pattern.patternsForm Rattle.advert.specs.Pattern.patternMeets
-    Rattle.advert.specs.Pattern.patternsMeet Rattle.advert.specs.Uuid.uuids Rattle.advert.specs.Uuid.listed Rattle.advert.specs.Uuid.uuidSize Rattle.advert.specs.Uuid.uuidForm Rattle.advert.specs.Uuid.uuidMeets
-    Rattle.advert.specs.Address.addressForm Rattle.advert.specs.Address.addressMeets Rattle.advert.specs.Irk.irkForm Rattle.advert.specs.Irk.irkMeets Rattle.resolve.specs.Examples.key Rattle.advert.specs.Condition.wellFormed
-    Rattle.advert.specs.Condition.formOf Rattle.advert.specs.Condition.formStatus Rattle.advert.specs.Condition.meets Rattle.sessions.specs.Session.refuseIf Rattle.sessions.specs.Session.stateAfter
-    Rattle.sessions.specs.Session.judge Rattle.sessions.specs.Session.answer Rattle.sessions.specs.Machine.lastNumber Rattle.sessions.specs.Saved.cutFrom Rattle.sessions.specs.Saved.cut Rattle.sessions.specs.Saved.withAnswer
-    Rattle.sessions.specs.Saved.resume Rattle.sessions.specs.Saved.replayLines Rattle.sessions.specs.Saved.replay
+unfolding pairsAfter rightly at row addShort addOf pktOf crossed askings bitOf withHandle noted notedAll indexOf
+    entryRow maskIn handlesFrom handlesOf Rattle.model.specs.Computed.computed
 askings-hold = refl
