@@ -11,7 +11,8 @@ use Rattle.wholes.specs.Engine.{begin}
 use Rattle.failover.specs.Grows.{growing}
 use Rattle.twins.specs.Twin.{Twin, mostKept}
 use Rattle.twins.specs.Claim.{tells, twinBy}
-use Rattle.twins.specs.Proved.{beganOn, same-blocks, wholeBy}
+use Rattle.twins.specs.First.{beganOn, wholeBy}
+use Rattle.twins.specs.Proved.{same-blocks}
 use Rattle.twin.specs.Block.{soundBlock, twinOf}
 use Rattle.twin.specs.Calls.{beginBlock}
 use Rattle.agreement.specs.Claim.{blockBy}

@@ -56,7 +56,7 @@ use Rattle.cuts.specs.Cut.{CutLaw}
 use Rattle.cuts.specs.Calls as cuts
 use Rattle.twins.specs.Twin.{mostKept}
 use Rattle.twins.specs.Claim.{tells}
-use Rattle.twins.specs.Proved.{beganOn, wholeBy}
+use Rattle.twins.specs.First.{beganOn, wholeBy}
 use Rattle.twin.specs.Calls.{beginBlock}
 use Rattle.agreement.specs.Claim.{blockBy}
 use Rattle.agreement.specs.Proved as agreement

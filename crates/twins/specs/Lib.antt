@@ -4,6 +4,7 @@ pub mod Twin
 pub mod Claim
 pub mod Same
 pub mod Calls
+pub mod First
 pub mod Proved
 pub mod History
 pub mod Edges

@@ -24,6 +24,7 @@ use Rattle.failover.specs.Laid.{onto}
 use Rattle.failover.specs.Blocks.{answer-blocks, call-sound, image-blocks, onto-wholes}
 use Rattle.editions.specs.Engine.{gateways}
 use Rattle.failover.specs.Grows.{growing}
+use Rattle.twins.specs.First.{beganOn, wholeBy}
 use Rattle.failover.specs.Proved.{fresh-editions, fresh-gateway}
 use Rattle.pasts.specs.Past
 use Rattle.twins.specs.Twin.{Twin, beginTwin, freshTwin, gatewayOf, mostKept, pastFrom, pastOf, runAll}
@@ -89,11 +90,6 @@ same opcode prefix ok calls h =
     subst (λ (g : Gateway). length (freshTwin opcode prefix .frames) + length (traceOn gateways growing g calls) ≤ mostKept) (sym e) (omega arith) in
     from-both (freshTwin opcode prefix) (fresh-both opcode prefix ok) calls i ∙ ap (λ (g : Gateway). tells (replyTo gateways growing) g calls) e
 
--- the engine over whole blocks, as the calls' contracts cite it
-unfoldable pub wholeBy : List ℕ → Act gateways growing → Outcome (List ℕ)
-wholeBy s (call c) = reply engine s c
-wholeBy s (adds a) = addWhole s (a .edition)
-
 told-onto : (o : Outcome Gateway) → told (onto whole o) ≡ told o
 unfolding told onto
 told-onto (refused n) = refl
@@ -127,10 +123,6 @@ tells-blocks g s [] = refl
 tells-blocks g s (c ∷ cs) =
     let o : Outcome Gateway = replyTo gateways growing g c in
     rw (by-blocks g s c, told-onto o, after-onto g o, tells-blocks (stateAfter g o) (after-sound g s c) cs)
-
--- what a start gives the first engine; settings out of range are refused by 9
-unfoldable pub beganOn : ℕ → List ℕ → Gateway
-beganOn opcode prefix = pick (soundSettings opcode prefix) (freshOn opcode prefix) blankOn
 
 blank-sound : soundSettings 0xFC00 [] ≡ true
 unfolding soundSettings octetsUpTo every
