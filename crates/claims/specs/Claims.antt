@@ -50,7 +50,7 @@ use Rattle.chains.specs.Failovers.{Failovers}
 use Rattle.chains.specs.Proof as chained
 use Rattle.testdays.specs.Days as days
 use Rattle.testdays.specs.Proof as tested
-use Rattle.months.specs.Claims.{noRows}
+use Rattle.months.specs.Counting.{noRows}
 use Rattle.month.specs.Outcomes.{at}
 use Rattle.cuts.specs.Cut.{CutLaw}
 use Rattle.cuts.specs.Calls as cuts

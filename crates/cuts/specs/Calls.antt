@@ -29,7 +29,8 @@ use Rattle.failover.specs.Grows.{Besides, besides}
 use Rattle.failover.specs.Blocks.{answer-blocks, given-sound}
 use Rattle.months.specs.Month.{addsOf}
 use Rattle.months.specs.Counted.{lentWith}
-use Rattle.months.specs.Claims.{noRows, counting, Acts, answer-acts}
+use Rattle.months.specs.Counting.{noRows, counting}
+use Rattle.months.specs.Claims.{Acts, answer-acts}
 use Rattle.month.specs.Outcomes.{outcome, addsIn, at}
 use Rattle.cuts.specs.Journal.{Goes}
 use Rattle.cuts.specs.Cut.{CutLaw, cut-law}

@@ -23,7 +23,8 @@ use Rattle.blocks.specs.Facts.{sound-facts}
 use Rattle.failover.specs.Demand3.{adds as addsEntries, ranIn}
 use Rattle.months.specs.Month.{month, length-month, month-cut}
 use Rattle.months.specs.Counted.{Tallied}
-use Rattle.months.specs.Claims.{noRows, counting, at, empty-tables}
+use Rattle.months.specs.Counting.{noRows, counting, at}
+use Rattle.months.specs.Claims.{empty-tables}
 use Rattle.cuts.specs.Bounds.{AllIn, none-in, fits-in}
 use Rattle.cuts.specs.Journal.{Goes, with, framesIn, counts-all, reaches}
 

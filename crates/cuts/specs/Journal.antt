@@ -22,7 +22,8 @@ use Rattle.failover.specs.Proof.{AsCalls, as-calls}
 use Rattle.months.specs.Month.{next, addsOf, month, month-more, afterAll}
 use Rattle.months.specs.Tables.{tables-assoc}
 use Rattle.months.specs.Counted.{Tallied, tally, answer-same, addsRead}
-use Rattle.months.specs.Claims.{counting, at, bodies, rows-after, month-empty, length-counted, act-next, Acts, answer-acts}
+use Rattle.months.specs.Counting.{counting, at}
+use Rattle.months.specs.Claims.{bodies, rows-after, month-empty, length-counted, act-next, Acts, answer-acts}
 use Rattle.cuts.specs.Bounds.{AllIn, sums-in, adds-in, next-fits}
 
 -- What is asked of an engine and of document 01's state in its states: it is sound where they are, and an executed line leaves a sound state, one

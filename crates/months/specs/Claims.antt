@@ -25,10 +25,7 @@ use Rattle.months.specs.Counts.{adds, rowIn}
 use Rattle.months.specs.Month.{next, addsOf, month, month-none, month-more, afterAll}
 use Rattle.months.specs.Tables.{tableOf, length-table, tables-assoc}
 use Rattle.months.specs.Counted.{Tallied, tally, counted, countAct, answer-same, addsRead}
-
--- sixteen empty rows
-abbrev pub noRows : List Row
-noRows = replicate tableRows empty
+use Rattle.months.specs.Counting.{noRows, counting, Tally, at}
 
 -- an empty table changes nothing, on either side
 pub tables-empty : (l : List Row) (n : ℕ) → length l ≡ n → mapTwo rowSum l (replicate n empty) ≡ l
@@ -61,19 +58,9 @@ isDone (refused n) = false
 isDone (done t a) = true
 
 module _ (M : Machine) (core : M .S → Model) (body : M .Body → Body) where
-  -- the engine that counts, and its states
-  abbrev pub counting : Machine
-  counting = counted M (addsOf M core body)
-
-  abbrev pub Tally : Type 0
-  Tally = Tallied (M .S)
-
-  abbrev pub at : M .S → List Row → Tally
-  at s l = record { state = s; rows = l }
-
   -- the frames that a list of calls executes
-  unfoldable pub bodies : Tally → List Call → List (M .Body)
-  bodies x cs = map (λ e. e .line .body) (trace counting x cs)
+  unfoldable pub bodies : (Tally M core body) → List Call → List (M .Body)
+  bodies x cs = map (λ e. e .line .body) (trace (counting M core body) x cs)
 
   pub month-empty : (l : List Row) (s : M .S) → length l ≡ tableRows → mapTwo rowSum l (month M core body s []) ≡ l
   month-empty l s n = ap (mapTwo rowSum l) (month-none M core body s ∙ none-is) ∙ tables-empty l tableRows n
@@ -88,11 +75,11 @@ module _ (M : Machine) (core : M .S → Model) (body : M .Body → Body) where
   act-next s t b a e = sym (ap (stateAfter s) e)
 
   -- What a call does to a state with rows: nothing, or one frame more.
-  pub data Did (x : Tally) (c : Call) : Type 0 where
-    nothing : after counting x c ≡ x → ran counting x c ≡ [] → Did x c
+  pub data Did (x : (Tally M core body)) (c : Call) : Type 0 where
+    nothing : after (counting M core body) x c ≡ x → ran (counting M core body) x c ≡ [] → Did x c
     frame : (y : Line (M .Body)) (a : List ℕ) → everyTwo rowFits (x .rows) (addsOf M core body (x .state) (y .body)) ≡ true
-        → after counting x c ≡ at (next M core body (x .state) (y .body)) (mapTwo rowSum (x .rows) (addsOf M core body (x .state) (y .body)))
-        → ran counting x c ≡ record { line = y; wrote = a } ∷ [] → Did x c
+        → after (counting M core body) x c ≡ (at M core body) (next M core body (x .state) (y .body)) (mapTwo rowSum (x .rows) (addsOf M core body (x .state) (y .body)))
+        → ran (counting M core body) x c ≡ record { line = y; wrote = a } ∷ [] → Did x c
 
   -- a frame that is executed was read, and acts
   pub record Acts (s t : M .S) (a : List ℕ) (o : Option (Line (M .Body))) : Type 0 where
@@ -120,7 +107,7 @@ module _ (M : Machine) (core : M .S → Model) (body : M .Body → Body) where
       go false false q = judged s t a (M .read w r) q
 
   -- a frame given
-  given : (lent : ℕ) (x : Tally) (w : Form) (r : List ℕ) → Did x (give lent w r)
+  given : (lent : ℕ) (x : (Tally M core body)) (w : Form) (r : List ℕ) → Did x (give lent w r)
   unfolding after reply ran stateAfter entries addsRead pick tally
   given lent x w r = go (answer M lent (x .state) w r) refl
     where
@@ -130,62 +117,62 @@ module _ (M : Machine) (core : M .S → Model) (body : M .Body → Body) where
       d : List Row
       d = addsRead M (addsOf M core body) (x .state) o
 
-      same : answer counting lent x w r ≡ tally (x .rows) d (answer M lent (x .state) w r)
+      same : answer (counting M core body) lent x w r ≡ tally (x .rows) d (answer M lent (x .state) w r)
       same = answer-same M (addsOf M core body) (x .state) (x .rows) lent w r
 
-      idle : (n : ℕ) → answer counting lent x w r ≡ refused n → Did x (give lent w r)
+      idle : (n : ℕ) → answer (counting M core body) lent x w r ≡ refused n → Did x (give lent w r)
       idle n e = nothing (ap (stateAfter x) e) (ap (entries o) e ∙ none-of o)
         where
-          none-of : (u : Option (Line (M .Body))) → entries {S = Tally} u (refused n) ≡ []
+          none-of : (u : Option (Line (M .Body))) → entries {S = (Tally M core body)} u (refused n) ≡ []
           none-of none = refl
           none-of (some y) = refl
 
       took : (t : M .S) (a : List ℕ) (z : Acts (x .state) t a o) (b : Bool) → everyTwo rowFits (x .rows) d ≡ b
-          → answer counting lent x w r ≡ pick b (done (at t (mapTwo rowSum (x .rows) d)) a) (refused passes) → Did x (give lent w r)
+          → answer (counting M core body) lent x w r ≡ pick b (done ((at M core body) t (mapTwo rowSum (x .rows) d)) a) (refused passes) → Did x (give lent w r)
       took t a z false f e = idle passes e
       took t a z true f e =
           let i : d ≡ addsOf M core body (x .state) (z .line .body) = ap (addsRead M (addsOf M core body) (x .state)) (z .is) in
           let u : t ≡ next M core body (x .state) (z .line .body) = act-next (x .state) t (z .line .body) a (z .acts) in
           frame (z .line) a (ap (everyTwo rowFits (x .rows)) (sym i) ∙ f)
-          (ap (stateAfter x) e ∙ ap (λ (k : List Row). at t (mapTwo rowSum (x .rows) k)) i
-          ∙ ap (λ (k : M .S). at k (mapTwo rowSum (x .rows) (addsOf M core body (x .state) (z .line .body)))) u)
-          (ap (entries o) e ∙ ap (λ (k : Option (Line (M .Body))). entries k (done (at t (mapTwo rowSum (x .rows) d)) a)) (z .is))
+          (ap (stateAfter x) e ∙ ap (λ (k : List Row). (at M core body) t (mapTwo rowSum (x .rows) k)) i
+          ∙ ap (λ (k : M .S). (at M core body) k (mapTwo rowSum (x .rows) (addsOf M core body (x .state) (z .line .body)))) u)
+          (ap (entries o) e ∙ ap (λ (k : Option (Line (M .Body))). entries k (done ((at M core body) t (mapTwo rowSum (x .rows) d)) a)) (z .is))
 
       go : (p : Outcome (M .S)) → answer M lent (x .state) w r ≡ p → Did x (give lent w r)
       go (refused n) e = idle n (same ∙ ap (tally (x .rows) d) e)
       go (done t a) e =
           took t a (answer-acts lent (x .state) t w r a e) (everyTwo rowFits (x .rows) d) refl (same ∙ ap (tally (x .rows) d) e)
 
-  pub did : (x : Tally) (c : Call) → Did x c
+  pub did : (x : (Tally M core body)) (c : Call) → Did x c
   unfolding ran
   did x (give lent w r) = given lent x w r
-  did x (save lent) = nothing (save-leaves counting lent x) refl
+  did x (save lent) = nothing (save-leaves (counting M core body) lent x) refl
 
   -- THE CLAIM: after any list of calls the state is that after the frames executed, and the rows are those of before with the month's.
-  pub rows-after : (x : Tally) (cs : List Call) → length (x .rows) ≡ tableRows
-      → walk counting x cs ≡ at (afterAll M core body (x .state) (bodies x cs)) (mapTwo rowSum (x .rows) (month M core body (x .state) (bodies x cs)))
+  pub rows-after : (x : (Tally M core body)) (cs : List Call) → length (x .rows) ≡ tableRows
+      → walk (counting M core body) x cs ≡ (at M core body) (afterAll M core body (x .state) (bodies x cs)) (mapTwo rowSum (x .rows) (month M core body (x .state) (bodies x cs)))
   unfolding walk trace bodies afterAll
-  rows-after x [] n = ap (at (x .state)) (sym (month-empty (x .rows) (x .state) n))
-  rows-after x (c ∷ cs) n = go (λ y k. rows-after y cs k) (after counting x c) (ran counting x c) refl refl (did x c)
+  rows-after x [] n = ap ((at M core body) (x .state)) (sym (month-empty (x .rows) (x .state) n))
+  rows-after x (c ∷ cs) n = go (λ y k. rows-after y cs k) (after (counting M core body) x c) (ran (counting M core body) x c) refl refl (did x c)
     where
-      Goal : Tally → List (Entry (M .Body)) → Type 0
+      Goal : (Tally M core body) → List (Entry (M .Body)) → Type 0
       Goal y es =
-          walk counting y cs ≡ at (afterAll M core body (x .state) (map (λ e. e .line .body) (es ++ trace counting y cs)))
-          (mapTwo rowSum (x .rows) (month M core body (x .state) (map (λ e. e .line .body) (es ++ trace counting y cs))))
+          walk (counting M core body) y cs ≡ (at M core body) (afterAll M core body (x .state) (map (λ e. e .line .body) (es ++ trace (counting M core body) y cs)))
+          (mapTwo rowSum (x .rows) (month M core body (x .state) (map (λ e. e .line .body) (es ++ trace (counting M core body) y cs))))
 
       Later : Type 0
-      Later = (y : Tally) → length (y .rows) ≡ tableRows
-          → walk counting y cs ≡ at (afterAll M core body (y .state) (bodies y cs)) (mapTwo rowSum (y .rows) (month M core body (y .state) (bodies y cs)))
+      Later = (y : (Tally M core body)) → length (y .rows) ≡ tableRows
+          → walk (counting M core body) y cs ≡ (at M core body) (afterAll M core body (y .state) (bodies y cs)) (mapTwo rowSum (y .rows) (month M core body (y .state) (bodies y cs)))
 
-      go : Later → (y : Tally) (es : List (Entry (M .Body))) → after counting x c ≡ y → ran counting x c ≡ es → Did x c → Goal y es
+      go : Later → (y : (Tally M core body)) (es : List (Entry (M .Body))) → after (counting M core body) x c ≡ y → ran (counting M core body) x c ≡ es → Did x c → Goal y es
       go ih y es p q (nothing h k) = rw (sym q ∙ k, sym p ∙ h) (ih x n)
       go ih y es p q (frame z a f h k) =
           let b : M .Body = z .body in
           let t : M .S = next M core body (x .state) b in
           let l : List Row = mapTwo rowSum (x .rows) (addsOf M core body (x .state) b) in
-          let u : Tally = at t l in
+          let u : (Tally M core body) = (at M core body) t l in
           let bs : List (M .Body) = bodies u cs in
           rw (sym q ∙ k, sym p ∙ h) (
           ih u (length-counted (x .rows) (x .state) b n)
-          ∙ ap (at (afterAll M core body t bs)) (tables-assoc (x .rows) (addsOf M core body (x .state) b) (month M core body t bs)
+          ∙ ap ((at M core body) (afterAll M core body t bs)) (tables-assoc (x .rows) (addsOf M core body (x .state) b) (month M core body t bs)
           ∙ ap (mapTwo rowSum (x .rows)) (sym (month-more M core body (x .state) b bs))))

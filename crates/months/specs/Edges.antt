@@ -24,7 +24,7 @@ use Rattle.model.specs.Requests.{addEqual, reportAt, scn, rep, addFf, aa, bb}
 use Rattle.model.specs.Second.{addPlain, second}
 use Rattle.months.specs.Counts.{adds}
 use Rattle.months.specs.Counted.{Tallied, counted, countAnswer}
-use Rattle.months.specs.Claims.{noRows}
+use Rattle.months.specs.Counting.{noRows}
 
 -- a row of a handle, by its totals; a whole number below 0
 unfoldable pub row : ℕ → ℕ → ℕ → ℤ → Row
