@@ -1,5 +1,5 @@
 -- THE LAYOUT: the only home of the limits and of the places in the state's block and its rows. `State` in the crate state has the
--- same numbers for the code; `State::blank` ensures `block ≡ padded blank`, so the two cannot drift apart.
+-- same numbers for the code; `put_blank` leaves `padded blank` in the block, so the two cannot drift apart.
 -- Document 01, Sizes of the gateway, The image. All of these unfold everywhere: arithmetic sees the numbers.
 use Prim.Native.Nat.{ℕ, _+_, _-_, _*_}
 

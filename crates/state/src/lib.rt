@@ -7,11 +7,11 @@ ghost use Prim.Native.Nat.{_<_};
 ghost use mathlib.Core.Path.{_≡_};
 ghost use lib.Dec.{ltb};
 ghost use lib.ListN.{length};
-ghost use Rattle.model.specs.Types.{ticksOf, blank};
+ghost use Rattle.model.specs.Types.{ticksOf};
 ghost use Rattle.model.specs.Level.{level, inRange};
 ghost use Rattle.model.specs.Monitors.{letsThrough};
 ghost use Rattle.blocks.specs.Added.{filteringOf};
-ghost use Rattle.model.specs.Block.{padded, advanced, ready as isReady};
+ghost use Rattle.model.specs.Block.{advanced, ready as isReady};
 ghost use Rattle.model.specs.Engine.{begin};
 ghost use Rattle.state.specs.Start.{settingsOf, blankIn, freshIn};
 
@@ -264,12 +264,10 @@ impl State {
     pub const COUNT_AT: usize = State::PAIRS_AT + State::PAIR_ROW * State::PAIRS;
 
     pub const SIZE: usize = State::COUNT_AT + 1;
-    // The first monitor's interval and sampling period; what follows the handle in a monitor's row, and from the condition on.
+    // The first monitor's interval and sampling period; what a monitor's row has from the condition on.
     pub const INTERVALS_AT: usize = State::MONITORS_AT + State::INTERVAL_AT;
 
     pub const PERIODS_AT: usize = State::MONITORS_AT + State::SAMPLING_AT;
-
-    pub const MONITOR_REST: usize = State::MONITOR_ROW - 1;
 
     pub const CONDITION_ROOM: usize = State::MONITOR_ROW - State::CONDITION_AT;
     // Rows with the octet that names a line of an image.
@@ -289,14 +287,5 @@ impl State {
             answer: answer,
             state: State { block },
         }
-    }
-
-    // The blank state: fresh, opcode 0xFC00, empty prefix.
-    pub fn blank() -> State
-        ensures { λ r. ⌜ r .block ≡ padded blank ⌝ }
-    {
-        let mut block = [0u8; State::SIZE];
-        put_blank(&mut block);
-        State { block }
     }
 }

@@ -10,7 +10,6 @@ use Rattle.calls_run.proofs.seen.begin.Reads as begin-reads
 use Rattle.calls_run.proofs.seen.end.Reads as end-reads
 use Rattle.calls_run.proofs.show.Reads as show-reads
 use Rattle.parts.proofs.copy.Reads as copy-reads
-use Rattle.state.proofs.State.blank.Reads as blank-reads
 
 -- src/main.rt:133:9
 end-requires : tie.Need-end-requires
