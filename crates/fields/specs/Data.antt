@@ -9,7 +9,8 @@ use Rattle.octets.specs.Numbers.{numberAt}
 use Rattle.lines.specs.Hex.{hexOf}
 use Rattle.model.specs.Quoted.{codes}
 use Rattle.texts.specs.Words.{pairOf}
-use Rattle.words.specs.Pieces.{partOf, dbm, uuidText}
+use Rattle.words.specs.Pieces.{partOf, numberText, dbm}
+use Rattle.words.specs.Uuids.{uuidText}
 use Rattle.fields.specs.Names.{adText}
 use Rattle.fields.specs.Cuts.{allOf}
 
@@ -61,10 +62,14 @@ plainText s = pick (eqb (length s) 0) [] (codes " " ++ hexOf s)
 unfoldable pub headedText : ℕ → List ℕ → List ℕ
 headedText k s = pick (ltb (length s) k) (plainText s) ((codes " " ++ uuidText (partOf s 0 k)) ++ plainText (drop k s))
 
+-- the number of a company, and the octets behind it
+unfoldable pub companyText : List ℕ → List ℕ
+companyText s = pick (ltb (length s) 2) (plainText s) ((codes " 0x" ++ numberText (partOf s 0 2)) ++ plainText (drop 2 s))
+
 -- values of manufacturer data, of service data, of lists of UUIDs and of other types
 unfoldable pub specialText : ℕ → List ℕ → List ℕ
 specialText kind s =
-    pick (eqb kind 255) (headedText 2 s) (pick ((eqb kind 22 || eqb kind 32) || eqb kind 33) (headedText (uuidSize kind) s) (
+    pick (eqb kind 255) (companyText s) (pick ((eqb kind 22 || eqb kind 32) || eqb kind 33) (headedText (uuidSize kind) s) (
     pick (eqb (uuidSize kind) 0) (plainText s) (uuidsText (uuidSize kind) s)))
 
 -- the value of a structure: a name, a Tx power, or one of those

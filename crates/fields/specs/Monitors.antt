@@ -10,7 +10,8 @@ use Rattle.decimals.specs.Decimals.{decimal}
 use Rattle.lines.specs.Hex.{hexOf}
 use Rattle.model.specs.Quoted.{codes}
 use Rattle.texts.specs.Words.{pairOf}
-use Rattle.words.specs.Pieces.{partOf, numberText, dbm, deviceOf, deviceText, uuidText}
+use Rattle.words.specs.Pieces.{partOf, numberText, dbm, deviceOf, deviceText}
+use Rattle.words.specs.Uuids.{uuidText}
 use Rattle.fields.specs.Names.{adText}
 use Rattle.fields.specs.Cuts.{allOf}
 use Rattle.fields.specs.Data.{sizeOf, isWhole, plainText}

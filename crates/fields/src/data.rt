@@ -3,7 +3,7 @@ ghost use Prim.Native.Nat.{_+_, _-_, _≤_, _<_};
 ghost use mathlib.Core.Path.{_≡_};
 ghost use lib.ListN.{length, drop};
 ghost use Rattle.words.specs.Says.{Says};
-ghost use Rattle.fields.specs.Data.{sizeOf, isWhole, isPlain, characterText, charactersText, quotedText, uuidSize, uuidIn, uuidsText, plainText, headedText, specialText, valueText, structureText, structuresText};
+ghost use Rattle.fields.specs.Data.{sizeOf, isWhole, isPlain, characterText, charactersText, quotedText, uuidSize, uuidIn, uuidsText, plainText, headedText, companyText, specialText, valueText, structureText, structuresText};
 use crate::terms;
 use words::ROOM;
 
@@ -21,6 +21,9 @@ const SERVICE_DATA_32: u8 = 0x20;
 const SERVICE_DATA_128: u8 = 0x21;
 
 const MANUFACTURER: u8 = 0xFF;
+
+// Octets of a company's number.
+const COMPANY: usize = 2;
 
 // The first and the last printable character, and two that are not written as they are.
 const BLANK: u8 = 32;
@@ -163,13 +166,24 @@ fn headed(out: &mut [u8; ROOM], at: usize, s: &[u8], k: usize) -> usize
     plain(out, a, words::behind(s, k))
 }
 
+// The number of a company, and the octets behind it.
+fn company(out: &mut [u8; ROOM], at: usize, s: &[u8]) -> usize
+    ensures { λ r. ⌜ Says (now (out .entry)) at (companyText (now (s .entry))) (now (out .exit)) r ⌝ }
+{
+    if s.len() < COMPANY {
+        return plain(out, at, s);
+    }
+    let a = words::number(out, at, b" 0x", words::part(s, 0, COMPANY));
+    plain(out, a, words::behind(s, COMPANY))
+}
+
 // The value of a structure of a type that has a form of its own.
 fn special(out: &mut [u8; ROOM], at: usize, kind: u8, s: &[u8]) -> usize
     ensures { λ r. ⌜ Says (now (out .entry)) at (specialText kind (now (s .entry))) (now (out .exit)) r ⌝ }
 {
     let k = uuid_size(kind);
     if kind == MANUFACTURER {
-        return headed(out, at, s, 2);
+        return company(out, at, s);
     }
     if (kind == SERVICE_DATA_16) | (kind == SERVICE_DATA_32) | (kind == SERVICE_DATA_128) {
         return headed(out, at, s, k);

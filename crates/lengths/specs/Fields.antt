@@ -17,9 +17,9 @@ use Rattle.texts.specs.Words.{pairOf}
 use Rattle.words.specs.Pieces.{partOf, deviceOf}
 use Rattle.fields.specs.Names.{adRows, adText, eventRows, eventText, statusRows, statusText, subRows, subText, whyRows, whyText, switchText, changeWord, prefixText}
 use Rattle.fields.specs.Cuts.{cutFrom, each, allOf}
-use Rattle.fields.specs.Data.{sizeOf, isWhole, isPlain, characterText, charactersText, quotedText, uuidSize, nextOf, uuidIn, uuidsText, plainText, headedText, specialText, valueText, structureText, structuresText}
+use Rattle.fields.specs.Data.{sizeOf, isWhole, isPlain, characterText, charactersText, quotedText, uuidSize, nextOf, uuidIn, uuidsText, plainText, headedText, companyText, specialText, valueText, structureText, structuresText}
 use Rattle.fields.specs.Monitors.{patternText, patternsText, unknownText, isUuid, singleText, conditionText, samplingText, limitsText, bitText, reservedText, optionsText, filteringText, peerOf, peerText}
-use Rattle.lengths.specs.Pieces.{by, digits, number-long, part-most, dbm-most, device-most, uuid-most, named-or-most}
+use Rattle.lengths.specs.Pieces.{by, digits, number-long, part-most, dbm-most, device-most, uuid-most, uuid-some, named-or-most}
 
 -- names
 pub ad-most : (x : ℕ) → length (adText x) ≤ 25
@@ -93,10 +93,19 @@ plain-most : (s : List ℕ) → length (plainText s) ≤ 2 * length s + 1
 unfolding plainText codes
 plain-most s = by (eqb (length s) 0) _ _ (2 * length s + 1) (λ e. omega arith) (λ e. simp (length-append, length-hex) (omega arith))
 
-headed-most : (k : ℕ) (s : List ℕ) → length (headedText k s) ≤ 2 * length s + 6
+company-most : (s : List ℕ) → length (companyText s) ≤ 2 * length s + 8
+unfolding companyText codes
+company-most s =
+    by (ltb (length s) 2) _ _ (2 * length s + 8) (λ e. let h = plain-most s in omega arith)
+    (λ e. let a = part-most s 0 2 in
+    let c = plain-most (drop 2 s) in
+    let d = length-drop 2 s in
+    simp (length-append, number-long) (omega arith))
+
+headed-most : (k : ℕ) (s : List ℕ) → length (headedText k s) ≤ 24 * length s + 6
 unfolding headedText codes
 headed-most k s =
-    by (ltb (length s) k) _ _ (2 * length s + 6) (λ e. let h = plain-most s in omega arith)
+    by (ltb (length s) k) _ _ (24 * length s + 6) (λ e. let h = plain-most s in omega arith)
     (λ e. let h = ltb-false (length s) k e in
     let a = uuid-most (partOf s 0 k) in
     let b = part-most s 0 k in
@@ -106,7 +115,7 @@ headed-most k s =
 
 uuid-in-most : (p : List ℕ) → 0 < length p → length (uuidIn p) ≤ 27 * length p
 unfolding uuidIn codes
-uuid-in-most p h = let k = uuid-most p in simp length-append (omega arith)
+uuid-in-most p h = let k = uuid-some p h in simp length-append (omega arith)
 
 uuids-most : (k : ℕ) (s : List ℕ) → 0 < k → length (uuidsText k s) ≤ 27 * length s
 unfolding uuidsText nextOf
@@ -115,7 +124,7 @@ uuids-most k s h = all-most (nextOf k) uuidIn (λ x t. omega arith) uuid-in-most
 special-most : (kind : ℕ) (s : List ℕ) → length (specialText kind s) ≤ 27 * length s + 27
 unfolding specialText
 special-most kind s =
-    by (eqb kind 255) _ _ (27 * length s + 27) (λ e. let h = headed-most 2 s in omega arith)
+    by (eqb kind 255) _ _ (27 * length s + 27) (λ e. let h = company-most s in omega arith)
     (λ e. by ((eqb kind 22 || eqb kind 32) || eqb kind 33) _ _ (27 * length s + 27) (λ q. let h = headed-most (uuidSize kind) s in omega arith)
     (λ q. by (eqb (uuidSize kind) 0) _ _ (27 * length s + 27) (λ u. let h = plain-most s in omega arith)
     (λ u. let n = eqb-false (uuidSize kind) 0 u in let h = uuids-most (uuidSize kind) s (positive (uuidSize kind) n) in omega arith)))

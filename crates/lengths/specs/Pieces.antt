@@ -1,5 +1,5 @@
 -- How many characters the pieces of a line in words have at most. Assumes nothing.
-use Prim.Native.Nat.{ℕ, _+_, _-_, _*_, _%_, _≤_}
+use Prim.Native.Nat.{ℕ, _+_, _-_, _*_, _%_, _≤_, _<_}
 use Prim.Native.String.{String}
 use mathlib.Core.Path.{_≡_, refl}
 use mathlib.Core.Bool.{Bool, true, false, _||_}
@@ -8,16 +8,19 @@ use native.Mathlib.Omega.{arith}
 use borrow.Author.Tests.{leb-true, eqb-true}
 use lib.Dec.{leb, ltb, eqb}
 use lib.ListN.{length, take, drop, length-append, length-take, length-drop}
-use Rattle.laws.specs.Tests.{pick}
+use Rattle.laws.specs.Tests.{pick, cases-le}
 use Rattle.laws.specs.Loops.{every}
+use Rattle.octets.specs.Numbers.{numberAt}
 use Rattle.decimals.specs.Decimals.{decimal}
 use Rattle.decimals.specs.Writing.{digits-most}
 use Rattle.lines.specs.Texts.{length-hex}
 use Rattle.model.specs.Level.{level}
 use Rattle.model.specs.Quoted.{codes}
 use Rattle.names.specs.Names.{Row, named, isShort, named-most}
+use Rattle.names.specs.Uuids.{uuidName, uuid-name-most}
 use Rattle.texts.specs.Words.{pairOf, colonPair, addressText, kindText, levelText}
-use Rattle.words.specs.Pieces.{partOf, numberText, dbm, sumText, deviceText, groupsText, uuidText, namedOr}
+use Rattle.words.specs.Pieces.{partOf, numberText, dbm, sumText, deviceText, groupsText, uuidNumber, namedOr}
+use Rattle.words.specs.Uuids.{isWide, isBased, shortOf, bracketed, behindUuid, uuidText}
 
 -- one of two texts
 pub by : (b : Bool) (xs ys : List ℕ) (n : ℕ) → (b ≡ true → length xs ≤ n) → (b ≡ false → length ys ≤ n) → length (pick b xs ys) ≤ n
@@ -95,11 +98,43 @@ groups-most s =
     let e = part-most s 0 6 in
     simp (length-append, number-long) (omega arith)
 
-pub uuid-most : (s : List ℕ) → length (uuidText s) ≤ 2 * length s + 4
-unfolding uuidText codes
-uuid-most s =
+uuid-number-most : (s : List ℕ) → length (uuidNumber s) ≤ 2 * length s + 4
+unfolding uuidNumber codes
+uuid-number-most s =
     by (eqb (length s) 16) _ _ (2 * length s + 4) (λ e. let h = eqb-true (length s) 16 e in let k = groups-most s in omega arith)
     (λ e. by (eqb (length s) 2 || eqb (length s) 4) _ _ (2 * length s + 4) (λ q. simp (length-append, number-long) (omega arith)) (λ q. simp length-hex (omega arith)))
+
+-- the name behind a UUID's number: none where it has no name, that is behind one of fewer than 2 octets too
+bracketed-most : (w : List ℕ) (n : ℕ) → length w ≤ n → length (bracketed w) ≤ n + 3
+unfolding bracketed codes
+bracketed-most w n h = by (eqb (length w) 0) _ _ (n + 3) (λ e. omega arith) (λ e. simp length-append (omega arith))
+
+behind-most : (s : List ℕ) → length (behindUuid s) ≤ 42
+unfolding behindUuid
+behind-most s = bracketed-most (uuidName (numberAt 1 (shortOf s) 1) (numberAt 1 (shortOf s) 0)) 39 (uuid-name-most (numberAt 1 (shortOf s) 1) (numberAt 1 (shortOf s) 0))
+
+behind-few : (s : List ℕ) → length s ≤ 1 → length (behindUuid s) ≡ 0
+unfolding behindUuid shortOf isWide isBased bracketed uuidName pick numberAt
+behind-few [] h = refl
+behind-few (x ∷ []) h = refl
+behind-few (x ∷ y ∷ s) h = absurd (omega arith)
+
+pub uuid-most : (s : List ℕ) → length (uuidText s) ≤ 24 * length s + 4
+unfolding uuidText
+uuid-most s =
+    let a = uuid-number-most s in
+    let b = behind-most s in
+    simp length-append
+    (cases-le (length s) 1 (λ (h : length s ≤ 1). let c = behind-few s h in omega arith) (λ (h : 1 < length s). omega arith))
+
+-- of octets of which there are some
+pub uuid-some : (s : List ℕ) → 0 < length s → length (uuidText s) < 27 * length s
+unfolding uuidText
+uuid-some s k =
+    let a = uuid-number-most s in
+    let b = behind-most s in
+    simp length-append
+    (cases-le (length s) 1 (λ (h : length s ≤ 1). let c = behind-few s h in omega arith) (λ (h : 1 < length s). omega arith))
 
 pub named-or-most : (rows : List Row) (words : String) (m x : ℕ) → every (isShort m) rows ≡ true → length (codes words) + 2 ≤ m → length (namedOr rows words x) ≤ m
 unfolding namedOr pairOf

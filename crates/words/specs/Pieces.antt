@@ -49,14 +49,14 @@ deviceOf s = numberAt 4 s 0 + 4294967296 * numberAt 2 s 4 + 281474976710656 * nu
 unfoldable pub deviceText : ℕ → List ℕ
 deviceText d = kindText d ++ codes " " ++ addressText d
 
--- a UUID: 16 octets in five groups, 2 or 4 as a number, any other length as octets
+-- the number of a UUID: 16 octets in five groups, 2 or 4 as a number, any other length as octets
 unfoldable pub groupsText : List ℕ → List ℕ
 groupsText s =
     numberText (partOf s 12 4) ++ (codes "-" ++ numberText (partOf s 10 2)) ++ (codes "-" ++ numberText (partOf s 8 2))
     ++ (codes "-" ++ numberText (partOf s 6 2)) ++ (codes "-" ++ numberText (partOf s 0 6))
 
-unfoldable pub uuidText : List ℕ → List ℕ
-uuidText s =
+unfoldable pub uuidNumber : List ℕ → List ℕ
+uuidNumber s =
     pick (eqb (length s) 16) (groupsText s) (pick (eqb (length s) 2 || eqb (length s) 4) (codes "0x" ++ numberText s) (hexOf s))
 
 -- a number's name in a table, or other words and the number in hexadecimal

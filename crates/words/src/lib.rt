@@ -10,7 +10,11 @@ ghost use Rattle.octets.specs.Numbers.{numberAt};
 ghost use Rattle.texts.specs.Text.{told};
 ghost use Rattle.texts.specs.Words.{pairOf};
 ghost use Rattle.words.specs.Says.{Says};
-ghost use Rattle.words.specs.Pieces.{partOf, numberText, dbm, sumText, deviceOf, deviceText, groupsText, uuidText, nameOr};
+ghost use Rattle.words.specs.Pieces.{partOf, numberText, dbm, sumText, deviceOf, deviceText, groupsText, uuidNumber, nameOr};
+ghost use Rattle.words.specs.Uuids.{uuidText};
+
+mod tables;
+mod uuids;
 
 // More characters than any line in words has.
 pub const ROOM: usize = 8192;
@@ -186,9 +190,9 @@ fn groups(out: &mut [u8; ROOM], at: usize, s: &[u8]) -> usize
     number(out, d, b"-", part(s, 0, 6))
 }
 
-// Words and a UUID: 2 or 4 octets as a number, 16 in five groups, any other length as octets.
-pub fn uuid(out: &mut [u8; ROOM], at: usize, words: &[u8], s: &[u8]) -> usize
-    ensures { λ r. ⌜ Says (now (out .entry)) at (now (words .entry) ++ uuidText (now (s .entry))) (now (out .exit)) r ⌝ }
+// Words and the number of a UUID: 2 or 4 octets as a number, 16 in five groups, any other length as octets.
+fn uuid_number(out: &mut [u8; ROOM], at: usize, words: &[u8], s: &[u8]) -> usize
+    ensures { λ r. ⌜ Says (now (out .entry)) at (now (words .entry) ++ uuidNumber (now (s .entry))) (now (out .exit)) r ⌝ }
 {
     let n = s.len();
     let a = put(out, at, words);
@@ -199,6 +203,14 @@ pub fn uuid(out: &mut [u8; ROOM], at: usize, words: &[u8], s: &[u8]) -> usize
         return number(out, a, b"0x", s);
     }
     hex(out, a, b"", s)
+}
+
+// Words and a UUID: its number, and its name where it has one.
+pub fn uuid(out: &mut [u8; ROOM], at: usize, words: &[u8], s: &[u8]) -> usize
+    ensures { λ r. ⌜ Says (now (out .entry)) at (now (words .entry) ++ uuidText (now (s .entry))) (now (out .exit)) r ⌝ }
+{
+    let a = uuid_number(out, at, words, s);
+    uuids::name(out, a, s)
 }
 
 // A number by its name in a table, or other words and the number in hexadecimal.

@@ -7,6 +7,7 @@ use Rattle.fields.proofs.data.special.Statement.{statement}
 use Rattle.fields.proofs.data.special.Tie as tie
 use Rattle.fields.proofs.data.special.Reads as reads
 use Rattle.fields.proofs.data.special.Lts as lts
+use Rattle.fields.proofs.data.company.Reads as company-reads
 use Rattle.fields.proofs.data.headed.Reads as headed-reads
 use Rattle.fields.proofs.data.plain.Reads as plain-reads
 use Rattle.fields.proofs.data.uuid_size.Reads as uuid-size-reads
@@ -17,22 +18,22 @@ uuid-size-requires : tie.Need-uuid-size-requires
 uuid-size-requires c κs = search needs
 
 -- src/data.rt:165:9
-headed-requires : tie.Need-headed-requires
-headed-requires c κs = search needs
+company-requires : tie.Need-company-requires
+company-requires c κs = search needs
 
 -- src/data.rt:165:9
 returns : tie.Need-returns
 unfolding specialText
-returns c = taken _ _ (eq-eqb _ _ (c .before .before .if1 .taken)) (c .headed .ensures)
+returns c = taken _ _ (eq-eqb _ _ (c .before .before .if1 .taken)) (c .company .ensures)
 
 -- src/data.rt:168:9
-headed-requires-2 : tie.Need-headed-requires-2
-headed-requires-2 c κs = search needs
+headed-requires : tie.Need-headed-requires
+headed-requires c κs = search needs
 
 -- src/data.rt:168:9
 returns-2 : tie.Need-returns-2
 unfolding specialText
-returns-2 c = left _ _ (ne-eqb _ _ (c .before .before .before .if1 .left)) (taken _ _ (c .before .before .if2 .taken) (rw (c .before .before .before .before .uuid-size .ensures) at (c .headed2 .ensures)))
+returns-2 c = left _ _ (ne-eqb _ _ (c .before .before .before .if1 .left)) (taken _ _ (c .before .before .if2 .taken) (rw (c .before .before .before .before .uuid-size .ensures) at (c .headed .ensures)))
 
 -- src/data.rt:171:9
 plain-requires : tie.Need-plain-requires
@@ -57,9 +58,9 @@ special-spec =
     tie.close
     (tie.spec
     uuid-size-requires
-    headed-requires
+    company-requires
     returns
-    headed-requires-2
+    headed-requires
     returns-2
     plain-requires
     returns-3
