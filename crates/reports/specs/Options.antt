@@ -5,6 +5,7 @@ use mathlib.Core.List.{List, [], _∷_, _++_}
 use lib.Dec.{leb, eqb}
 use lib.ListN.{length, take}
 use Rattle.laws.specs.Tests.{pick, sames}
+use Rattle.octets.specs.Numbers.{numberAt}
 use Rattle.decimals.specs.Decimals.{numberOf}
 use Rattle.decimals.specs.declared.Number.{Number}
 use Rattle.decimals.specs.declared.Number.the-variants.{Is, Not}
@@ -50,6 +51,10 @@ addsOf a words = eqb words (firstName a + 3)
 -- a word that begins as an option does, and standard input
 unfoldable pub isOption : List ℕ → Bool
 isOption word = leb 2 (length word) && sames (take 2 word) (codes "--")
+
+-- whether a word begins with a dash, and is more than one
+unfoldable pub isDashed : List ℕ → Bool
+isDashed word = leb 2 (length word) && eqb (numberAt 1 word 0) 45
 
 unfoldable pub isDash : List ℕ → Bool
 isDash word = sames word (codes "-")

@@ -3,7 +3,7 @@
 ghost use mathlib.Core.Path.{_≡_};
 ghost use Prim.Native.Nat.{_≤_};
 ghost use Rattle.reports.specs.Choices.{Loads};
-ghost use Rattle.reports.specs.Options.{plainAsked, optionOf, firstName, fitsOf, addsOf, isDash as isDashOf, namesOf, threeOf};
+ghost use Rattle.reports.specs.Options.{plainAsked, optionOf, firstName, fitsOf, addsOf, isDash as isDashOf, namesOf, threeOf, isDashed};
 ghost use Rattle.texts.specs.Text.{told};
 ghost use Rattle.reports.specs.Texts.{stopOf, additionBy, restOf, refusedOf, summaryOf, warningOf, progressOf};
 use engine::Restored;
@@ -168,6 +168,16 @@ pub fn is_dash(word: &[u8]) -> bool
     ensures { λ r. ⌜ r ≡ isDashOf (now (word .entry)) ⌝ }
 {
     options::is_dash(word)
+}
+
+// Whether a word begins as an option of any program does: with a dash, and more behind it.
+pub fn is_dashed(word: &[u8]) -> bool
+    ensures { λ r. ⌜ r ≡ isDashed (now (word .entry)) ⌝ }
+{
+    if word.len() < 2 {
+        return false;
+    }
+    octets::get8(word, 0) == b'-'
 }
 
 // Whether two words may be the names of an image and a journal.

@@ -1,90 +1,87 @@
-use Prim.Native.Nat.{ℕ, _+_, _-_, _≤_, _<_}
-use mathlib.Core.Path.{_≡_, refl, sym, ap, _∙_}
+use mathlib.Core.Path.{_≡_, sym}
 use lib.ListN.{length}
+use lib.Seq.{length-take-le}
 use native.Mathlib.Omega.{arith}
 use borrow.Author.Needs.{needs}
+use borrow.Author.Tests.{not-false}
 use Rattle.show.proofs.files.show_file.Statement.{statement}
 use Rattle.show.proofs.files.show_file.Tie as tie
 use Rattle.show.proofs.files.show_file.Reads as reads
 use Rattle.show.proofs.files.show_file.Lts as lts
-use Rattle.io.proofs.count.Reads as count-reads
 use Rattle.io.proofs.large_buffer.Reads as large-buffer-reads
-use Rattle.libc.proofs.read.Reads as read-reads
+use Rattle.shell.proofs.next_line.Reads as next-line-reads
+use Rattle.shell.proofs.no_line.Reads as no-line-reads
 use Rattle.shell.proofs.progress.Reads as progress-reads
-use Rattle.show.proofs.files.pieces.Reads as pieces-reads
+use Rattle.show.proofs.files.given.Reads as given-reads
 use Rattle.show.proofs.files.rest.Reads as rest-reads
 
 abbrev Inv-loop : tie.InvT-loop
-Inv-loop words₀ fd name progress bad line₀ run₀ k₀ buf₀ left₀ words line run k buf left = length buf ≡ 65536
+Inv-loop words₀ fd name progress bad line₀ buf₀ feed₀ run₀ left₀ words line buf feed run left = length buf ≡ 65536
 
 abbrev μ-loop : tie.MeasureT-loop
-μ-loop words₀ fd name progress bad line₀ run₀ k₀ buf₀ left₀ words line run k buf left = left
+μ-loop words₀ fd name progress bad line₀ buf₀ feed₀ run₀ left₀ words line buf feed run left = left
 
--- src/files.rt:130:19
+-- src/files.rt:83:19
 large-buffer-requires : tie.Need-large-buffer-requires Inv-loop μ-loop
-large-buffer-requires c κs = tt
+large-buffer-requires c κs = search needs
 
--- src/files.rt:132:5
+-- src/files.rt:84:9
+no-line-requires : tie.Need-no-line-requires Inv-loop μ-loop
+no-line-requires c κs = search needs
+
+-- src/files.rt:91:5
 loop-holds : tie.Need-loop-holds Inv-loop μ-loop
 loop-holds c = search needs
 
--- src/files.rt:133:9
+-- src/files.rt:92:9
 sub-left : tie.Need-sub-left Inv-loop μ-loop
 sub-left c = omega arith
 
--- src/files.rt:134:44
-slice-aggregate-read : tie.Need-slice-aggregate-read Inv-loop μ-loop
-slice-aggregate-read c = search needs
+-- src/files.rt:93:41
+slice-aggregate-next-line : tie.Need-slice-aggregate-next-line Inv-loop μ-loop
+slice-aggregate-next-line c = search needs
 
--- src/files.rt:134:29
-read-requires : tie.Need-read-requires Inv-loop μ-loop
-read-requires c κs = search needs
+-- src/files.rt:93:13
+next-line-requires : tie.Need-next-line-requires Inv-loop μ-loop
+next-line-requires c κs = search needs
 
--- src/files.rt:134:55
-slice-aggregate-count : tie.Need-slice-aggregate-count Inv-loop μ-loop
-slice-aggregate-count c = search needs
-
--- src/files.rt:134:13
-count-requires : tie.Need-count-requires Inv-loop μ-loop
-count-requires c κs = search needs
-
--- src/files.rt:136:13
+-- src/files.rt:97:13
 rest-requires : tie.Need-rest-requires Inv-loop μ-loop
 rest-requires c κs = search needs
 
--- src/files.rt:137:13
+-- src/files.rt:98:13
 returns : tie.Need-returns Inv-loop μ-loop
 returns c = search needs
 
--- src/files.rt:140:35
-array-share-prefix-buf : tie.Need-array-share-prefix-buf Inv-loop μ-loop
-array-share-prefix-buf c = search needs
+-- src/files.rt:100:33
+array-share-prefix-line : tie.Need-array-share-prefix-line Inv-loop μ-loop
+array-share-prefix-line c = omega (arith, c .before .before .before .before .next-line .ensures .1 (not-false _ (c .before .if1 .left)), c .before .before .before .before .next-line .ensures .0)
 
--- src/files.rt:140:35
-slice-aggregate-pieces : tie.Need-slice-aggregate-pieces Inv-loop μ-loop
-slice-aggregate-pieces c = search needs
+-- src/files.rt:100:33
+slice-aggregate-given : tie.Need-slice-aggregate-given Inv-loop μ-loop
+slice-aggregate-given c = sym (length-take-le _ _ (omega (arith, c .before .before .before .before .before .next-line .ensures .1 (not-false _ (c .before .before .if1 .left)), c .before .before .before .before .before .next-line .ensures .0)))
 
--- src/files.rt:140:13
-pieces-requires : tie.Need-pieces-requires Inv-loop μ-loop
-pieces-requires c κs = search needs
+-- src/files.rt:100:13
+given-requires : tie.Need-given-requires Inv-loop μ-loop
+given-requires c κs = search needs
 
--- src/files.rt:144:9
+-- src/files.rt:101:9
 progress-requires : tie.Need-progress-requires Inv-loop μ-loop
 progress-requires c κs = search needs
 
--- src/files.rt:146:13
+-- src/files.rt:104:13
 returns-2 : tie.Need-returns-2 Inv-loop μ-loop
 returns-2 c = search needs
 
--- src/files.rt:132:5
+-- src/files.rt:91:5
 loop-less : tie.Need-loop-less Inv-loop μ-loop
 loop-less c = omega arith
 
--- src/files.rt:132:5
+-- src/files.rt:91:5
 loop-again : tie.Need-loop-again Inv-loop μ-loop
 loop-again c = search needs
 
--- src/files.rt:122:1
+-- src/files.rt:81:1
 returns-3 : tie.Need-returns-3 Inv-loop μ-loop
 returns-3 c = search needs
 
@@ -95,17 +92,16 @@ show-file-spec =
     Inv-loop
     μ-loop
     large-buffer-requires
+    no-line-requires
     loop-holds
     sub-left
-    slice-aggregate-read
-    read-requires
-    slice-aggregate-count
-    count-requires
+    slice-aggregate-next-line
+    next-line-requires
     rest-requires
     returns
-    array-share-prefix-buf
-    slice-aggregate-pieces
-    pieces-requires
+    array-share-prefix-line
+    slice-aggregate-given
+    given-requires
     progress-requires
     returns-2
     loop-less
