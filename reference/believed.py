@@ -12,11 +12,28 @@ import sys
 
 USE = re.compile(r"^use Rattle·(\w+)(?:·specs)?\.specs\.([\w.\-]+?)(?:\.\{([^}]*)\})?(?: as (\w+))?$", re.M)
 HEAD = re.compile(r"\s*(?:(?:unfoldable |abbrev )(?:pub )?\S+ ?(?:\{.*)?:|(?:pub )?(?:record|data) \w)")
+LAW = re.compile(r"(?!unfoldable |abbrev |(?:pub )?(?:record|data) )(?:pub )?[^\s(){}:]+(?: \{.*)? :(?: |$)")
 NAME = re.compile(r"\s*(?:unfoldable |abbrev )?(?:pub )?(?:record |data )?(\S+)")
+
+
+def has_laws(text):
+    """Whether something that is neither a definition nor a record or a data type is declared, at the top or in a module."""
+    level = 0
+    for line in text.split("\n"):
+        word = line.lstrip()
+        if not word or word.startswith("--") or len(line) - len(word) > level:
+            continue
+        level = len(line) - len(word)
+        if word.startswith("module "):
+            level += 2
+        elif LAW.match(word):
+            return True
+    return False
 
 
 def imports(text):
     found = {}
+    text = re.sub(r"\.\{\n([^}]*)\}", lambda m: ".{%s}" % " ".join(m.group(1).split()), text)
     for crate, module, names, alias in USE.findall(text):
         module = module.split(".")[0]
         if not names:

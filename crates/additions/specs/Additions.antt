@@ -1,5 +1,6 @@
--- What a text of additions does to a state. Document 02, T-12: "an A4 line is its starting number (4), prefix length and prefix"; an addition that was
--- accepted "must be given again, in the same order, before replay". The text has one a line, in that form. Definitions alone.
+-- What a text of additions does to a state. Document 02, T-12: "an A4 line is its starting number (4), prefix length
+-- and prefix"; an addition that was accepted "must be given again, in the same order, before replay". The text has
+-- one a line, in that form. Definitions alone.
 use Prim.Native.Nat.{ℕ, zero, suc, _+_, _*_, min}
 use mathlib.Core.Bool.{Bool, true, false, _&&_}
 use mathlib.Core.List.{List, [], _∷_}

@@ -1,5 +1,5 @@
 pub mod Additions
 pub mod Pieces
-pub mod Answers
-pub mod Texts
-pub mod Lines
+pub mod AnswersTurns
+pub mod TextsLaws
+pub mod LinesLaws

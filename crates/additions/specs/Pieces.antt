@@ -1,5 +1,6 @@
--- The text of additions read in pieces of any size: how the giving stands after each character. The line that has no LF yet is held in a room of
--- one character more than the longest line of an addition: of a longer one so much stays as makes it too long. Definitions alone.
+-- The text of additions read in pieces of any size: how the giving stands after each character. The line that has no
+-- LF yet is held in a room of one character more than the longest line of an addition: of a longer one so much stays
+-- as makes it too long. Definitions alone.
 use Prim.Native.Nat.{ℕ, _+_, min}
 use mathlib.Core.Bool.{Bool, true, false}
 use mathlib.Core.List.{List, [], _∷_}
@@ -48,7 +49,8 @@ placed g c = set (g .line) (heldIn (g .course .held)) c
 
 -- the line that an LF ends
 unfoldable pub ended : Standing → ℕ → Standing
-ended g c = given (g .state) (placed g c) (g .course .lines) (addLine (g .state) (take (heldIn (g .course .held) + 1) (placed g c)))
+ended g c = given (g .state) (placed g c) (g .course .lines)
+    (addLine (g .state) (take (heldIn (g .course .held) + 1) (placed g c)))
 
 -- any other character is held
 unfoldable pub longer : Standing → ℕ → Standing
@@ -56,7 +58,11 @@ longer g c =
     record {
       state = g .state;
       line = placed g c;
-      course = record { held = heldIn (heldIn (g .course .held) + 1); lines = g .course .lines; stop = g .course .stop };
+      course = record {
+        held = heldIn (heldIn (g .course .held) + 1);
+        lines = g .course .lines;
+        stop = g .course .stop;
+      };
     }
 
 -- one character more; after a refusal nothing is read

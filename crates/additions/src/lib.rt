@@ -1,6 +1,6 @@
-// Additions of editions of the prefix from a file (document 02, T-12): one a line, in the form of an A4 line. The file's octets come in pieces of
-// any size; each character goes behind those of its line, and a whole line is given to `engine::add`. The first that is refused stops.
-// Reading the file is the caller's.
+// Additions of editions of the prefix from a file (document 02, T-12): one a line, in the form of an A4 line. The
+// file's octets come in pieces of any size; each character goes behind those of its line, and a whole line is given
+// to `engine::add`. The first that is refused stops. Reading the file is the caller's.
 ghost use Prim.Native.Nat.{_+_, _≤_, min};
 ghost use mathlib.Core.Path.{_≡_};
 ghost use lib.ListN.{length};
@@ -13,8 +13,8 @@ use index::Whole;
 use refusals::Refusal;
 use refusals::Wrote;
 
-// How the giving of additions stands: the characters held of the line that has no LF yet, the lines accepted, and the refusal that stopped it,
-// if one did.
+// How the giving of additions stands: the characters held of the line that has no LF yet, the lines accepted, and the
+// refusal that stopped it, if one did.
 pub struct Course {
     pub held: usize,
     pub lines: u64,
@@ -82,8 +82,8 @@ fn give_octets(s: &mut [u8; Whole::SIZE], row: &[u8]) -> Wrote
     engine::add(s, number, &row[PREFIX_AT..])
 }
 
-// The addition of one line: refusal 4 where it is not in the form of an A4 line, then those of adding, 7, 15, 14, 13; they leave the block as
-// it came.
+// The addition of one line: refusal 4 where it is not in the form of an A4 line, then those of adding, 7, 15, 14, 13;
+// they leave the block as it came.
 pub fn give(s: &mut [u8; Whole::SIZE], line: &[u8]) -> Wrote
     ensures { λ r. ⌜ (r ≡ replyOf (addLine (now (s .entry)) (now (line .entry))))
         × (now (s .exit) ≡ stateAfter (now (s .entry)) (addLine (now (s .entry)) (now (line .entry)))) ⌝ }

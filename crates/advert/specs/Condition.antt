@@ -20,8 +20,8 @@ wellFormed kind condition =
     (pick (eqb kind 3) (irkForm condition)
     (pick (eqb kind 4) (addressForm condition) false)))
 
--- whether a packet matches a condition: by its advertisement or its scan response (document 02, T-06: "A condition matches if
--- either text does"), which is empty where it has none
+-- whether a packet matches a condition: by its advertisement or its scan response (document 02, T-06: "A condition
+-- matches if either text does"), which is empty where it has none
 unfoldable pub meets : (kind : ℕ) (condition : List ℕ) (addressType : ℕ) (address adv scan : List ℕ) → Bool
 meets kind condition addressType address adv scan =
     pick (eqb kind 1) (patternsMeet condition adv scan)

@@ -11,14 +11,18 @@ use lib.Dec.{leb, eqb}
 use lib.ListN.{length, take, getD}
 use lib.Seq.{length-take-le}
 use Rattle.laws.specs.Loops.{when}
-use Rattle.laws.specs.Tests.{pick, sames, sames-eq, sames-refl, and-left, and-right, cases-le, cases-eq}
+use Rattle.laws.specs.Tests.{pick, sames}
+use Rattle.laws.specs.TestsLaws.{sames-eq, sames-refl, and-left, and-right, cases-le, cases-eq}
 use Rattle.advert.specs.declared.Form.{Form}
 use Rattle.advert.specs.declared.Form.the-variants.{Good, Malformed, Unknown}
 use Rattle.advert.specs.Parts.{partsFrom, parts}
 use Rattle.advert.specs.Pattern.{patterns, patternsForm, patternsMeet, fills, extent}
-use Rattle.advert.specs.Uuid.{uuidForm, uuidMeets, uuid-cases, uuid-bounds, uuid-bad}
-use Rattle.advert.specs.Address.{addressForm, addressMeets, address-bounds}
-use Rattle.advert.specs.Irk.{irkForm, irkMeets, irk-bounds}
+use Rattle.advert.specs.Uuid.{uuidForm, uuidMeets}
+use Rattle.advert.specs.UuidLaws.{uuid-cases, uuid-bounds, uuid-bad}
+use Rattle.advert.specs.Address.{addressForm, addressMeets}
+use Rattle.advert.specs.AddressLaws.{address-bounds}
+use Rattle.advert.specs.Irk.{irkForm, irkMeets}
+use Rattle.advert.specs.IrkLaws.{irk-bounds}
 use Rattle.advert.specs.Condition.{wellFormed, meets, formOf, formStatus}
 
 -- the types of conditions

@@ -1,14 +1,22 @@
 -- Whether an advertisement meets a monitor's condition (document 01, Conditions).
 pub mod Parts
+pub mod PartsLaws
 pub mod Sections
+pub mod SectionsLaws
 pub mod Either
+pub mod EitherLaws
 pub mod Pattern
+pub mod PatternLaws
 pub mod Uuid
+pub mod UuidLaws
 pub mod Address
+pub mod AddressLaws
 pub mod Irk
+pub mod IrkLaws
 pub mod Condition
 pub mod Laws
 pub mod Cost
-pub mod CostMost
-pub mod Examples
-pub mod Keyed
+pub mod CostLaws
+pub mod CostMostLaws
+pub mod ExamplesLaws
+pub mod KeyedLaws

@@ -1,5 +1,6 @@
-// The cost of a match (document 02, T-08): patterns matched as in patterns.rt, with every comparison counted where it is made. It stands
-// beside that matcher, since a packet's path with the count costs more than a twentieth more (docs/PERFORMANCE.md, T-08).
+// The cost of a match (document 02, T-08): patterns matched as in patterns.rt, with every comparison counted where it
+// is made. It stands beside that matcher, since a packet's path with the count costs more than a twentieth more
+// (docs/PERFORMANCE.md, T-08).
 ghost use Prim.Native.Nat.{_+_, _≤_, _<_};
 ghost use mathlib.Core.Path.{_≡_};
 ghost use lib.ListN.{length};
@@ -16,8 +17,11 @@ fn some_cost<'a, 'b>(
     start: usize,
     octets: &'b [u8],
 ) -> super::Match
-    ensures { λ r. ⌜ (r .found ≡ some (holdsAt start (now (octets .entry))) (both t t (now (adv .entry)) (now (scan .entry))))
-        × (r .comparisons ≡ bothCost t t (octetsCost start (now (octets .entry))) (holdsAt start (now (octets .entry))) (now (adv .entry)) (now (scan .entry))) ⌝ }
+    ensures { λ r. ⌜
+        (r .found ≡ some (holdsAt start (now (octets .entry))) (both t t (now (adv .entry)) (now (scan .entry))))
+        × (r .comparisons
+        ≡ bothCost t t (octetsCost start (now (octets .entry))) (holdsAt start (now (octets .entry)))
+        (now (adv .entry)) (now (scan .entry))) ⌝ }
 {
     let mut second = false;
     let mut at = 0;

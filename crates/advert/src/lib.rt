@@ -184,8 +184,8 @@ fn well_formed(kind: u8, condition: &[u8]) -> bool
     false
 }
 
-// Whether a packet from that address with that advertisement and scan response matches a condition of that type. A packet without
-// a scan response has an empty one here.
+// Whether a packet from that address with that advertisement and scan response matches a condition of that type. A
+// packet without a scan response has an empty one here.
 pub fn match_packet<'a, 'b, 'c>(
     kind: u8,
     condition: &'b [u8],
@@ -194,7 +194,9 @@ pub fn match_packet<'a, 'b, 'c>(
     adv: &'a [u8],
     scan: &'a [u8],
 ) -> bool
-    ensures { λ r. ⌜ r ≡ meets kind (now (condition .entry)) «address_type» (now (address .entry)) (now (adv .entry)) (now (scan .entry)) ⌝ }
+    ensures { λ r. ⌜ r
+        ≡ meets kind (now (condition .entry)) «address_type» (now (address .entry)) (now (adv .entry))
+        (now (scan .entry)) ⌝ }
 {
     if kind == 1 {
         return patterns::patterns_meet(condition, adv, scan);
@@ -211,8 +213,8 @@ pub fn match_packet<'a, 'b, 'c>(
     false
 }
 
-// Whether either text matches some pattern of the condition. The count is the remainder by 2 to the 64th: no condition that is kept and
-// no packet comes near it.
+// Whether either text matches some pattern of the condition. The count is the remainder by 2 to the 64th: no
+// condition that is kept and no packet comes near it.
 pub fn match_cost<'a, 'b>(condition: &'b [u8], adv: &'a [u8], scan: &'a [u8]) -> Match
     ensures { λ r. ⌜ (r .found ≡ patternsMeet (now (condition .entry)) (now (adv .entry)) (now (scan .entry)))
         × (r .comparisons ≡ wrapped (matchCost (now (condition .entry)) (now (adv .entry)) (now (scan .entry)))) ⌝ }

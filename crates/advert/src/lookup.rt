@@ -1,6 +1,7 @@
-// The lookup of AD sections in a packet's two texts, the advertisement and the scan response (document 01, Conditions; document 02,
-// T-06). It hands back the part found, a part of whichever text holds it. Both texts stand at one lifetime, here and in every caller.
-// No other function of the project walks AD structures; the patterns of a condition have the same layout and use part_end.
+// The lookup of AD sections in a packet's two texts, the advertisement and the scan response (document 01,
+// Conditions; document 02, T-06). It hands back the part found, a part of whichever text holds it. Both texts stand
+// at one lifetime, here and in every caller. No other function of the project walks AD structures; the patterns of a
+// condition have the same layout and use part_end.
 ghost use Prim.Native.Nat.{_≤_};
 ghost use mathlib.Core.Path.{_≡_};
 ghost use mathlib.Core.Bool.{false};
@@ -95,8 +96,8 @@ pub(super) fn has_more(adv: &[u8], scan: &[u8], second: bool, at: usize) -> bool
 }
 
 // The lookup: the next section of AD type t or u, from its AD type octet on, a part of whichever text holds it, the
-// advertisement first. The place then stands after it. Where there is none the part is empty, and the place is left. Says how many AD
-// types were looked at.
+// advertisement first. The place then stands after it. Where there is none the part is empty, and the place is left.
+// Says how many AD types were looked at.
 pub(super) fn next_section<'a, 'b, 'c, 'd>(
     adv: &'a [u8],
     scan: &'a [u8],
@@ -107,7 +108,8 @@ pub(super) fn next_section<'a, 'b, 'c, 'd>(
     u: u8,
 ) -> &'a [u8]
     requires { ⌜ now at ≤ length (textOf (now second) (now adv) (now scan)) ⌝ }
-    ensures { λ r. ⌜ Handed t u (now (adv .entry)) (now (scan .entry)) (now (second .entry)) (now (at .entry)) (now (second .exit)) (now (at .exit)) (now (seen .exit)) (now r) ⌝ }
+    ensures { λ r. ⌜ Handed t u (now (adv .entry)) (now (scan .entry)) (now (second .entry)) (now (at .entry))
+        (now (second .exit)) (now (at .exit)) (now (seen .exit)) (now r) ⌝ }
 {
     let text = text_of(adv, scan, *second);
     let s = find_section(text, *at, t, u);

@@ -49,7 +49,8 @@ pub(super) fn compare(text: &[u8], at: usize, octets: &[u8]) -> Compared
 
 // Whether some section of AD type t, of either text, holds the octets at the start byte.
 fn some_holds<'a, 'b>(adv: &'a [u8], scan: &'a [u8], t: u8, start: usize, octets: &'b [u8]) -> bool
-    ensures { λ r. ⌜ r ≡ some (holdsAt start (now (octets .entry))) (both t t (now (adv .entry)) (now (scan .entry))) ⌝ }
+    ensures { λ r. ⌜ r
+        ≡ some (holdsAt start (now (octets .entry))) (both t t (now (adv .entry)) (now (scan .entry))) ⌝ }
 {
     let mut second = false;
     let mut at = 0;

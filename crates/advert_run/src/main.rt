@@ -1,8 +1,8 @@
 // Runs vectors for the form and the match of conditions. Standard input holds a vector a line, its fields in
 // hexadecimal with a blank between them: condition type, condition, address type, address, advertisement, scan
 // response. Other lines are passed over. For each vector a line is written: 0 well formed, 1 malformed, 2 unknown;
-// then, for a well-formed condition, 1 if the packet matches and 0 if not, and a dash for any other. The vectors
-// and their answers are made by vectors.py, an independent program written from documents 01 and 02; there each answer is
+// then, for a well-formed condition, 1 if the packet matches and 0 if not, and a dash for any other. The vectors and
+// their answers are made by vectors.py, an independent program written from documents 01 and 02; there each answer is
 // worked out by hand too, and the two are compared.
 ghost use Prim.Native.Nat.{_≤_};
 ghost use mathlib.Core.Path.{_≡_};

@@ -121,7 +121,8 @@ fn sub_word(t: &[u8; 256], a: u32, b: u32, c: u32, d: u32) -> u32
     column(p, q, u, v)
 }
 
-// The products of a column's octets with {02}, all four at once: what is above bit 7 of an octet is taken away before the bits move up.
+// The products of a column's octets with {02}, all four at once: what is above bit 7 of an octet is taken away before
+// the bits move up.
 fn double_word(w: u32) -> u32
     ensures { λ r. ⌜ octets r ≡ map xtimes (octets w) ⌝ }
 {

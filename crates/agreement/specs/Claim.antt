@@ -1,4 +1,5 @@
--- A call of a session, given to the twin's block. Document 02, T-07. Definitions alone; the theorem is `agree` of Proved.
+-- A call of a session, given to the twin's block. Document 02, T-07. Definitions alone; the theorem is `agree` of
+-- Proved.
 use Prim.Native.Nat.{ℕ}
 use mathlib.Core.List.{List}
 use Rattle.sessions.specs.Machine.{Outcome}

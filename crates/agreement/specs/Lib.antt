@@ -1,6 +1,7 @@
--- The slow twin over blocks, as the contracts of its calls cite it, gives the first engine's answers, refusals and images, call by call (document 02, T-07).
+-- The slow twin over blocks, as the contracts of its calls cite it, gives the first engine's answers, refusals and
+-- images, call by call (document 02, T-07).
 pub mod Claim
-pub mod Head
-pub mod Added
-pub mod Calls
+pub mod HeadLaws
+pub mod AddedLaws
+pub mod CallsLaws
 pub mod Proved

@@ -1,5 +1,5 @@
-// The service record as a picture (man/visits.1): the rows that are kept for it in a lent block, the search among them, and where a visit's
-// bar and the axis' marks stand, from their ticks.
+// The service record as a picture (man/visits.1): the rows that are kept for it in a lent block, the search among
+// them, and where a visit's bar and the axis' marks stand, from their ticks.
 ghost use Prim.Native.Nat.{_+_, _-_, _*_, _/_, _%_, _≤_, _<_};
 ghost use mathlib.Core.Path.{_≡_};
 ghost use mathlib.Core.Bool.{_&&_, _||_};
@@ -71,7 +71,8 @@ fn wide(from: u64, to: u64) -> u64
 
 // A row's bar on the axis of a span.
 pub fn bar(row: Row, span: u32) -> Drawn
-    ensures { λ r. ⌜ (r .x ≡ 190 + acrossOf (row .visit .tick) span) × (r .width ≡ wideOf (acrossOf (row .visit .tick) span) (acrossOf (row .tick) span)) ⌝ }
+    ensures { λ r. ⌜ (r .x ≡ 190 + acrossOf (row .visit .tick) span)
+        × (r .width ≡ wideOf (acrossOf (row .visit .tick) span) (acrossOf (row .tick) span)) ⌝ }
 {
     let v = row.visit;
     let from = across(v.tick, span);

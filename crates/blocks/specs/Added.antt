@@ -1,52 +1,16 @@
--- The added parameters of a monitor's row (document 02, T-13), read octet by octet: those of version 1 where Monitor_options is 0.
--- Assumes nothing.
-use Prim.Native.Nat.{ℕ, _+_, _<_}
-use mathlib.Core.Path.{_≡_, refl, sym, ap, _∙_}
-use mathlib.Core.Bool.{Bool, true, false}
+-- The added parameters of a monitor's row (document 02, T-13), read octet by octet: those of version 1 where
+-- Monitor_options is 0. Assumes nothing.
+use Prim.Native.Nat.{ℕ}
 use mathlib.Core.List.{List}
-use mathlib.Core.Option.{none, some}
-use native.Mathlib.Omega.{arith}
 use lib.Dec.{eqb}
-use lib.ListN.{take, drop, getD}
-use lib.Seq.{getD-take, getD-drop}
-use borrow.Author.Tests.{eq-eqb, ne-eqb}
-use Rattle.laws.specs.Tests.{pick, pick-true, pick-false}
-use Rattle.model.specs.Monitors.{missing, parametersOf, parameters, filtering}
-use Rattle.model.specs.Image.{extraIn, monitorFrom, monitorIn}
+use lib.ListN.{take, drop}
+use Rattle.laws.specs.Tests.{pick}
 use Rattle.model.specs.Layout.{extraAt, extraSize}
 
 -- the octets of the row, as they stand
 abbrev pub addedIn : List ℕ → List ℕ
 addedIn r = take extraSize (drop extraAt r)
 
-pub added-at : (r : List ℕ) (j : ℕ) → j < extraSize → getD (addedIn r) j 0 ≡ getD r (extraAt + j) 0
-added-at r j h = getD-take extraSize (drop extraAt r) j 0 h ∙ getD-drop extraAt r j 0
-
--- the parameters that hold for the row's monitor
-pub row-parameters : (r : List ℕ) → parameters (monitorIn r .1) ≡ pick (eqb (getD r extraAt 0) 0) missing (addedIn r)
-unfolding parameters monitorIn monitorFrom extraIn parametersOf pick
-row-parameters r = ap (λ (o : ℕ). parametersOf (pick (eqb o 0) none (some (addedIn r)))) (added-at r 0 (omega arith)) ∙ go (eqb (getD r extraAt 0) 0)
-  where
-    go : (t : Bool) → parametersOf (pick t none (some (addedIn r))) ≡ pick t missing (addedIn r)
-    go true = refl
-    go false = refl
-
 -- the report filtering that holds, from the octets of Monitor_options and of report filtering
 unfoldable pub filteringOf : ℕ → ℕ → ℕ
 filteringOf options bits = pick (eqb options 0) 6 bits
-
-pub row-filtering : (r : List ℕ) → filtering (parameters (monitorIn r .1)) ≡ filteringOf (getD r extraAt 0) (getD r (extraAt + 1) 0)
-unfolding filtering filteringOf missing pick
-row-filtering r = ap (λ (a : List ℕ). getD a 1 0) (row-parameters r) ∙ go (eqb (getD r extraAt 0) 0)
-  where
-    go : (t : Bool) → getD (pick t missing (addedIn r)) 1 0 ≡ pick t 6 (getD r (extraAt + 1) 0)
-    go true = refl
-    go false = added-at r 1 (omega arith)
-
-pub filtering-first : (options bits : ℕ) → options ≡ 0 → 6 ≡ filteringOf options bits
-unfolding filteringOf
-filtering-first options bits e = sym (pick-true 6 bits (eq-eqb options 0 e))
-
-pub filtering-second : (options bits : ℕ) → (options ≡ 0 → ⊥) → bits ≡ filteringOf options bits
-unfolding filteringOf
-filtering-second options bits n = sym (pick-false 6 bits (ne-eqb options 0 n))

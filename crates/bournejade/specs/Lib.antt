@@ -1,3 +1,4 @@
 -- What the calls of the library return and leave, in numbers.
-pub mod Numbered
+pub mod NumberedLaws
 pub mod Gives
+pub mod GivesLaws

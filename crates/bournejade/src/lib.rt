@@ -1,6 +1,7 @@
-// The library for firmware in C: the calls of document 01 on numbers and octets, for `rt staticlib bournejade`. The header
-// is include/bournejade.h. The state is the caller's block of 6,987 octets, lent to each call and changed in place; any octets in it are
-// met. Each call returns 0 or the refusal's number, and gives the counts of octets through the last parameters.
+// The library for firmware in C: the calls of document 01 on numbers and octets, for `rt staticlib bournejade`. The
+// header is include/bournejade.h. The state is the caller's block of 6,987 octets, lent to each call and changed in
+// place; any octets in it are met. Each call returns 0 or the refusal's number, and gives the counts of octets
+// through the last parameters.
 mod numbers;
 
 ghost use mathlib.Core.Path.{_≡_};
@@ -99,7 +100,9 @@ pub extern "C" fn bournejade_submit(
     out: &mut [u8],
     wrote: &mut usize,
 ) -> u8
-    ensures { λ r. ⌜ Gave (answer engine (length (now (out .entry))) (now (state .entry)) asOctets (now (frame .entry))) (now (state .entry)) (now (out .entry)) (now (state .exit)) (now (out .exit)) (now (wrote .exit)) r ⌝ }
+    ensures { λ r. ⌜ Gave
+        (answer engine (length (now (out .entry))) (now (state .entry)) asOctets (now (frame .entry)))
+        (now (state .entry)) (now (out .entry)) (now (state .exit)) (now (out .exit)) (now (wrote .exit)) r ⌝ }
 {
     let r = engine::submit(state, frame, out);
     numbers::told(r, wrote)
@@ -113,15 +116,16 @@ pub extern "C" fn bournejade_submit_line(
     out: &mut [u8],
     wrote: &mut usize,
 ) -> u8
-    ensures { λ r. ⌜ Gave (answer engine (length (now (out .entry))) (now (state .entry)) asText (now (line .entry))) (now (state .entry)) (now (out .entry)) (now (state .exit)) (now (out .exit)) (now (wrote .exit)) r ⌝ }
+    ensures { λ r. ⌜ Gave (answer engine (length (now (out .entry))) (now (state .entry)) asText (now (line .entry)))
+        (now (state .entry)) (now (out .entry)) (now (state .exit)) (now (out .exit)) (now (wrote .exit)) r ⌝ }
 {
     let r = engine::submit_line(state, line, out);
     numbers::told(r, wrote)
 }
 
-// Gives a frame as its line and counts it in the caller's sixteen rows of four 64-bit numbers each: packets, reports, ticks, signed RSSI sum.
-// The same result as without rows. Refusals, in this order: 7, 3 (also for a table that is not of sixteen rows), 4, 1, 2, 5, 6, 12; all
-// leave the rows as they came.
+// Gives a frame as its line and counts it in the caller's sixteen rows of four 64-bit numbers each: packets, reports,
+// ticks, signed RSSI sum. The same result as without rows. Refusals, in this order: 7, 3 (also for a table that is
+// not of sixteen rows), 4, 1, 2, 5, 6, 12; all leave the rows as they came.
 #[no_mangle]
 pub extern "C" fn bournejade_count_line(
     state: &mut [u8; Whole::SIZE],
@@ -130,7 +134,8 @@ pub extern "C" fn bournejade_count_line(
     wrote: &mut usize,
     rows: &mut [Row],
 ) -> u8
-    ensures { λ r. ⌜ Rowed (length (now (rows .entry))) (now (state .entry)) (now (line .entry)) (now (out .entry)) (now (rows .entry)) r (now (wrote .exit)) (now (rows .exit)) (now (state .exit)) (now (out .exit)) ⌝ }
+    ensures { λ r. ⌜ Rowed (length (now (rows .entry))) (now (state .entry)) (now (line .entry)) (now (out .entry))
+        (now (rows .entry)) r (now (wrote .exit)) (now (rows .exit)) (now (state .exit)) (now (out .exit)) ⌝ }
 {
     let a = month::count_line(state, line, out, rows);
     month::told(a, wrote)
@@ -143,8 +148,11 @@ pub extern "C" fn bournejade_add_edition(
     number: u32,
     prefix: &[u8],
 ) -> u8
-    ensures { λ r. ⌜ r ≡ numberOf (addWhole (now (state .entry)) (record { from = number; prefix = now (prefix .entry) })) ⌝ }
-    ensures { λ _. ⌜ now (state .exit) ≡ stateAfter (now (state .entry)) (addWhole (now (state .entry)) (record { from = number; prefix = now (prefix .entry) })) ⌝ }
+    ensures { λ r. ⌜ r
+        ≡ numberOf (addWhole (now (state .entry)) (record { from = number; prefix = now (prefix .entry) })) ⌝ }
+    ensures { λ _. ⌜ now (state .exit)
+        ≡ stateAfter (now (state .entry))
+        (addWhole (now (state .entry)) (record { from = number; prefix = now (prefix .entry) })) ⌝ }
 {
     let r = engine::add(state, number, prefix);
     numbers::answer_number(r)
@@ -155,7 +163,9 @@ pub extern "C" fn bournejade_add_edition(
 pub extern "C" fn bournejade_write_line(frame: &[u8], out: &mut [u8], wrote: &mut usize) -> u8
     ensures { λ r. ⌜ r ≡ numberIn (writeLine (now (frame .entry)) (length (now (out .entry)))) ⌝ }
     ensures { λ _. ⌜ now (wrote .exit) ≡ countIn (writeLine (now (frame .entry)) (length (now (out .entry)))) ⌝ }
-    ensures { λ _. ⌜ now (out .exit) ≡ afterWrite (writeLine (now (frame .entry)) (length (now (out .entry)))) (now (out .entry)) (textOf (now (frame .entry))) ⌝ }
+    ensures { λ _. ⌜ now (out .exit)
+        ≡ afterWrite (writeLine (now (frame .entry)) (length (now (out .entry)))) (now (out .entry))
+        (textOf (now (frame .entry))) ⌝ }
 {
     let r = lines::write_line(frame, out);
     numbers::told(r, wrote)
@@ -168,7 +178,8 @@ pub extern "C" fn bournejade_save(
     out: &mut [u8],
     wrote: &mut usize,
 ) -> u8
-    ensures { λ r. ⌜ Gave (image engine (length (now (out .entry))) (now (state .entry))) (now (state .entry)) (now (out .entry)) (now (state .entry)) (now (out .exit)) (now (wrote .exit)) r ⌝ }
+    ensures { λ r. ⌜ Gave (image engine (length (now (out .entry))) (now (state .entry))) (now (state .entry))
+        (now (out .entry)) (now (state .entry)) (now (out .exit)) (now (wrote .exit)) r ⌝ }
 {
     let r = engine::save(state, out);
     numbers::told(r, wrote)
@@ -184,8 +195,8 @@ pub extern "C" fn bournejade_restore(state: &mut [u8; Whole::SIZE], image: &[u8]
     numbers::load_number(answer)
 }
 
-// Replays the whole lines of a piece of journal into one output: 0 at the end of the last one, or the refusal that stopped it, how far
-// it read, how much it wrote.
+// Replays the whole lines of a piece of journal into one output: 0 at the end of the last one, or the refusal that
+// stopped it, how far it read, how much it wrote.
 #[no_mangle]
 pub extern "C" fn bournejade_replay(
     state: &mut [u8; Whole::SIZE],
@@ -194,7 +205,9 @@ pub extern "C" fn bournejade_replay(
     taken: &mut usize,
     wrote: &mut usize,
 ) -> u8
-    ensures { λ r. ⌜ Replayed (replayInto engine (length (now (out .entry))) (now (state .entry)) (now (journal .entry))) (now (out .entry)) (now (state .exit)) (now (out .exit)) (now (taken .exit)) (now (wrote .exit)) r ⌝ }
+    ensures { λ r. ⌜ Replayed
+        (replayInto engine (length (now (out .entry))) (now (state .entry)) (now (journal .entry))) (now (out .entry))
+        (now (state .exit)) (now (out .exit)) (now (taken .exit)) (now (wrote .exit)) r ⌝ }
 {
     let ran = engine::replay(state, journal, out);
     numbers::read_told(ran, taken, wrote)
@@ -210,14 +223,16 @@ pub extern "C" fn bournejade_replay_to(
     taken: &mut usize,
     wrote: &mut usize,
 ) -> u8
-    ensures { λ r. ⌜ Replayed (replayTo engine last (length (now (out .entry))) (now (state .entry)) (now (journal .entry))) (now (out .entry)) (now (state .exit)) (now (out .exit)) (now (taken .exit)) (now (wrote .exit)) r ⌝ }
+    ensures { λ r. ⌜ Replayed
+        (replayTo engine last (length (now (out .entry))) (now (state .entry)) (now (journal .entry)))
+        (now (out .entry)) (now (state .exit)) (now (out .exit)) (now (taken .exit)) (now (wrote .exit)) r ⌝ }
 {
     let ran = engine::replay_to(state, last, journal, out);
     numbers::read_told(ran, taken, wrote)
 }
 
-// Walks the events of an answer, or of what a replay wrote: the index behind the event that begins at an index, 0 where no whole event
-// begins there.
+// Walks the events of an answer, or of what a replay wrote: the index behind the event that begins at an index, 0
+// where no whole event begins there.
 #[no_mangle]
 pub extern "C" fn bournejade_event(answer: &[u8], at: usize) -> usize
     ensures { λ r. ⌜ r ≡ behind (now (answer .entry)) at ⌝ }
@@ -225,8 +240,8 @@ pub extern "C" fn bournejade_event(answer: &[u8], at: usize) -> usize
     walks::behind(answer, at)
 }
 
-// Matches a pattern condition, as command 03 gives it, against an advertisement and a scan response, empty where there is none: 1 or 0,
-// and how many comparisons it took.
+// Matches a pattern condition, as command 03 gives it, against an advertisement and a scan response, empty where
+// there is none: 1 or 0, and how many comparisons it took.
 #[no_mangle]
 pub extern "C" fn bournejade_match<'a, 'b, 'c>(
     condition: &'b [u8],
@@ -235,7 +250,8 @@ pub extern "C" fn bournejade_match<'a, 'b, 'c>(
     comparisons: &'c mut usize,
 ) -> u8
     ensures { λ r. ⌜ r ≡ pick (patternsMeet (now (condition .entry)) (now (adv .entry)) (now (scan .entry))) 1 0 ⌝ }
-    ensures { λ _. ⌜ now (comparisons .exit) ≡ wrapped (matchCost (now (condition .entry)) (now (adv .entry)) (now (scan .entry))) ⌝ }
+    ensures { λ _. ⌜ now (comparisons .exit)
+        ≡ wrapped (matchCost (now (condition .entry)) (now (adv .entry)) (now (scan .entry))) ⌝ }
 {
     let m = advert::match_cost(condition, adv, scan);
     *comparisons = m.comparisons;
@@ -245,8 +261,9 @@ pub extern "C" fn bournejade_match<'a, 'b, 'c>(
     0
 }
 
-// Which monitors watch a device, by its address type and address? Answers how many, and the lowest handle; 0 and 0 where there is none. It
-// reads the state's index alone and refuses nothing: of any octets the first of at most 64 entries for that device answers.
+// Which monitors watch a device, by its address type and address? Answers how many, and the lowest handle; 0 and 0
+// where there is none. It reads the state's index alone and refuses nothing: of any octets the first of at most 64
+// entries for that device answers.
 #[no_mangle]
 pub extern "C" fn bournejade_watchers(
     state: &[u8; Whole::SIZE],
@@ -254,8 +271,10 @@ pub extern "C" fn bournejade_watchers(
     address: &[u8; 6],
     lowest: &mut u32,
 ) -> u32
-    ensures { λ r. ⌜ r ≡ watchCount (watchOf (handlesOf (maskFor (device kind (now (address .entry))) (now (state .entry))))) ⌝ }
-    ensures { λ _. ⌜ now (lowest .exit) ≡ lowestIn (watchOf (handlesOf (maskFor (device kind (now (address .entry))) (now (state .entry))))) ⌝ }
+    ensures { λ r. ⌜ r
+        ≡ watchCount (watchOf (handlesOf (maskFor (device kind (now (address .entry))) (now (state .entry))))) ⌝ }
+    ensures { λ _. ⌜ now (lowest .exit)
+        ≡ lowestIn (watchOf (handlesOf (maskFor (device kind (now (address .entry))) (now (state .entry))))) ⌝ }
 {
     let w = index::ask(state, kind, address);
     numbers::watch_told(w, lowest)

@@ -1,4 +1,5 @@
-// What the library's calls return: the numbers of answers and refusals, and what they leave where the caller said (document 01, Refusal numbers).
+// What the library's calls return: the numbers of answers and refusals, and what they leave where the caller said
+// (document 01, Refusal numbers).
 ghost use mathlib.Core.Path.{_≡_};
 ghost use Rattle.sessions.specs.Session.{image};
 ghost use Rattle.index.specs.Asked.{countIn as watchCount, lowestIn};
@@ -48,7 +49,8 @@ fn stopped(s: Stop) -> u8
 
 // What a replay did: the number that is returned, how far it read, how much it wrote.
 pub(super) fn read_told(ran: Ran, taken: &mut usize, wrote: &mut usize) -> u8
-    ensures { λ n. ⌜ (n ≡ stopNumber (ran .stop)) × (now (taken .exit) ≡ ran .taken) × (now (wrote .exit) ≡ ran .wrote) ⌝ }
+    ensures { λ n. ⌜ (n ≡ stopNumber (ran .stop)) × (now (taken .exit) ≡ ran .taken)
+        × (now (wrote .exit) ≡ ran .wrote) ⌝ }
 {
     *taken = ran.taken;
     *wrote = ran.wrote;

@@ -1,5 +1,6 @@
--- A run with any number of failovers, over any engine that takes additions, and the claim that it is an unbroken session of the same calls.
--- Document 02, T-14; document 01, Sessions and failover. Definitions alone; the theorem is `unbroken` of Whole.
+-- A run with any number of failovers, over any engine that takes additions, and the claim that it is an unbroken
+-- session of the same calls. Document 02, T-14; document 01, Sessions and failover. Definitions alone; the theorem is
+-- `unbroken` of Whole.
 use mathlib.Core.Path.{_≡_}
 use mathlib.Core.Option.{Option, none, some}
 use mathlib.Core.List.{List, [], _∷_, _++_, map}
@@ -11,7 +12,8 @@ use Rattle.sessions.specs.Session.{give, save, since, image, linesOf}
 use Rattle.sessions.specs.Saved.{Enough, Replayed, cut}
 use Rattle.sessions.specs.Additions.{Growing, Act, call, adds, afterAct, walkOn, ranBy, traceOn, addedBy, addedOn, answersOn, Step, linesIn, addedIn, InTime, replayOn}
 
--- An image saved in the run: its octets; k, the frames executed when it was saved; and how many additions were accepted by then.
+-- An image saved in the run: its octets; k, the frames executed when it was saved; and how many additions were
+-- accepted by then.
 pub record Image : Type 0 where
   pub after : ℕ
   pub added : ℕ
@@ -23,8 +25,9 @@ numbered i [] = []
 numbered i (a ∷ l) = (suc i, a) ∷ numbered (suc i) l
 
 module _ (M : Machine) (G : Growing M) where
-  -- A move of a run: a call on the engine on duty (a frame given, a save, an addition); or a failover: restore of an image, then replay from
-  -- frame j of the lines of the journal, the additions given again among them, line i of it lent `lent i` octets.
+  -- A move of a run: a call on the engine on duty (a frame given, a save, an addition); or a failover: restore of an
+  -- image, then replay from frame j of the lines of the journal, the additions given again among them, line i of it
+  -- lent `lent i` octets.
   pub data Move : Type 0 where
     calls : Act M G → Move
     failover : Image → ℕ → List (Step M G) → (ℕ → ℕ) → Move
@@ -35,9 +38,9 @@ module _ (M : Machine) (G : Growing M) where
   callsOf (calls c ∷ moves) = c ∷ callsOf moves
   callsOf (failover x j p lent ∷ moves) = callsOf moves
 
-  -- Where a run stands: the state on duty; the frames executed so far (a frame that replay executes again is no new one); every answer given
-  -- so far with its frame's number, by a call or by a replay; the additions accepted so far (one given again is no new one); the images
-  -- saved so far.
+  -- Where a run stands: the state on duty; the frames executed so far (a frame that replay executes again is no new
+  -- one); every answer given so far with its frame's number, by a call or by a replay; the additions accepted so far
+  -- (one given again is no new one); the images saved so far.
   pub record Now : Type 0 where
     pub state : M .S
     pub frames : List (Line (M .Body))
@@ -70,8 +73,8 @@ module _ (M : Machine) (G : Growing M) where
         images = n .images ++ savedBy (length (n .frames)) (length (n .added)) (n .state) c;
       }
 
-  -- A failover: what was restored replays the journal and is on duty then. The answers of the replay are to the frames after the image's.
-  -- (Where restoring is refused nothing changes; `Unbroken` says that it never is.)
+  -- A failover: what was restored replays the journal and is on duty then. The answers of the replay are to the
+  -- frames after the image's. (Where restoring is refused nothing changes; `Unbroken` says that it never is.)
   unfoldable pub tookOver : Now → ℕ → Replayed (M .S) → Now
   tookOver n k r =
       record {
@@ -99,9 +102,10 @@ module _ (M : Machine) (G : Growing M) where
   unfoldable pub journalNow : Now → ℕ → List ℕ
   journalNow n j = linesOf M (since j (n .frames))
 
-  -- A failover that the request speaks of: of an image saved earlier in the run, before or after earlier failovers, with j from 1 to k + 1 of
-  -- the journal of all frames executed so far; the additions accepted after the image are given again, in order, each before the line of
-  -- the frame from which it holds; each line of the replay is lent enough.
+  -- A failover that the request speaks of: of an image saved earlier in the run, before or after earlier failovers,
+  -- with j from 1 to k + 1 of the journal of all frames executed so far; the additions accepted after the image are
+  -- given again, in order, each before the line of the frame from which it holds; each line of the replay is lent
+  -- enough.
   pub record May (n : Now) (x : Image) (j : ℕ) (p : List (Step M G)) (lent : ℕ → ℕ) : Type 0 where
     pub saved : In x (n .images)
     pub least : 1 ≤ j
@@ -122,15 +126,16 @@ module _ (M : Machine) (G : Growing M) where
     pub count : length ts ≡ length (n .frames)
     pub given : All (λ x. In x (n .given)) (numbered zero ts)
 
-  -- What a failover now would do: the image is restored, and the replay ends by no refusal and leaves the state on duty.
+  -- What a failover now would do: the image is restored, and the replay ends by no refusal and leaves the state on
+  -- duty.
   pub record Ready (n : Now) (x : Image) (p : List (Step M G)) (lent : ℕ → ℕ) : Type 0 where
     pub at : M .S
     pub restores : M .decode (x .octets) ≡ some at
     pub stop : replayOn M G lent at p .stop ≡ none
     pub state : replayOn M G lent at p .state ≡ n .state
 
-  -- The run that the moves make is the unbroken session of its calls: state, executed frames, accepted additions, and answers, whichever of
-  -- those given is taken for each frame; such a taking exists; and no failover is refused.
+  -- The run that the moves make is the unbroken session of its calls: state, executed frames, accepted additions, and
+  -- answers, whichever of those given is taken for each frame; such a taking exists; and no failover is refused.
   pub record Unbroken (fresh : M .S) (moves : List Move) : Type 0 where
     pub state : play (begun fresh) moves .state ≡ walkOn M G fresh (callsOf moves)
     pub frames : play (begun fresh) moves .frames ≡ map (λ e. e .line) (traceOn M G fresh (callsOf moves))

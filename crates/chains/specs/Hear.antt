@@ -1,6 +1,6 @@
 -- Events read from the octets of an answer, as a host reads them. Document 01, Watching, by history: "Event: 0xFF,
--- length, prefix, 0x02, address type, address, handle, 1 or 0". Definitions alone; that they read back what is written is
--- `reads-back` of Reads.
+-- length, prefix, 0x02, address type, address, handle, 1 or 0". Definitions alone; that they read back what is
+-- written is `reads-back` of Reads.
 use Prim.Native.Nat.{ℕ, zero, suc, _+_}
 use mathlib.Core.Bool.{Bool, _&&_}
 use mathlib.Core.List.{List, [], _∷_, _++_}
@@ -11,7 +11,8 @@ use Rattle.laws.specs.Loops.{when}
 use Rattle.model.specs.Radio.{radio}
 use Rattle.chains.specs.Told.{Event}
 
--- The parameters of an HCI event are those of a start or a stop: code 0xFF, the length, the prefix, 0x02, and last 1 or 0.
+-- The parameters of an HCI event are those of a start or a stop: code 0xFF, the length, the prefix, 0x02, and last 1
+-- or 0.
 unfoldable pub isEvent : List ℕ → ℕ → List ℕ → Bool
 isEvent prefix code body =
     eqb code 0xFF && (eqb (length body) (10 + length prefix) && (sames (take (length prefix) body) prefix

@@ -1,6 +1,6 @@
--- What the answers of a session tell of its pairs, against the history rule: which frames carry a start or a stop of a
--- pair, and that they take turns. Document 02, T-14; document 01, Watching, by history. Definitions alone, over any radio;
--- the theorem is `tells` of Turns.
+-- What the answers of a session tell of its pairs, against the history rule: which frames carry a start or a stop of
+-- a pair, and that they take turns. Document 02, T-14; document 01, Watching, by history. Definitions alone, over any
+-- radio; the theorem is `tells` of Turns.
 use Prim.Native.Nat.{ℕ, zero, suc, _<_}
 use mathlib.Core.Path.{_≡_}
 use mathlib.Core.Logic.{_⊎_, _↔_}
@@ -53,8 +53,8 @@ module _ (R : Radio) where
   Alternates [] = Unit {0}
   Alternates (x ∷ l) = (x ≡ not (going l)) × Alternates l
 
-  -- The tick that comes after the past completes 10 × interval ticks since the pair's last good packet, its latest start
-  -- being one, and the pair is under watch.
+  -- The tick that comes after the past completes 10 × interval ticks since the pair's last good packet, its latest
+  -- start being one, and the pair is under watch.
   pub record Due (past : List (Frame R)) (h : ℕ) (e : R .Dev) : Type 0 where
     pub mon : R .Mon
     pub age : ℕ
@@ -65,13 +65,13 @@ module _ (R : Radio) where
     pub under : UnderWatch R past h e
     pub full : suc (silent R mon e (take back past)) ≡ R .run mon
 
-  -- One answer, to the frame f after the past.
-  --   starts: it tells a start of a pair exactly where the rule has one.
-  --   stops: it tells a stop of a pair exactly where f is the tick that is due, neither sooner nor later, and none is left
-  --     out; or where f is the packet that displaces the pair, 64 being under watch (T-05).
+  -- One answer, to the frame f after the past. starts: it tells a start of a pair exactly where the rule has one.
+  -- stops: it tells a stop of a pair exactly where f is the tick that is due, neither sooner nor later, and none is
+  -- left out; or where f is the packet that displaces the pair, 64 being under watch (T-05).
   pub record Answer (f : Frame R) (xs : List (Event R)) (past : List (Frame R)) : Type 0 where
     pub starts : (h : ℕ) (e : R .Dev) → In (start h e) xs ↔ StartAt R (f ∷ past) zero h e
-    pub stops : (h : ℕ) (e : R .Dev) → In (stop h e) xs ↔ (((f ≡ tick) × Due past h e) ⊎ DisplacedAt R (f ∷ past) zero h e)
+    pub stops : (h : ℕ) (e : R .Dev) → In (stop h e) xs
+        ↔ (((f ≡ tick) × Due past h e) ⊎ DisplacedAt R (f ∷ past) zero h e)
 
   -- All answers, at every moment, i frames back.
   --   each: every answer tells what the rule says.

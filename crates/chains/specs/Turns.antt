@@ -10,20 +10,21 @@ use mathlib.Core.List.{List, [], _∷_, _++_, map}
 use lib.ListN.{length, take, drop}
 use lib.Dec.{eqb, ltb}
 use borrow.Author.Tests.{eqb-true}
-use Rattle.rule.specs.Base.{In, Distinct, each, push, both, and-true, none≢some, in-map, map-in, each-in, each-distinct}
+use Rattle.rule.specs.Base.{In, Distinct, each, push}
+use Rattle.rule.specs.BaseLaws.{both, and-true, none≢some, in-map, map-in, each-in, each-distinct}
 use Rattle.rule.specs.Radio.{Radio, Frame, add, cancel, packet, tick, other, HANDLES, CAP}
 use Rattle.rule.specs.Rule.{Life, dead, alive, older, life, UnderWatch}
 use Rattle.rule.specs.Engine.{find, Mons, Pair, key, keys, atTick, move, held, begins, started, turns, run, least, dropFirst, roomFor, newPair}
-use Rattle.rule.specs.Drops.{drop-in}
-use Rattle.rule.specs.Moves.{held-in, in-held, move-key, turns-once, Begins, begins-tells}
-use Rattle.rule.specs.Fits.{run-fits}
-use Rattle.history.specs.Live.{dead≢alive}
-use Rattle.history.specs.Old.{life-inv}
-use Rattle.history.specs.Held.{holds-agree}
-use Rattle.history.specs.Order.{holds}
+use Rattle.rule.specs.DropsLaws.{drop-in}
+use Rattle.rule.specs.MovesTurns.{held-in, in-held, move-key, turns-once, Begins, begins-tells}
+use Rattle.rule.specs.FitsLaws.{run-fits}
+use Rattle.history.specs.LiveLaws.{dead≢alive}
+use Rattle.history.specs.OldLaws.{life-inv}
+use Rattle.history.specs.HeldLaws.{holds-agree}
+use Rattle.history.specs.OrderLaws.{holds}
 use Rattle.chains.specs.Told.{Event, Told, framesOf, puts, eventsOf, going, Alternates, Answer, Tells}
-use Rattle.chains.specs.Core.{startOf, stopOf, firstOf, goesFor, turnSays, turnsSay, ended, stopsBy, says, toldBy}
-use Rattle.chains.specs.Answers.{answer}
+use Rattle.chains.specs.CoreLaws.{startOf, stopOf, firstOf, goesFor, turnSays, turnsSay, ended, stopsBy, says, toldBy}
+use Rattle.chains.specs.AnswersLaws.{answer}
 
 module _ (R : Radio) (h : ℕ) (e : R .Dev) where
   -- The pair q is (h, e).
@@ -55,7 +56,8 @@ module _ (R : Radio) (h : ℕ) (e : R .Dev) where
       go false ih = ih
 
   -- What a frame leaves was there.
-  held-was : (l : Mons R) (f : Frame R) (ps : List (Pair R)) → held R (each (move R l f) ps) h e ≡ true → held R ps h e ≡ true
+  held-was : (l : Mons R) (f : Frame R) (ps : List (Pair R)) → held R (each (move R l f) ps) h e ≡ true
+      → held R ps h e ≡ true
   held-was l f ps t =
       let i = held-in R (each (move R l f) ps) h e t in
       let r = map-in (key R) (each (move R l f) ps) (h, e) i in
@@ -93,7 +95,8 @@ module _ (R : Radio) (h : ℕ) (e : R .Dev) where
           → puts R h e (ended R o q ++ stopsBy R l ps) t
           ≡ cond ((b || held R ps h e) && not (held R (push o (each (move R l tick) ps)) h e)) (false ∷ t) t
       go none x true w ih =
-          ap (λ b. puts R h e (stopsBy R l ps) (cond b (false ∷ t) t)) w ∙ ih (false ∷ t) ∙ rw (alone q ps w (d .0), gone w)
+          ap (λ b. puts R h e (stopsBy R l ps) (cond b (false ∷ t) t)) w ∙ ih (false ∷ t)
+          ∙ rw (alone q ps w (d .0), gone w)
       go none x false w ih = ap (λ b. puts R h e (stopsBy R l ps) (cond b (false ∷ t) t)) w ∙ ih t
       go (some r) x true w ih = ih t ∙ rw (is-key q r (move-key R l tick q r x), w, alone q ps w (d .0))
       go (some r) x false w ih = rw (is-key q r (move-key R l tick q r x), w) (ih t)
@@ -107,7 +110,8 @@ module _ (R : Radio) (h : ℕ) (e : R .Dev) where
   puts-append (x ∷ xs) ys l = puts-append xs ys (cond (eqb (x .handle) h && R .same (x .device) e) (x .starts ∷ l) l)
 
   -- A pair that is not held is not told of.
-  puts-none : (k : ℕ) (ps : List (Pair R)) (l : List Bool) → held R ps h e ≡ false → puts R h e (map (stopOf R) (firstOf R k ps)) l ≡ l
+  puts-none : (k : ℕ) (ps : List (Pair R)) (l : List Bool) → held R ps h e ≡ false
+      → puts R h e (map (stopOf R) (firstOf R k ps)) l ≡ l
   puts-none k [] l n = refl
   puts-none k (q ∷ ps) l n = go (is q) refl n (eqb (q .3) k) (λ m. puts-none k ps l m)
     where
@@ -125,8 +129,10 @@ module _ (R : Radio) (h : ℕ) (e : R .Dev) where
   stop-stand k (q ∷ ps) l d s = go (eqb (q .3) k) (is q) refl s (λ t. stop-stand k ps l (d .1) t)
     where
       go : (c b : Bool) → is q ≡ b → Stand l (b || held R ps h e)
-          → (Stand l (held R ps h e) → Stand (puts R h e (map (stopOf R) (firstOf R k ps)) l) (held R (dropFirst R k ps) h e))
-          → Stand (puts R h e (map (stopOf R) (cond c (q ∷ []) (firstOf R k ps))) l) (held R (cond c ps (q ∷ dropFirst R k ps)) h e)
+          → (Stand l (held R ps h e)
+          → Stand (puts R h e (map (stopOf R) (firstOf R k ps)) l) (held R (dropFirst R k ps) h e))
+          → Stand (puts R h e (map (stopOf R) (cond c (q ∷ []) (firstOf R k ps))) l)
+          (held R (cond c ps (q ∷ dropFirst R k ps)) h e)
       go true true w t ih = rw (w, alone q ps w (d .0)) ((ap not (sym (t .1)), t .0), refl)
       go true false w t ih = rw w t
       go false true w t ih = rw (w, puts-none k ps l (alone q ps w (d .0))) t
@@ -137,7 +143,8 @@ module _ (R : Radio) (h : ℕ) (e : R .Dev) where
   or-false true = refl
   or-false false = refl
 
-  start-stand : (q : Pair R) (ps : List (Pair R)) (l : List Bool) → held R ps (q .0) (q .1) ≡ false → Stand l (held R ps h e)
+  start-stand : (q : Pair R) (ps : List (Pair R)) (l : List Bool) → held R ps (q .0) (q .1) ≡ false
+      → Stand l (held R ps h e)
       → Stand (puts R h e (startOf R q ∷ []) l) (held R (ps ++ (q ∷ [])) h e)
   start-stand q ps l n s = rw (held-append ps (q ∷ [])) (go (is q) refl)
     where
@@ -157,7 +164,9 @@ module _ (R : Radio) (h : ℕ) (e : R .Dev) where
   turn-stand (some m) p n ps l d s = go (begins R m p n ps) refl
     where
       full : Begins R m p n ps → (c : Bool)
-          → Stand (puts R h e (map (stopOf R) (cond c [] (firstOf R (least R (R .rssi p) ps) ps)) ++ (startOf R (newPair R p n) ∷ [])) l)
+          → Stand (puts R h e
+          (map (stopOf R) (cond c [] (firstOf R (least R (R .rssi p) ps) ps)) ++ (startOf R (newPair R p n) ∷ []))
+          l)
           (held R (cond c ps (dropFirst R (least R (R .rssi p) ps) ps) ++ (newPair R p n ∷ [])) h e)
       full b true = start-stand (newPair R p n) ps l (b .new) s
       full b false =
@@ -176,7 +185,9 @@ module _ (R : Radio) (h : ℕ) (e : R .Dev) where
               (rw (r .2) (in-map (key R) ps (r .0) (drop-in R k ps (r .0) (r .1))))))
 
       go : (b : Bool) → begins R m p n ps ≡ b
-          → Stand (puts R h e (map (stopOf R) (cond b (goesFor R (R .rssi p) ps) []) ++ map (startOf R) (cond b (newPair R p n ∷ []) [])) l)
+          → Stand (puts R h e
+          (map (stopOf R) (cond b (goesFor R (R .rssi p) ps) [])
+          ++ map (startOf R) (cond b (newPair R p n ∷ []) [])) l)
           (held R (cond b (roomFor R (R .rssi p) ps ++ (newPair R p n ∷ [])) ps) h e)
       go true t = full (begins-tells R m p n ps t) (ltb (length ps) CAP)
       go false t = s
@@ -186,20 +197,25 @@ module _ (R : Radio) (h : ℕ) (e : R .Dev) where
   turns-stand mons p zero ps l d s = s
   turns-stand mons p (suc n) ps l d s =
       rw (puts-append (turnsSay R mons p n ps) (turnSays R (find mons n) p n (turns R mons p n ps)) l)
-      (turn-stand (find mons n) p n (turns R mons p n ps) (puts R h e (turnsSay R mons p n ps) l) (turns-once R mons p n ps d)
+      (turn-stand (find mons n) p n (turns R mons p n ps) (puts R h e (turnsSay R mons p n ps) l)
+      (turns-once R mons p n ps d)
       (turns-stand mons p n ps l d s))
 
-  tick-stand : (l : List Bool) (c d : Bool) → Stand l c → (d ≡ true → c ≡ true) → Stand (cond (c && not d) (false ∷ l) l) d
+  tick-stand : (l : List Bool) (c d : Bool) → Stand l c → (d ≡ true → c ≡ true)
+      → Stand (cond (c && not d) (false ∷ l) l) d
   tick-stand l true true s n = s
   tick-stand l true false s n = ((ap not (sym (s .1)), s .0), refl)
   tick-stand l false true s n = absurd (false≢true (n refl))
   tick-stand l false false s n = s
 
-  one : (f : Frame R) (past : List (Frame R)) (m : R .Mon) (a : ℕ) (l : List Bool) → life R (f ∷ past) h ≡ alive m (suc a)
+  one : (f : Frame R) (past : List (Frame R)) (m : R .Mon) (a : ℕ) (l : List Bool)
+      → life R (f ∷ past) h ≡ alive m (suc a)
       → Stand l (held R (run R past .pairs) h e)
       → Stand (puts R h e (says R (run R past) f) l) (held R (run R (f ∷ past) .pairs) h e)
-  one (add n) past m a l q s = rw (held-kept (run R past .mons) (add n) (λ r w. absurd (none≢some (sym w))) (run R past .pairs)) s
-  one (cancel g) past m a l q s = rw (held-kept (run R past .mons) (cancel g) (λ r w. other-handle (eqb g h) refl q r w) (run R past .pairs)) s
+  one (add n) past m a l q s =
+      rw (held-kept (run R past .mons) (add n) (λ r w. absurd (none≢some (sym w))) (run R past .pairs)) s
+  one (cancel g) past m a l q s =
+      rw (held-kept (run R past .mons) (cancel g) (λ r w. other-handle (eqb g h) refl q r w) (run R past .pairs)) s
     where
       other-handle : (b : Bool) → eqb g h ≡ b → cond b dead (older R (life R past h)) ≡ alive m (suc a)
           → (r : Pair R) → cond (eqb g (r .0)) none (some r) ≡ none → eqb (r .0) h ≡ false
@@ -219,21 +235,26 @@ module _ (R : Radio) (h : ℕ) (e : R .Dev) where
       turns-stand (run R past .mons) p HANDLES base l once (subst (λ b. Stand l b) (sym kept) s)
   one tick past m a l q s =
       rw (puts-stops (run R past .mons) (run R past .pairs) l (run-fits R past .once))
-      (tick-stand l (held R (run R past .pairs) h e) (held R (each (move R (run R past .mons) tick) (run R past .pairs)) h e) s
+      (tick-stand l (held R (run R past .pairs) h e)
+      (held R (each (move R (run R past .mons) tick) (run R past .pairs)) h e) s
       (held-was (run R past .mons) tick (run R past .pairs)))
-  one other past m a l q s = rw (held-kept (run R past .mons) other (λ r w. absurd (none≢some (sym w))) (run R past .pairs)) s
+  one other past m a l q s =
+      rw (held-kept (run R past .mons) other (λ r w. absurd (none≢some (sym w))) (run R past .pairs)) s
 
   -- A monitor that was just added has no pair.
-  new-idle : (past : List (Frame R)) (m : R .Mon) → life R past h ≡ alive m zero → held R (run R past .pairs) h e ≡ false
+  new-idle : (past : List (Frame R)) (m : R .Mon) → life R past h ≡ alive m zero
+      → held R (run R past .pairs) h e ≡ false
   new-idle past m q = go (both (held R (run R past .pairs) h e))
     where
       age : (n : R .Mon) (a : ℕ) → _≡_ {A = Life R} (alive m zero) (alive n a) → zero ≡ a
       age n a w = cc
 
-      go : (held R (run R past .pairs) h e ≡ true) ⊎ (held R (run R past .pairs) h e ≡ false) → held R (run R past .pairs) h e ≡ false
+      go : (held R (run R past .pairs) h e ≡ true) ⊎ (held R (run R past .pairs) h e ≡ false)
+          → held R (run R past .pairs) h e ≡ false
       go (inr u) = u
       go (inl u) =
-          let w : UnderWatch R past h e = holds-agree R past (run R past .pairs) (holds R past) h e .0 (held-in R (run R past .pairs) h e u) in
+          let w : UnderWatch R past h e =
+          holds-agree R past (run R past .pairs) (holds R past) h e .0 (held-in R (run R past .pairs) h e u) in
           let z = age (w .mon) (w .age) (sym q ∙ w .live) in
           absurd (omega (arith, z, w .since))
 
@@ -271,8 +292,10 @@ module _ (R : Radio) where
         );
   }
     where
-      live : (i h : ℕ) (m : R .Mon) (a : ℕ) → life R (framesOf R (drop i (toldBy R past))) h ≡ alive m a → life R (drop i past) h ≡ alive m a
-      live i h m a q = subst (λ l. life R l h ≡ alive m a) (ap (framesOf R) (drop-told i past) ∙ frames-told (drop i past)) q
+      live : (i h : ℕ) (m : R .Mon) (a : ℕ) → life R (framesOf R (drop i (toldBy R past))) h ≡ alive m a
+          → life R (drop i past) h ≡ alive m a
+      live i h m a q =
+          subst (λ l. life R l h ≡ alive m a) (ap (framesOf R) (drop-told i past) ∙ frames-told (drop i past)) q
 
       newest : Told R → Type 0
       newest [] = Unit {0}

@@ -59,10 +59,11 @@ fn free_handle(s: &[u8]) -> usize
     State::MONITORS
 }
 
-// Writes A1's fields in a monitor's row, from the parameters of 03 or 0F, whose condition type stands at an index; zeros
-// up to the end of the condition's room.
+// Writes A1's fields in a monitor's row, from the parameters of 03 or 0F, whose condition type stands at an index;
+// zeros up to the end of the condition's room.
 fn put_fields(s: &mut [u8], row: usize, h: u8, params: &[u8], at: usize)
-    requires { ⌜ (row + monitorSize ≤ length (now s)) × (5 ≤ at) × (at < length (now params)) × (length (now params) ≤ at + 1 + mostCondition) ⌝ }
+    requires { ⌜ (row + monitorSize ≤ length (now s)) × (5 ≤ at) × (at < length (now params))
+        × (length (now params) ≤ at + 1 + mostCondition) ⌝ }
     ensures { λ _. ⌜ now (s .exit) ≡ put (now (s .entry)) row (fieldsOf h at (now (params .entry))) ⌝ }
 {
     let k = params.len() - at - 1;
@@ -87,7 +88,8 @@ fn put_added(s: &mut [u8], to: usize, params: &[u8], at: usize)
 // Writes the row of a monitor under a handle, from the parameters of 03 or 0F.
 fn put_monitor(s: &mut [u8], h: usize, params: &[u8], at: usize)
     requires { ⌜ (length (now s) ≡ blockSize) × (h < mostMonitors) × Enough at (now params) ⌝ }
-    ensures { λ _. ⌜ now (s .exit) ≡ put (now (s .entry)) (monitorsAt + monitorSize * h) (rowOf h (monitorOf (now (params .entry)))) ⌝ }
+    ensures { λ _. ⌜ now (s .exit)
+        ≡ put (now (s .entry)) (monitorsAt + monitorSize * h) (rowOf h (monitorOf (now (params .entry)))) ⌝ }
 {
     let row = State::MONITORS_AT + State::MONITOR_ROW * h;
     put_fields(s, row, h as u8, params, at);
@@ -174,7 +176,8 @@ fn read_features(s: &[u8], params: &[u8], out: &mut [u8]) -> usize
 
 // 03 and 0F: adds a monitor under the lowest handle not live.
 fn add_monitor(s: &mut [u8], params: &[u8], sub: u8, out: &mut [u8]) -> usize
-    requires { ⌜ (length (now s) ≡ blockSize) × (answerRoom ≤ length (now out)) × (sub ≡ subOf (now params)) × (addsBy sub ≡ true) ⌝ }
+    requires { ⌜ (length (now s) ≡ blockSize) × (answerRoom ≤ length (now out)) × (sub ≡ subOf (now params))
+        × (addsBy sub ≡ true) ⌝ }
     ensures { λ r. ⌜ Runs (now (params .entry)) (now (s .entry)) (now (s .exit)) (now (out .entry))
         (now (out .exit)) r ⌝ }
 {
@@ -245,12 +248,13 @@ fn execute(s: &mut [u8], params: &[u8], out: &mut [u8]) -> usize
 }
 
 // Executes the vendor command with these parameters, the first of them the sub-opcode: changes the block, writes the
-// Command Complete at the front of the output, and answers its length. Where the block is not of 5,225 octets or at the
-// last frame number, or the output has under 2,880 octets, nothing is done and the answer is 0. Of a block that is of no
-// sound state the contents, what is written and how much are free; the lengths stay, the answer is at most the output's
-// length, and the octets past it are as they were.
+// Command Complete at the front of the output, and answers its length. Where the block is not of 5,225 octets or at
+// the last frame number, or the output has under 2,880 octets, nothing is done and the answer is 0. Of a block that
+// is of no sound state the contents, what is written and how much are free; the lengths stay, the answer is at most
+// the output's length, and the octets past it are as they were.
 pub fn command(s: &mut [u8], params: &[u8], out: &mut [u8]) -> usize
-    ensures { λ r. ⌜ ((o : ℕ) → Taken (vendor o (now (params .entry))) true (now (s .entry)) (now (s .exit)) (now (out .entry))
+    ensures { λ r. ⌜
+        ((o : ℕ) → Taken (vendor o (now (params .entry))) true (now (s .entry)) (now (s .exit)) (now (out .entry))
         (now (out .exit)) r) ⌝ }
 {
     if !state::ready(s, out) {

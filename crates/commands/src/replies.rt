@@ -1,4 +1,5 @@
-// The answers to commands: Command Complete with status, sub-opcode and what the command returns (document 01, Commands).
+// The answers to commands: Command Complete with status, sub-opcode and what the command returns (document 01,
+// Commands).
 use state::State;
 ghost use Prim.Native.Nat.{_+_, _≤_};
 ghost use mathlib.Core.Path.{_≡_};

@@ -1,7 +1,8 @@
-// Runs vectors for the cost of a match (document 02, T-08). Standard input holds a vector a line, 129 octets in hexadecimal: the length
-// of a pattern condition and 64 octets, the length of an advertisement and 31 octets, the length of a scan response and 31 octets, each
-// padded with zeros. For each vector a line is written: 1 if the packet matches and 0 if not, and how many comparisons it took. Ends at a
-// line of another length. vectors.py makes the vectors and the answers from the independent implementation.
+// Runs vectors for the cost of a match (document 02, T-08). Standard input holds a vector a line, 129 octets in
+// hexadecimal: the length of a pattern condition and 64 octets, the length of an advertisement and 31 octets, the
+// length of a scan response and 31 octets, each padded with zeros. For each vector a line is written: 1 if the packet
+// matches and 0 if not, and how many comparisons it took. Ends at a line of another length. vectors.py makes the
+// vectors and the answers from the independent implementation.
 ghost use Prim.Native.Nat.{_≤_};
 ghost use mathlib.Core.Path.{_≡_};
 ghost use lib.ListN.{length};

@@ -1,7 +1,12 @@
 pub mod Room
+pub mod RoomLaws
 pub mod Causes
+pub mod CausesLaws
 pub mod Given
-pub mod Search
+pub mod GivenLaws
+pub mod SearchLaws
 pub mod Ticks
+pub mod TicksLaws
 pub mod Turns
 pub mod Frames
+pub mod FramesLaws

@@ -1,4 +1,5 @@
--- One handle's turn over a packet, and the loop over the handles: the rows that it adds. Document 02, T-09. Assumes nothing.
+-- One handle's turn over a packet, and the loop over the handles: the rows that it adds. Document 02, T-09. Assumes
+-- nothing.
 use Prim.Native.Nat.{ℕ, zero, suc, _+_, _-_, _*_, _/_, _%_, _≤_, _<_}
 use mathlib.Core.Path.{_≡_, refl, sym, ap, ap₂, _∙_}
 use mathlib.Core.Bool.{Bool, true, false, _&&_, _||_, not}
@@ -11,25 +12,31 @@ use lib.IntN.{subℕ}
 use lib.ListN.{length, take, drop, getD, set, length-map}
 use lib.Seq.{take-suc-set, take-all}
 use borrow.Author.Tests.{eq-eqb, ne-eqb, le-leb, lt-leb, lt-ltb, le-ltb}
-use Rattle.laws.specs.Tests.{pick, pick-true, pick-false, and-not-left, and-not-right, cases-eq, sames}
-use Rattle.laws.specs.Loops.{some as someOf, upTo, upTo-more}
+use Rattle.laws.specs.Tests.{pick, sames}
+use Rattle.laws.specs.TestsLaws.{pick-true, pick-false, and-not-left, and-not-right, cases-eq}
+use Rattle.laws.specs.Loops.{some as someOf, upTo}
+use Rattle.laws.specs.LoopsLaws.{upTo-more}
 use Rattle.rule.specs.Engine.{find}
 use Rattle.totals.specs.declared.Row.{Row}
 use Rattle.totals.specs.declared.Gain.{Gain}
 use Rattle.totals.specs.Table.{empty}
-use Rattle.totals.specs.Gains.{wideRow, wide-set}
+use Rattle.totals.specs.Gains.{wideRow}
+use Rattle.totals.specs.GainsLaws.{wide-set}
 use Rattle.model.specs.Types.{Model, Monitor, Packet, Pair, deviceOf, watched}
 use Rattle.model.specs.Level.{dBm, level}
 use Rattle.model.specs.Frames.{packet, packetOf, scanOf}
 use Rattle.model.specs.Watch.{holds, packetMove, wants}
 use Rattle.model.specs.Layout.{mostMonitors, mostPairs}
-use Rattle.marks.specs.Marks.{matched, opens, tells, allowed, keeps, mark, marks, getD-marks, mark-keeps}
-use Rattle.packets.specs.Changes.{reasonBy, wants-reason}
+use Rattle.marks.specs.Marks.{matched, opens, tells, allowed, keeps, mark, marks}
+use Rattle.marks.specs.MarksLaws.{getD-marks, mark-keeps}
+use Rattle.packets.specs.Changes.{reasonBy}
+use Rattle.packets.specs.ChangesLaws.{wants-reason}
 use Rattle.counts.specs.Given.{Given}
 use Rattle.months.specs.Counts.{one, ofHandle, matchedBy, matching, causes, reportsBy, reportsOf, packetsIn, reportsIn, ticksIn, sumIn, rowIn}
 use Rattle.months.specs.Tables.{tableOf}
 use Rattle.counts.specs.Room.{begun, leftOf, room, weak}
-use Rattle.counts.specs.Causes.{leftAt, startsAt, wanted, wantsFor, causes-by, left-more, mark-none}
+use Rattle.counts.specs.Causes.{leftAt, wanted, wantsFor}
+use Rattle.counts.specs.CausesLaws.{startsAt, causes-by, left-more, mark-none}
 
 -- the row that a packet adds to a handle that it matches
 unfoldable pub matchedRow : Bool → Packet → Row
@@ -54,7 +61,8 @@ unfolding pick
 left-no left e = rw e (omega arith)
 
 -- what a handle that the packet matches gains
-pub gain-made : (cause : Bool) (l : List ℕ) {n k : ℕ} → n ≡ pick cause (reportsOf (packetOf l)) 0 → k ≡ level (getD l (length l - 1) 0)
+pub gain-made : (cause : Bool) (l : List ℕ) {n k : ℕ} → n ≡ pick cause (reportsOf (packetOf l)) 0
+    → k ≡ level (getD l (length l - 1) 0)
     → wideRow (record { packets = 1; reports = n; ticks = 0; level = k }) ≡ matchedRow cause (packetOf l)
 unfolding wideRow matchedRow packetOf dBm
 gain-made cause l e f = λ i. record { packets = 1; reports = e i; ticks = 0; sum = subℕ (f i) 128 }
@@ -90,7 +98,8 @@ unfolding allowed
 allowed-by a t w e = rw e
 
 -- the turn of a handle
-module _ (m : Model) (p : Packet) (h : ℕ) (acts : List ℕ) (dev a : ℕ) (g : Given (m .mons) p acts dev) (low : h < mostMonitors)
+module _ (m : Model) (p : Packet) (h : ℕ) (acts : List ℕ) (dev a : ℕ) (g : Given (m .mons) p acts dev)
+    (low : h < mostMonitors)
     (o : a ≡ getD acts h 0) where
   pub octet-is : a ≡ mark (find (m .mons) h) p
   octet-is = o ∙ ap (λ (l : List ℕ). getD l h 0) (g .octets) ∙ getD-marks (m .mons) p h low
@@ -124,7 +133,8 @@ module _ (m : Model) (p : Packet) (h : ℕ) (acts : List ℕ) (dev a : ℕ) (g :
   unfolding wanted
   causes-none b =
       causes-by m p h low
-      ∙ ap₂ (λ (x y : Bool). x || (y && allowed (mark (find (m .mons) h) p))) (none-wanted (octet-zero b) (m .pairs)) (starts-none b)
+      ∙ ap₂ (λ (x y : Bool). x || (y && allowed (mark (find (m .mons) h) p))) (none-wanted (octet-zero b) (m .pairs))
+      (starts-none b)
 
   matching-is : matching m p h ≡ leb matched a
   unfolding matching keeps
@@ -137,7 +147,8 @@ module _ (m : Model) (p : Packet) (h : ℕ) (acts : List ℕ) (dev a : ℕ) (g :
   pub left-none : {left : ℕ} → a < matched → left ≡ leftAt m p h → left ≡ leftAt m p (h + 1)
   unfolding pick
   left-none {left} b e =
-      e ∙ minus-zero (leftAt m p h) ∙ ap (λ (t : Bool). leftAt m p h - pick t 1 0) (sym (starts-none b)) ∙ sym (left-more m p h)
+      e ∙ minus-zero (leftAt m p h) ∙ ap (λ (t : Bool). leftAt m p h - pick t 1 0) (sym (starts-none b))
+      ∙ sym (left-more m p h)
       ∙ ap (leftAt m p) (sym (add-one h))
     where
       minus-zero : (n : ℕ) → n ≡ n - pick false 1 0
@@ -145,7 +156,8 @@ module _ (m : Model) (p : Packet) (h : ℕ) (acts : List ℕ) (dev a : ℕ) (g :
 
   -- and one that does
   pub row-matched : {cause start : Bool} {left : ℕ} {r : Row} → matched ≤ a → left ≡ leftAt m p h
-      → start ≡ begun a (holds (m .pairs) h (deviceOf p)) left → cause ≡ (wanted m p h || (start && allowed a)) → r ≡ matchedRow cause p
+      → start ≡ begun a (holds (m .pairs) h (deviceOf p)) left → cause ≡ (wanted m p h || (start && allowed a))
+      → r ≡ matchedRow cause p
       → r ≡ rowIn m (packet p) h
   unfolding rowIn packetsIn reportsIn ticksIn sumIn one pick matchedRow startsAt
   row-matched {cause} {start} {left} {r} b l s c e =
@@ -155,7 +167,8 @@ module _ (m : Model) (p : Packet) (h : ℕ) (acts : List ℕ) (dev a : ℕ) (g :
       ∙ sym (causes-by m p h low) in
       e ∙ sym (rw (matching-is ∙ le-leb matched a b, sym x))
 
-  pub left-matched : {start : Bool} {left r : ℕ} → left ≡ leftAt m p h → start ≡ begun a (holds (m .pairs) h (deviceOf p)) left
+  pub left-matched : {start : Bool} {left r : ℕ} → left ≡ leftAt m p h
+      → start ≡ begun a (holds (m .pairs) h (deviceOf p)) left
       → r ≡ left - pick start 1 0 → r ≡ leftAt m p (h + 1)
   unfolding startsAt
   left-matched {start} {left} {r} l s e =
@@ -168,21 +181,25 @@ pub table-none : (f : ℕ → Row) (r : List Gain) → take 0 (map wideRow r) �
 unfolding tableOf upTo
 table-none f r = refl
 
-pub table-turn : (f : ℕ → Row) (h : ℕ) (r : List Gain) (x : Gain) → wideRow x ≡ f h → h < length r → take h (map wideRow r) ≡ tableOf f h
+pub table-turn : (f : ℕ → Row) (h : ℕ) (r : List Gain) (x : Gain) → wideRow x ≡ f h → h < length r
+    → take h (map wideRow r) ≡ tableOf f h
     → take (h + 1) (map wideRow (set r h x)) ≡ tableOf f (h + 1)
 unfolding tableOf
 table-turn f h r x i b e =
     let n : length (map wideRow r) ≡ length r = length-map r wideRow in
-    ap (take (h + 1)) (wide-set r h x) ∙ rw (i, upTo-more (λ j. f j ∷ []) h, ← e, add-one h) (take-suc-set (map wideRow r) h (f h) (omega arith))
+    ap (take (h + 1)) (wide-set r h x)
+    ∙ rw (i, upTo-more (λ j. f j ∷ []) h, ← e, add-one h) (take-suc-set (map wideRow r) h (f h) (omega arith))
 
-pub table-end : (f : ℕ → Row) (h : ℕ) (r : List Gain) → h ≡ mostMonitors → length r ≡ mostMonitors → take h (map wideRow r) ≡ tableOf f h
+pub table-end : (f : ℕ → Row) (h : ℕ) (r : List Gain) → h ≡ mostMonitors → length r ≡ mostMonitors
+    → take h (map wideRow r) ≡ tableOf f h
     → map wideRow r ≡ tableOf f mostMonitors
 table-end f h r e l q =
     let n : length (map wideRow r) ≡ length r = length-map r wideRow in
     sym (take-all mostMonitors (map wideRow r) (omega arith)) ∙ rw e at q
 
 -- the room before the first handle's turn
-pub room-first : (m : Model) (p : Packet) {n k : ℕ} → n ≡ length (m .pairs) → k ≡ weak (p .rssi) (map (packetMove (m .mons) p) (m .pairs))
+pub room-first : (m : Model) (p : Packet) {n k : ℕ} → n ≡ length (m .pairs)
+    → k ≡ weak (p .rssi) (map (packetMove (m .mons) p) (m .pairs))
     → mostPairs - n + k ≡ leftAt m p 0
 unfolding leftAt leftOf room
 room-first m p {n} {k} e f =

@@ -1,6 +1,8 @@
-// What a frame counts for each handle (document 02, T-09), from the block before it: sixteen gains to be added to the rows of a table. Nothing is
-// changed. A packet's starts are told without its turns: each takes one of the room, the free places and the pairs that keep a smaller RSSI.
+// What a frame counts for each handle (document 02, T-09), from the block before it: sixteen gains to be added to the
+// rows of a table. Nothing is changed. A packet's starts are told without its turns: each takes one of the room, the
+// free places and the pairs that keep a smaller RSSI.
 mod packet;
+mod reasons;
 mod tick;
 
 use state::State;
@@ -83,10 +85,13 @@ fn of_kind(s: &[u8], kind: u8, payload: &[u8]) -> [Gain; Row::TABLE]
     totals::no_gains()
 }
 
-// The sixteen gains that a frame as octets adds, from the core of a block before it. None where the core is not of 5,225 octets or the
-// frame has under 5; of a block that is of no sound state, or at the last frame number, they are free.
+// The sixteen gains that a frame as octets adds, from the core of a block before it. None where the core is not of
+// 5,225 octets or the frame has under 5; of a block that is of no sound state, or at the last frame number, they are
+// free.
 pub fn added_by(s: &[u8], frame: &[u8]) -> [Gain; Row::TABLE]
-    ensures { λ r. ⌜ ((m : Model) → soundModel m ≡ true → now (s .entry) ≡ padded m → m .position < lastNumber → 5 ≤ length (now (frame .entry)) → map wideRow r ≡ adds m (frameOf (now (frame .entry)) .body)) ⌝ }
+    ensures { λ r. ⌜
+        ((m : Model) → soundModel m ≡ true → now (s .entry) ≡ padded m → m .position < lastNumber
+        → 5 ≤ length (now (frame .entry)) → map wideRow r ≡ adds m (frameOf (now (frame .entry)) .body)) ⌝ }
 {
     if s.len() != State::SIZE {
         return totals::no_gains();

@@ -1,4 +1,5 @@
 // A packet's gains: the monitors are asked once (crate marks), and each handle that matches looks for its pair.
+use super::reasons;
 use state::State;
 use totals::Gain;
 use totals::Row;
@@ -6,11 +7,9 @@ ghost use Prim.Native.Nat.{ℕ, _+_, _-_, _*_, _≤_, _<_};
 ghost use mathlib.Core.Path.{_≡_};
 ghost use mathlib.Core.Bool.{true, _||_, _&&_};
 ghost use mathlib.Core.List.{List, map};
-ghost use lib.Dec.{ltb};
 ghost use lib.ListN.{length, getD};
 ghost use Rattle.laws.specs.Tests.{pick};
 ghost use Rattle.octets.specs.Little.{little};
-ghost use Rattle.octets.specs.Numbers.{numberAt};
 ghost use Rattle.totals.specs.Gains.{wideRow};
 ghost use Rattle.sessions.specs.Machine.{lastNumber};
 ghost use Rattle.model.specs.Types.{Model, Packet, deviceOf};
@@ -22,7 +21,6 @@ ghost use Rattle.model.specs.Block.{padded};
 ghost use Rattle.model.specs.Layout.{blockSize, mostMonitors, mostPairs, pairSize, pairsAt};
 ghost use Rattle.marks.specs.Fields.{Framed};
 ghost use Rattle.marks.specs.Marks.{allowed};
-ghost use Rattle.packets.specs.Changes.{alikeTo, reasonBy};
 ghost use Rattle.packets.specs.Moves.{AtPair, pairAt};
 ghost use Rattle.counts.specs.Given.{Given};
 ghost use Rattle.packets.specs.Starts.{Holding, Sought};
@@ -30,7 +28,7 @@ ghost use Rattle.months.specs.Counts.{one, reportsOf, rowIn};
 ghost use Rattle.months.specs.Tables.{tableOf};
 ghost use Rattle.counts.specs.Room.{begun, weak, weakOf};
 ghost use Rattle.counts.specs.Turns.{matchedRow};
-ghost use Rattle.counts.specs.Causes.{leftAt, metBy, wanted, wantsFor};
+ghost use Rattle.counts.specs.Causes.{leftAt, metBy, wanted};
 
 // A handle's gain, and what is left of the room for starts behind its turn.
 struct Turn {
@@ -38,94 +36,12 @@ struct Turn {
     left: usize,
 }
 
-// The key of pair i. It is read from its own part, so that its end need not be asked for.
-fn key_at(s: &[u8], i: usize) -> u64
-    requires { ⌜ (length (now s) ≡ blockSize) × (i < mostPairs) ⌝ }
-    ensures { λ r. ⌜ r ≡ numberAt 8 (now (s .entry)) (pairsAt + pairSize * i) ⌝ }
-{
-    let from = State::PAIRS_AT + State::PAIR_ROW * i;
-    let to = from + State::KEY;
-    octets::get64(&s[from..to], 0)
-}
-
-// Whether a pair with that key is among the n pairs held.
-fn is_held(s: &[u8], n: usize, key: u64) -> bool
-    requires { ⌜ (length (now s) ≡ blockSize) × (n ≤ mostPairs) ⌝ }
-    ensures { λ r. ⌜ ((m : Model) (p : Packet) (h : ℕ) → Holding m (now (s .entry)) n → Sought p h key → r ≡ holds (m .pairs) h (deviceOf p)) ⌝ }
-{
-    let mut i = 0;
-    while i < n {
-        if key_at(s, i) == key {
-            return true;
-        }
-        i += 1;
-    }
-    false
-}
-
-// Whether pair i keeps a packet with the event type and the data of this one.
-fn is_alike(s: &[u8], i: usize, payload: &[u8]) -> bool
-    requires { ⌜ (length (now s) ≡ blockSize) × (i < mostPairs) × Framed (now payload) ⌝ }
-    ensures { λ r. ⌜ ((m : Model) → AtPair m (now (s .entry)) i → r ≡ alikeTo (packetOf (now (payload .entry))) (pairAt m i)) ⌝ }
-{
-    let at = State::PAIRS_AT + State::PAIR_ROW * i;
-    if s[at + State::EVENT_AT] != payload[0] {
-        return false;
-    }
-    if s[at + State::LENGTH_AT] != payload[8] {
-        return false;
-    }
-    let n = octets::wide(payload[8]);
-    let from = at + State::DATA_AT;
-    let to = from + n;
-    let end = 9 + n;
-    parts::same(&s[from..to], &payload[9..end])
-}
-
-// Whether pair i, which is of the packet's device, is a reason for its report: at once, and where duplicates are filtered, if it is none.
-fn is_reason(s: &[u8], i: usize, a: u8, payload: &[u8]) -> bool
-    requires { ⌜ (length (now s) ≡ blockSize) × (i < mostPairs) × Framed (now payload) ⌝ }
-    ensures { λ r. ⌜ ((m : Model) → AtPair m (now (s .entry)) i → r ≡ reasonBy a (packetOf (now (payload .entry))) (pairAt m i)) ⌝ }
-{
-    if a / 8 % 2 != 1 {
-        return false;
-    }
-    if a / 16 % 2 != 1 {
-        return true;
-    }
-    !is_alike(s, i, payload)
-}
-
-// Whether pair i has that key and is a reason for the packet's report.
-fn is_own_reason(s: &[u8], i: usize, key: u64, a: u8, payload: &[u8]) -> bool
-    requires { ⌜ (length (now s) ≡ blockSize) × (i < mostPairs) × Framed (now payload) ⌝ }
-    ensures { λ r. ⌜ ((m : Model) (h dev : ℕ) (acts : List ℕ) → AtPair m (now (s .entry)) i → Given (m .mons) (packetOf (now (payload .entry))) acts dev → h < mostMonitors → key ≡ h + 256 * dev → a ≡ getD acts h 0 → r ≡ wantsFor m (packetOf (now (payload .entry))) h (pairAt m i)) ⌝ }
-{
-    if key_at(s, i) != key {
-        return false;
-    }
-    is_reason(s, i, a, payload)
-}
-
-// Whether a pair with that key is a reason for the packet's report.
-fn is_wanted(s: &[u8], n: usize, key: u64, a: u8, payload: &[u8]) -> bool
-    requires { ⌜ (length (now s) ≡ blockSize) × (n ≤ mostPairs) × Framed (now payload) ⌝ }
-    ensures { λ r. ⌜ ((m : Model) (h dev : ℕ) (acts : List ℕ) → Holding m (now (s .entry)) n → Given (m .mons) (packetOf (now (payload .entry))) acts dev → h < mostMonitors → key ≡ h + 256 * dev → a ≡ getD acts h 0 → r ≡ wanted m (packetOf (now (payload .entry))) h) ⌝ }
-{
-    let mut i = 0;
-    while i < n {
-        if is_own_reason(s, i, key, a, payload) {
-            return true;
-        }
-        i += 1;
-    }
-    false
-}
-
 // Whether the pair of that key is of the packet's device, and its handle matches.
 fn is_met(key: u64, acts: &[u8], dev: u64) -> bool
     requires { ⌜ length (now acts) ≡ mostMonitors ⌝ }
-    ensures { λ r. ⌜ ((m : Model) (p : Packet) (s : List ℕ) (i : ℕ) → AtPair m s i → Given (m .mons) p (now (acts .entry)) dev → key ≡ little 8 s (pairsAt + pairSize * i) → r ≡ metBy m p (pairAt m i)) ⌝ }
+    ensures { λ r. ⌜
+        ((m : Model) (p : Packet) (s : List ℕ) (i : ℕ) → AtPair m s i → Given (m .mons) p (now (acts .entry)) dev
+        → key ≡ little 8 s (pairsAt + pairSize * i) → r ≡ metBy m p (pairAt m i)) ⌝ }
 {
     if key / 256 != dev {
         return false;
@@ -137,13 +53,15 @@ fn is_met(key: u64, acts: &[u8], dev: u64) -> bool
     marks::MATCHED <= acts[h]
 }
 
-// Whether pair i keeps a smaller RSSI than the packet's, whose level is given, when the packet has been kept: a pair of its device whose handle
-// matches keeps that one.
+// Whether pair i keeps a smaller RSSI than the packet's, whose level is given, when the packet has been kept: a pair
+// of its device whose handle matches keeps that one.
 fn is_weak(s: &[u8], i: usize, acts: &[u8], dev: u64, least: u8) -> bool
     requires { ⌜ (length (now s) ≡ blockSize) × (i < mostPairs) × (length (now acts) ≡ mostMonitors) ⌝ }
-    ensures { λ r. ⌜ ((m : Model) (p : Packet) → AtPair m (now (s .entry)) i → Given (m .mons) p (now (acts .entry)) dev → least ≡ level (p .rssi) → r ≡ weakOf (p .rssi) (packetMove (m .mons) p (pairAt m i))) ⌝ }
+    ensures { λ r. ⌜
+        ((m : Model) (p : Packet) → AtPair m (now (s .entry)) i → Given (m .mons) p (now (acts .entry)) dev
+        → least ≡ level (p .rssi) → r ≡ weakOf (p .rssi) (packetMove (m .mons) p (pairAt m i))) ⌝ }
 {
-    let key = key_at(s, i);
+    let key = reasons::key_at(s, i);
     if is_met(key, acts, dev) {
         return false;
     }
@@ -153,7 +71,9 @@ fn is_weak(s: &[u8], i: usize, acts: &[u8], dev: u64, least: u8) -> bool
 // How many of the n pairs held keep a smaller RSSI, so.
 fn count_weak(s: &[u8], n: usize, acts: &[u8], dev: u64, least: u8) -> usize
     requires { ⌜ (length (now s) ≡ blockSize) × (n ≤ mostPairs) × (length (now acts) ≡ mostMonitors) ⌝ }
-    ensures { λ r. ⌜ (r ≤ n) × ((m : Model) (p : Packet) → Holding m (now (s .entry)) n → Given (m .mons) p (now (acts .entry)) dev → least ≡ level (p .rssi) → r ≡ weak (p .rssi) (map (packetMove (m .mons) p) (m .pairs))) ⌝ }
+    ensures { λ r. ⌜ (r ≤ n)
+        × ((m : Model) (p : Packet) → Holding m (now (s .entry)) n → Given (m .mons) p (now (acts .entry)) dev
+        → least ≡ level (p .rssi) → r ≡ weak (p .rssi) (map (packetMove (m .mons) p) (m .pairs))) ⌝ }
 {
     let mut k = 0;
     let mut i = 0;
@@ -207,7 +127,9 @@ fn gain_of(cause: bool, payload: &[u8]) -> Gain
 // Whether a handle starts a pair, by its octet and what is left of the room.
 fn is_start(s: &[u8], n: usize, key: u64, a: u8, left: usize) -> bool
     requires { ⌜ (length (now s) ≡ blockSize) × (n ≤ mostPairs) ⌝ }
-    ensures { λ r. ⌜ ((m : Model) (p : Packet) (h : ℕ) → Holding m (now (s .entry)) n → Sought p h key → r ≡ begun a (holds (m .pairs) h (deviceOf p)) left) ⌝ }
+    ensures { λ r. ⌜
+        ((m : Model) (p : Packet) (h : ℕ) → Holding m (now (s .entry)) n → Sought p h key
+        → r ≡ begun a (holds (m .pairs) h (deviceOf p)) left) ⌝ }
 {
     if a / 4 % 2 != 1 {
         return false;
@@ -215,15 +137,19 @@ fn is_start(s: &[u8], n: usize, key: u64, a: u8, left: usize) -> bool
     if left == 0 {
         return false;
     }
-    !is_held(s, n, key)
+    !reasons::is_held(s, n, key)
 }
 
-// Whether a handle is a reason for the packet's report: a pair of it, or its start where the report filtering lets it through.
+// Whether a handle is a reason for the packet's report: a pair of it, or its start where the report filtering lets it
+// through.
 fn is_cause(s: &[u8], n: usize, key: u64, a: u8, payload: &[u8], start: bool) -> bool
     requires { ⌜ (length (now s) ≡ blockSize) × (n ≤ mostPairs) × Framed (now payload) ⌝ }
-    ensures { λ r. ⌜ ((m : Model) (h dev : ℕ) (acts : List ℕ) → Holding m (now (s .entry)) n → Given (m .mons) (packetOf (now (payload .entry))) acts dev → h < mostMonitors → key ≡ h + 256 * dev → a ≡ getD acts h 0 → r ≡ (wanted m (packetOf (now (payload .entry))) h || (start && allowed a))) ⌝ }
+    ensures { λ r. ⌜
+        ((m : Model) (h dev : ℕ) (acts : List ℕ) → Holding m (now (s .entry)) n
+        → Given (m .mons) (packetOf (now (payload .entry))) acts dev → h < mostMonitors → key ≡ h + 256 * dev
+        → a ≡ getD acts h 0 → r ≡ (wanted m (packetOf (now (payload .entry))) h || (start && allowed a))) ⌝ }
 {
-    if is_wanted(s, n, key, a, payload) {
+    if reasons::is_wanted(s, n, key, a, payload) {
         return true;
     }
     start & (a / 32 % 2 == 1)
@@ -244,8 +170,14 @@ fn left_after(left: usize, start: bool) -> usize
 
 // One handle's turn, by its octet.
 fn turn_at(s: &[u8], n: usize, h: usize, a: u8, dev: u64, payload: &[u8], left: usize) -> Turn
-    requires { ⌜ (length (now s) ≡ blockSize) × (n ≤ mostPairs) × (h < mostMonitors) × (dev < 72057594037927936) × Framed (now payload) ⌝ }
-    ensures { λ r. ⌜ (r .left ≤ left) × ((m : Model) (acts : List ℕ) → Holding m (now (s .entry)) n → Given (m .mons) (packetOf (now (payload .entry))) acts dev → a ≡ getD acts h 0 → left ≡ leftAt m (packetOf (now (payload .entry))) h → (wideRow (r .gain) ≡ rowIn m (packetFrame (packetOf (now (payload .entry)))) h) × (r .left ≡ leftAt m (packetOf (now (payload .entry))) (h + 1))) ⌝ }
+    requires { ⌜ (length (now s) ≡ blockSize) × (n ≤ mostPairs) × (h < mostMonitors) × (dev < 72057594037927936)
+        × Framed (now payload) ⌝ }
+    ensures { λ r. ⌜ (r .left ≤ left)
+        × ((m : Model) (acts : List ℕ) → Holding m (now (s .entry)) n
+        → Given (m .mons) (packetOf (now (payload .entry))) acts dev → a ≡ getD acts h 0
+        → left ≡ leftAt m (packetOf (now (payload .entry))) h
+        → (wideRow (r .gain) ≡ rowIn m (packetFrame (packetOf (now (payload .entry)))) h)
+        × (r .left ≡ leftAt m (packetOf (now (payload .entry))) (h + 1))) ⌝ }
 {
     if a < marks::MATCHED {
         let none = totals::no_gain();
@@ -268,8 +200,13 @@ fn turn_all(
     payload: &[u8],
     room: usize,
 ) -> [Gain; Row::TABLE]
-    requires { ⌜ (length (now s) ≡ blockSize) × (n ≤ mostPairs) × (length (now acts) ≡ mostMonitors) × (dev < 72057594037927936) × Framed (now payload) ⌝ }
-    ensures { λ r. ⌜ ((m : Model) → Holding m (now (s .entry)) n → Given (m .mons) (packetOf (now (payload .entry))) (now (acts .entry)) dev → room ≡ leftAt m (packetOf (now (payload .entry))) 0 → map wideRow r ≡ tableOf (rowIn m (packetFrame (packetOf (now (payload .entry))))) mostMonitors) ⌝ }
+    requires { ⌜ (length (now s) ≡ blockSize) × (n ≤ mostPairs) × (length (now acts) ≡ mostMonitors)
+        × (dev < 72057594037927936) × Framed (now payload) ⌝ }
+    ensures { λ r. ⌜
+        ((m : Model) → Holding m (now (s .entry)) n
+        → Given (m .mons) (packetOf (now (payload .entry))) (now (acts .entry)) dev
+        → room ≡ leftAt m (packetOf (now (payload .entry))) 0
+        → map wideRow r ≡ tableOf (rowIn m (packetFrame (packetOf (now (payload .entry))))) mostMonitors) ⌝ }
 {
     let mut gains = totals::no_gains();
     let mut left = room;
@@ -287,7 +224,10 @@ fn turn_all(
 // The gains of a packet frame's payload on a block of the right length.
 pub(super) fn gains_of(s: &[u8], payload: &[u8]) -> [Gain; Row::TABLE]
     requires { ⌜ (length (now s) ≡ blockSize) × Framed (now payload) ⌝ }
-    ensures { λ r. ⌜ ((m : Model) → soundModel m ≡ true → now (s .entry) ≡ padded m → m .position < lastNumber → hasPacket (now (payload .entry)) ≡ true → map wideRow r ≡ tableOf (rowIn m (packetFrame (packetOf (now (payload .entry))))) mostMonitors) ⌝ }
+    ensures { λ r. ⌜
+        ((m : Model) → soundModel m ≡ true → now (s .entry) ≡ padded m → m .position < lastNumber
+        → hasPacket (now (payload .entry)) ≡ true
+        → map wideRow r ≡ tableOf (rowIn m (packetFrame (packetOf (now (payload .entry))))) mostMonitors) ⌝ }
 {
     let mut acts = [0u8; State::MONITORS];
     marks::mark_all(&mut acts, s, payload);

@@ -37,7 +37,8 @@ fn stays(silent: Ticks, run: Ticks) -> bool
 // Whether the watch of pair i goes on.
 fn goes_on(s: &[u8], i: usize) -> bool
     requires { ⌜ (length (now s) ≡ blockSize) × (i < mostPairs) ⌝ }
-    ensures { λ r. ⌜ ((m : Model) → AtPair m (now (s .entry)) i → r ≡ goesBy (find (m .mons) (pairAt m i .handle)) (pairAt m i)) ⌝ }
+    ensures { λ r. ⌜
+        ((m : Model) → AtPair m (now (s .entry)) i → r ≡ goesBy (find (m .mons) (pairAt m i .handle)) (pairAt m i)) ⌝ }
 {
     let at = State::PAIRS_AT + State::PAIR_ROW * i;
     let h = octets::wide(s[at]);
@@ -83,7 +84,9 @@ fn is_through(s: &[u8], h: usize, event: u8) -> bool
 // Whether the window of pair i closes with a report, if its watch goes on.
 fn says(s: &[u8], i: usize) -> bool
     requires { ⌜ (length (now s) ≡ blockSize) × (i < mostPairs) ⌝ }
-    ensures { λ r. ⌜ ((m : Model) → Known m (now (s .entry)) → AtPair m (now (s .entry)) i → r ≡ saysBy (m .filter) (find (m .mons) (pairAt m i .handle)) (pairAt m i)) ⌝ }
+    ensures { λ r. ⌜
+        ((m : Model) → Known m (now (s .entry)) → AtPair m (now (s .entry)) i
+        → r ≡ saysBy (m .filter) (find (m .mons) (pairAt m i .handle)) (pairAt m i)) ⌝ }
 {
     let at = State::PAIRS_AT + State::PAIR_ROW * i;
     let h = octets::wide(s[at]);
@@ -116,7 +119,8 @@ fn is_watched(s: &[u8], i: usize, h: usize) -> bool
 // Whether it is, and its window closes with a report.
 fn is_closed(s: &[u8], i: usize, h: usize) -> bool
     requires { ⌜ (length (now s) ≡ blockSize) × (i < mostPairs) ⌝ }
-    ensures { λ r. ⌜ ((m : Model) → Known m (now (s .entry)) → AtPair m (now (s .entry)) i → r ≡ closedFor m h (pairAt m i)) ⌝ }
+    ensures { λ r. ⌜
+        ((m : Model) → Known m (now (s .entry)) → AtPair m (now (s .entry)) i → r ≡ closedFor m h (pairAt m i)) ⌝ }
 {
     if !is_watched(s, i, h) {
         return false;
@@ -142,7 +146,8 @@ fn is_watching(s: &[u8], n: usize, h: usize) -> bool
 // How many windows of handle h close with a report.
 fn count_closed(s: &[u8], n: usize, h: usize) -> usize
     requires { ⌜ (length (now s) ≡ blockSize) × (n ≤ mostPairs) ⌝ }
-    ensures { λ r. ⌜ (r ≤ n) × ((m : Model) → Known m (now (s .entry)) → Holding m (now (s .entry)) n → r ≡ windows m h) ⌝ }
+    ensures { λ r. ⌜ (r ≤ n)
+        × ((m : Model) → Known m (now (s .entry)) → Holding m (now (s .entry)) n → r ≡ windows m h) ⌝ }
 {
     let mut k = 0;
     let mut i = 0;
@@ -157,7 +162,8 @@ fn count_closed(s: &[u8], n: usize, h: usize) -> usize
 // What a tick adds to handle h.
 fn gain_at(s: &[u8], n: usize, h: usize) -> Gain
     requires { ⌜ (length (now s) ≡ blockSize) × (n ≤ mostPairs) ⌝ }
-    ensures { λ r. ⌜ ((m : Model) → Known m (now (s .entry)) → Holding m (now (s .entry)) n → wideRow r ≡ rowIn m aTick h) ⌝ }
+    ensures { λ r. ⌜
+        ((m : Model) → Known m (now (s .entry)) → Holding m (now (s .entry)) n → wideRow r ≡ rowIn m aTick h) ⌝ }
 {
     let reports = count_closed(s, n, h) as u8;
     let w = is_watching(s, n, h);
@@ -173,7 +179,9 @@ fn gain_at(s: &[u8], n: usize, h: usize) -> Gain
 // The gains of a tick on a block of the right length.
 pub(super) fn gains_of(s: &[u8]) -> [Gain; Row::TABLE]
     requires { ⌜ length (now s) ≡ blockSize ⌝ }
-    ensures { λ r. ⌜ ((m : Model) → soundModel m ≡ true → now (s .entry) ≡ padded m → map wideRow r ≡ tableOf (rowIn m aTick) mostMonitors) ⌝ }
+    ensures { λ r. ⌜
+        ((m : Model) → soundModel m ≡ true → now (s .entry) ≡ padded m
+        → map wideRow r ≡ tableOf (rowIn m aTick) mostMonitors) ⌝ }
 {
     let n = octets::at_most(s[State::COUNT_AT], State::PAIRS);
     let mut gains = totals::no_gains();

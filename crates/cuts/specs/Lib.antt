@@ -1,5 +1,7 @@
-pub mod Bounds
-pub mod Journal
+pub mod BoundsLaws
+pub mod JournalLaws
 pub mod Cut
-pub mod Joins
+pub mod CutLaws
+pub mod JoinsLaws
 pub mod Calls
+pub mod CallsLaws

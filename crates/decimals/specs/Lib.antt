@@ -1,4 +1,4 @@
 -- Numbers in decimal, and the laws of writing and reading them.
 pub mod Decimals
-pub mod Writing
-pub mod Reading
+pub mod WritingTurns
+pub mod ReadingLaws

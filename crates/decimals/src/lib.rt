@@ -1,4 +1,5 @@
-// Numbers in decimal: written with no zero in front, and read (document 01, A session in full: "the refusal number in decimal").
+// Numbers in decimal: written with no zero in front, and read (document 01, A session in full: "the refusal number in
+// decimal").
 ghost use Prim.Native.Nat.{_+_, _-_, _*_, _/_, _%_, _≤_, _<_};
 ghost use mathlib.Core.Path.{_≡_};
 ghost use lib.ListN.{length};
@@ -46,10 +47,11 @@ fn put_digits(text: &mut [u8], n: u64, k: usize) -> usize
     e + 1
 }
 
-// Writes the last k + 1 digits of a number at the text's start, no zero in front: nothing where the text has no room for so many. How many
-// were written.
+// Writes the last k + 1 digits of a number at the text's start, no zero in front: nothing where the text has no room
+// for so many. How many were written.
 pub fn write(text: &mut [u8], n: u64, k: usize) -> usize
-    ensures { λ r. ⌜ (r ≡ length (writtenIn k n (length (now (text .entry))))) × (now (text .exit) ≡ put (now (text .entry)) 0 (writtenIn k n (length (now (text .entry))))) ⌝ }
+    ensures { λ r. ⌜ (r ≡ length (writtenIn k n (length (now (text .entry)))))
+        × (now (text .exit) ≡ put (now (text .entry)) 0 (writtenIn k n (length (now (text .entry))))) ⌝ }
 {
     if k < text.len() {
         return put_digits(text, n, k);

@@ -1,5 +1,5 @@
-// What the program of the service desk is asked and says: a device's address as people write it, its type, and which monitors watch it, in
-// words (document 02, T-02).
+// What the program of the service desk is asked and says: a device's address as people write it, its type, and which
+// monitors watch it, in words (document 02, T-02).
 use index::Watch;
 use texts::Text;
 use texts::words;
@@ -85,7 +85,8 @@ fn is_address(text: &[u8]) -> bool
     (text.len() == LONG) & first & middle & last
 }
 
-// The address that a text is, as people write it: the most significant octet first. Of a text that is none the octets say nothing.
+// The address that a text is, as people write it: the most significant octet first. Of a text that is none the octets
+// say nothing.
 pub fn address_of(text: &[u8]) -> Address
     ensures { λ r. ⌜ (r .good ≡ isAddress (now (text .entry))) × (r .octets ≡ addressIn (now (text .entry))) ⌝ }
 {

@@ -1,6 +1,7 @@
--- Editions of the event prefix. Document 02, T-12: "Keep up to 32 editions of the prefix, each with the frame number from which it holds, strictly
--- rising, the first 0. A frame uses the edition with the greatest starting number not above its own." The state is the core of document 01 with
--- the editions beside it; the core's prefix is the edition in force at its position, as A0 carries it. Definitions alone.
+-- Editions of the event prefix. Document 02, T-12: "Keep up to 32 editions of the prefix, each with the frame number
+-- from which it holds, strictly rising, the first 0. A frame uses the edition with the greatest starting number not
+-- above its own." The state is the core of document 01 with the editions beside it; the core's prefix is the edition
+-- in force at its position, as A0 carries it. Definitions alone.
 use Prim.Native.Nat.{ℕ, suc, _+_}
 use mathlib.Core.Bool.{Bool, true, false, _&&_, _||_, not}
 use mathlib.Core.List.{List, [], _∷_, _++_, map}
@@ -37,7 +38,14 @@ pub record Gateway : Type 0 where
 
 unfoldable pub withPrefix : Model → List ℕ → Model
 withPrefix m p =
-    record { position = m .position; filter = m .filter; opcode = m .opcode; prefix = p; mons = m .mons; pairs = m .pairs }
+    record {
+      position = m .position;
+      filter = m .filter;
+      opcode = m .opcode;
+      prefix = p;
+      mons = m .mons;
+      pairs = m .pairs;
+    }
 
 -- the prefix for frame n: that of the last of the rising editions with a number not above n, p where there is none
 unfoldable pub inForce : List ℕ → ℕ → List Edition → List ℕ
@@ -58,12 +66,14 @@ soundEdition e = leb (e .from) lastNumber && octetsUpTo mostPrefix (e .prefix)
 
 unfoldable pub soundEditions : List Edition → Bool
 soundEditions [] = false
-soundEditions (e ∷ es) = eqb (e .from) 0 && rising 0 es && leb (length (e ∷ es)) mostEditions && every soundEdition (e ∷ es)
+soundEditions (e ∷ es) =
+    eqb (e .from) 0 && rising 0 es && leb (length (e ∷ es)) mostEditions && every soundEdition (e ∷ es)
 
 -- the core sound, the editions sound, and the core's prefix the edition in force at its position
 unfoldable pub soundGateway : Gateway → Bool
 soundGateway g =
-    soundModel (g .core) && soundEditions (g .editions) && sames (g .core .prefix) (prefixFor (g .core .position) (g .editions))
+    soundModel (g .core) && soundEditions (g .editions)
+    && sames (g .core .prefix) (prefixFor (g .core .position) (g .editions))
 
 -- a fresh state: its settings' prefix is the edition from 0 on
 unfoldable pub freshOn : ℕ → List ℕ → Gateway

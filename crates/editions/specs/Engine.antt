@@ -1,4 +1,5 @@
--- The engine with editions, as a machine of the crate sessions, and what is added to it. Document 02, T-12. Definitions alone.
+-- The engine with editions, as a machine of the crate sessions, and what is added to it. Document 02, T-12.
+-- Definitions alone.
 use Prim.Native.Nat.{ℕ, _≤_}
 use mathlib.Core.Path.{_≡_}
 use mathlib.Core.Bool.{true}

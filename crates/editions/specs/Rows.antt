@@ -1,47 +1,21 @@
--- Document 02, T-12, both sides of each edge, as rows that the checker computes: frames and additions one after another, what each is answered, and
--- the image's lines at the end. The expected octets follow from the documents by hand. Assumes nothing.
+-- Document 02, T-12, both sides of each edge, as rows that the checker computes: frames and additions one after
+-- another, what each is answered, and the image's lines at the end. The expected octets follow from the documents by
+-- hand. Assumes nothing.
 use Prim.Native.Nat.{ℕ, zero, suc, _+_}
-use mathlib.Core.Path.{_≡_, refl}
-use mathlib.Core.Bool.{Bool, true, false, _&&_}
 use mathlib.Core.List.{List, [], _∷_, _++_}
 use lib.ListN.{replicate, length}
-use Rattle.laws.specs.Loops.{every}
-use Rattle.sessions.specs.Machine.{Outcome, octets, answerRoom}
-use Rattle.sessions.specs.Session.{answer, stateAfter}
-use Rattle.model.specs.Rows.{Reply, wrote, refusal, replyOf, same, imaged, cmd, tck}
-use Rattle.editions.specs.Editions.{Edition, Gateway, freshOn, addEdition, imageOn}
-use Rattle.editions.specs.Engine.{gateways}
+use Rattle.model.specs.Rows.{Reply, wrote, refusal, cmd, tck}
 
 -- a frame as octets, or an addition: its number and prefix
 pub data Given : Type 0 where
   frame : List ℕ → Given
   add : ℕ → List ℕ → Given
 
-unfoldable pub outcome : Gateway → Given → Outcome Gateway
-outcome g (frame f) = answer gateways answerRoom g octets f
-outcome g (add n p) = addEdition g (record { from = n; prefix = p })
-
-unfoldable pub answeredBy : Gateway → List Given → List Reply → Bool
-answeredBy g [] [] = true
-answeredBy g [] (r ∷ rs) = false
-answeredBy g (x ∷ xs) [] = false
-answeredBy g (x ∷ xs) (r ∷ rs) = same (replyOf (outcome g x)) r && answeredBy (stateAfter g (outcome g x)) xs rs
-
-unfoldable pub reachedBy : Gateway → List Given → Gateway
-reachedBy g [] = g
-reachedBy g (x ∷ xs) = reachedBy (stateAfter g (outcome g x)) xs
-
 -- a row, and the state that it begins with: opcode 0xFC1E, prefix 4D 53
 pub record Row : Type 0 where
   pub given : List Given
   pub replies : List Reply
   pub image : List (List ℕ)
-
-unfoldable pub begun : Gateway
-begun = freshOn 0xFC1E (0x4D ∷ 0x53 ∷ [])
-
-unfoldable pub holds : Row → Bool
-holds r = answeredBy begun (r .given) (r .replies) && imaged (r .image) (imageOn (reachedBy begun (r .given)))
 
 -- done, with nothing written; what 00 returns with a prefix
 unfoldable pub ok : Reply
@@ -53,22 +27,27 @@ says p = wrote (0x0E ∷ (14 + length p) ∷ 0x01 ∷ 0x1E ∷ 0xFC ∷ 0 ∷ 0 
 unfoldable pub asks : ℕ → Given
 asks n = frame (cmd n (0x00 ∷ []))
 
--- a number equal to the position and one above; equal to the last edition's and one above; a refusal changes nothing: A4 lines in order
+-- a number equal to the position and one above; equal to the last edition's and one above; a refusal changes nothing:
+-- A4 lines in order
 unfoldable pub t12numbers : Row
 t12numbers =
     record {
       given = add 0 [] ∷ frame (tck 1) ∷ frame (tck 2) ∷ add 2 [] ∷ add 3 (0x41 ∷ []) ∷ add 3 [] ∷ add 4 [] ∷ [];
       replies = refusal 14 ∷ ok ∷ ok ∷ refusal 14 ∷ ok ∷ refusal 14 ∷ ok ∷ [];
-      image = (0xA0 ∷ 2 ∷ 0 ∷ 0 ∷ 0 ∷ 0 ∷ 0x1E ∷ 0xFC ∷ 2 ∷ 0x4D ∷ 0x53 ∷ []) ∷ (0xA4 ∷ 0 ∷ 0 ∷ 0 ∷ 0 ∷ 2 ∷ 0x4D ∷ 0x53 ∷ []) ∷ (0xA4 ∷ 3 ∷ 0 ∷ 0 ∷ 0 ∷ 1 ∷ 0x41 ∷ []) ∷ (0xA4 ∷ 4 ∷ 0 ∷ 0 ∷ 0 ∷ 0 ∷ []) ∷ (0xAF ∷ 0 ∷ 0 ∷ []) ∷ [];
+      image = (0xA0 ∷ 2 ∷ 0 ∷ 0 ∷ 0 ∷ 0 ∷ 0x1E ∷ 0xFC ∷ 2 ∷ 0x4D ∷ 0x53 ∷ [])
+          ∷ (0xA4 ∷ 0 ∷ 0 ∷ 0 ∷ 0 ∷ 2 ∷ 0x4D ∷ 0x53 ∷ []) ∷ (0xA4 ∷ 3 ∷ 0 ∷ 0 ∷ 0 ∷ 1 ∷ 0x41 ∷ [])
+          ∷ (0xA4 ∷ 4 ∷ 0 ∷ 0 ∷ 0 ∷ 0 ∷ []) ∷ (0xAF ∷ 0 ∷ 0 ∷ []) ∷ [];
     }
 
--- the frame before, at and after an edition's number; one whose number is not reached; A0 has the edition in force at its position
+-- the frame before, at and after an edition's number; one whose number is not reached; A0 has the edition in force at
+-- its position
 unfoldable pub t12frames : Row
 t12frames =
     record {
       given = add 2 (0x41 ∷ []) ∷ add 9 (0x42 ∷ []) ∷ asks 1 ∷ asks 2 ∷ asks 3 ∷ [];
       replies = ok ∷ ok ∷ says (0x4D ∷ 0x53 ∷ []) ∷ says (0x41 ∷ []) ∷ says (0x41 ∷ []) ∷ [];
-      image = (0xA0 ∷ 3 ∷ 0 ∷ 0 ∷ 0 ∷ 0 ∷ 0x1E ∷ 0xFC ∷ 1 ∷ 0x41 ∷ []) ∷ (0xA4 ∷ 0 ∷ 0 ∷ 0 ∷ 0 ∷ 2 ∷ 0x4D ∷ 0x53 ∷ []) ∷ (0xA4 ∷ 2 ∷ 0 ∷ 0 ∷ 0 ∷ 1 ∷ 0x41 ∷ []) ∷ (0xA4 ∷ 9 ∷ 0 ∷ 0 ∷ 0 ∷ 1 ∷ 0x42 ∷ []) ∷ (0xAF ∷ 0 ∷ 0 ∷ []) ∷ [];
+      image = (0xA0 ∷ 3 ∷ 0 ∷ 0 ∷ 0 ∷ 0 ∷ 0x1E ∷ 0xFC ∷ 1 ∷ 0x41 ∷ []) ∷ (0xA4 ∷ 0 ∷ 0 ∷ 0 ∷ 0 ∷ 2 ∷ 0x4D ∷ 0x53 ∷ [])
+          ∷ (0xA4 ∷ 2 ∷ 0 ∷ 0 ∷ 0 ∷ 1 ∷ 0x41 ∷ []) ∷ (0xA4 ∷ 9 ∷ 0 ∷ 0 ∷ 0 ∷ 1 ∷ 0x42 ∷ []) ∷ (0xAF ∷ 0 ∷ 0 ∷ []) ∷ [];
     }
 
 -- an image between an addition and its number
@@ -77,7 +56,9 @@ t12between =
     record {
       given = add 2 (0x41 ∷ []) ∷ asks 1 ∷ [];
       replies = ok ∷ says (0x4D ∷ 0x53 ∷ []) ∷ [];
-      image = (0xA0 ∷ 1 ∷ 0 ∷ 0 ∷ 0 ∷ 0 ∷ 0x1E ∷ 0xFC ∷ 2 ∷ 0x4D ∷ 0x53 ∷ []) ∷ (0xA4 ∷ 0 ∷ 0 ∷ 0 ∷ 0 ∷ 2 ∷ 0x4D ∷ 0x53 ∷ []) ∷ (0xA4 ∷ 2 ∷ 0 ∷ 0 ∷ 0 ∷ 1 ∷ 0x41 ∷ []) ∷ (0xAF ∷ 0 ∷ 0 ∷ []) ∷ [];
+      image = (0xA0 ∷ 1 ∷ 0 ∷ 0 ∷ 0 ∷ 0 ∷ 0x1E ∷ 0xFC ∷ 2 ∷ 0x4D ∷ 0x53 ∷ [])
+          ∷ (0xA4 ∷ 0 ∷ 0 ∷ 0 ∷ 0 ∷ 2 ∷ 0x4D ∷ 0x53 ∷ []) ∷ (0xA4 ∷ 2 ∷ 0 ∷ 0 ∷ 0 ∷ 1 ∷ 0x41 ∷ [])
+          ∷ (0xAF ∷ 0 ∷ 0 ∷ []) ∷ [];
     }
 
 -- so many additions of an empty prefix, with the numbers from n on
@@ -89,22 +70,11 @@ adds (suc k) n = add n [] ∷ adds k (suc n)
 unfoldable pub t12limits : Row
 t12limits =
     record {
-      given = add 0 (replicate 33 7) ∷ add 1 (replicate 33 7) ∷ add 1 (replicate 32 7) ∷ (adds 30 2 ++ (add 32 [] ∷ add 31 [] ∷ add 32 (replicate 33 7) ∷ []));
+      given = add 0 (replicate 33 7) ∷ add 1 (replicate 33 7) ∷ add 1 (replicate 32 7)
+          ∷ (adds 30 2 ++ (add 32 [] ∷ add 31 [] ∷ add 32 (replicate 33 7) ∷ []));
       replies = refusal 15 ∷ refusal 15 ∷ ok ∷ (replicate 30 ok ++ (refusal 13 ∷ refusal 14 ∷ refusal 15 ∷ []));
       image = [];
     }
 
 unfoldable pub rows : List Row
 rows = t12numbers ∷ t12frames ∷ t12between ∷ t12limits ∷ []
-
-pub rows-hold : every holds rows ≡ true
-unfolding outcome answeredBy reachedBy begun holds ok says asks t12numbers t12frames t12between adds t12limits rows
-    Rattle.editions.specs.Editions.withPrefix Rattle.editions.specs.Editions.inForce
-    Rattle.editions.specs.Editions.prefixFor Rattle.editions.specs.Editions.rising
-    Rattle.editions.specs.Editions.soundEdition Rattle.editions.specs.Editions.soundEditions
-    Rattle.editions.specs.Editions.soundGateway Rattle.editions.specs.Editions.freshOn
-    Rattle.editions.specs.Editions.beside Rattle.editions.specs.Editions.actOn
-    Rattle.editions.specs.Editions.lastFrom Rattle.editions.specs.Editions.addEdition
-    Rattle.editions.specs.Editions.editionRow Rattle.editions.specs.Editions.recordsOn
-    Rattle.editions.specs.Editions.imageOn Rattle.model.specs.Computed.computed
-rows-hold = refl

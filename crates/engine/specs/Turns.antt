@@ -11,9 +11,9 @@ use lib.ListN.{length, drop}
 use Rattle.sessions.specs.Machine.{Machine, Outcome, refused, done, text}
 use Rattle.sessions.specs.Session.{answer}
 use Rattle.sessions.specs.Saved.{cut}
-use Rattle.sessions.specs.Refusals.{answer-unsound}
+use Rattle.sessions.specs.RefusalsLaws.{answer-unsound}
 use Rattle.replays.specs.Into.{Reached, begun, reach, lineFrom, linesWhile, replayWhile}
-use Rattle.replays.specs.Pieces.{stays}
+use Rattle.replays.specs.PiecesLaws.{stays}
 
 -- what was reached: the state, the octets written, the characters read; not stopped, or stopped by a refusal
 unfoldable pub going : {S : Type 0} → S → List ℕ → ℕ → Reached S
@@ -23,7 +23,8 @@ unfoldable pub halted : {S : Type 0} → S → List ℕ → ℕ → ℕ → Reac
 halted s w at n = record { state = s; wrote = w; taken = at; stop = some n }
 
 module _ (M : Machine) (goes : ℕ → Bool) (room : ℕ) where
-  pub begins : (s : M .S) (t : List ℕ) → linesWhile M goes room (going s [] 0) (cut (drop 0 t)) ≡ replayWhile M goes room s t
+  pub begins : (s : M .S) (t : List ℕ)
+      → linesWhile M goes room (going s [] 0) (cut (drop 0 t)) ≡ replayWhile M goes room s t
   unfolding going replayWhile begun
   begins s t = refl
 
@@ -42,7 +43,8 @@ module _ (M : Machine) (goes : ℕ → Bool) (room : ℕ) where
         held-back : (ls : List (List ℕ)) → linesWhile M goes room (going s w at) ls ≡ going s w at
         held-back [] = refl
         held-back (l ∷ ls) =
-            ap (λ (b : Bool). elim b [ true ↦ linesWhile M goes room (lineFrom M room none (going s w at) l) ls | false ↦ going s w at ]) e
+            ap (λ (b : Bool). elim b
+            [ true ↦ linesWhile M goes room (lineFrom M room none (going s w at) l) ls | false ↦ going s w at ]) e
 
     module _ (l : List ℕ) (ls : List (List ℕ)) (c : cut (drop at t) ≡ l ∷ ls) (y : goes (M .pos s) ≡ true) where
       pub after : (o : Outcome (M .S)) → answer M (room - length w) s text l ≡ o
@@ -50,13 +52,15 @@ module _ (M : Machine) (goes : ℕ → Bool) (room : ℕ) where
       unfolding linesWhile lineFrom going
       after o e =
           sym (ap (linesWhile M goes room (going s w at)) c
-          ∙ ap (λ (b : Bool). elim b [ true ↦ linesWhile M goes room (lineFrom M room none (going s w at) l) ls | false ↦ going s w at ]) y
+          ∙ ap (λ (b : Bool). elim b
+          [ true ↦ linesWhile M goes room (lineFrom M room none (going s w at) l) ls | false ↦ going s w at ]) y
           ∙ ap (λ (u : Outcome (M .S)). linesWhile M goes room (reach (going s w at) (length l) u) ls) e) ∙ q
 
       pub stops : (n : ℕ) → (n ≡ 1 → ⊥) → answer M (room - length w) s text l ≡ refused n → halted s w at n ≡ end
       unfolding reach going halted
       stops n k e =
-          sym (ap (λ (b : Bool). linesWhile M goes room (cond {A = Reached (M .S)} b (record { state = s; wrote = w; taken = at + length l; stop = none })
+          sym (ap (λ (b : Bool). linesWhile M goes room
+          (cond {A = Reached (M .S)} b (record { state = s; wrote = w; taken = at + length l; stop = none })
           (record { state = s; wrote = w; taken = at; stop = some n })) ls) (ne-eqb n 1 k)
           ∙ stays M room goes (halted s w at n) n ls refl) ∙ after (refused n) e
 

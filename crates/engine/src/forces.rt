@@ -1,5 +1,5 @@
-// A frame on a whole block: the edition of its own number stands in the head while it is judged, and that of the position behind it
-// (document 02, T-12). The index of the block is left as it is.
+// A frame on a whole block: the edition of its own number stands in the head while it is judged, and that of the
+// position behind it (document 02, T-12). The index of the block is left as it is.
 ghost use Prim.Native.Nat.{_≤_};
 ghost use mathlib.Core.Path.{_≡_};
 ghost use mathlib.Core.Bool.{true};
@@ -26,11 +26,13 @@ fn turn_to(s: &mut [u8], begins: bool, n: u64)
     }
 }
 
-// A frame as octets, on a block that is sound but for its index. A refusal puts the head back. There is one place that judges, so that the
-// steps need no stack of their own behind this function's.
+// A frame as octets, on a block that is sound but for its index. A refusal puts the head back. There is one place
+// that judges, so that the steps need no stack of their own behind this function's.
 pub(super) fn judge(s: &mut [u8], frame: &[u8], out: &mut [u8]) -> Wrote
     requires { ⌜ (soundLoose (now s) ≡ true) × (length (now s) ≡ wholeSize) × (answerRoom ≤ length (now out)) ⌝ }
-    ensures { λ r. ⌜ Called (judged (withIndex (indexOn (now (s .entry)))) (now (s .entry)) (read asOctets (now (frame .entry)))) (now (s .entry)) (now (out .entry)) (now (s .exit)) (now (out .exit)) r ⌝ }
+    ensures { λ r. ⌜ Called
+        (judged (withIndex (indexOn (now (s .entry)))) (now (s .entry)) (read asOctets (now (frame .entry))))
+        (now (s .entry)) (now (out .entry)) (now (s .exit)) (now (out .exit)) r ⌝ }
 {
     let next = octets::get32(s, State::POSITION_AT) as u64 + 1;
     let begins = prefixes::starts(s, next);

@@ -1,5 +1,5 @@
-// Events and reports, appended to a lent output at an index (document 01, Watching, by history). Where one does not fit, or an
-// argument is not of its length, nothing is written and the answer is 0.
+// Events and reports, appended to a lent output at an index (document 01, Watching, by history). Where one does not
+// fit, or an argument is not of its length, nothing is written and the answer is 0.
 use state::State;
 ghost use Prim.Native.Nat.{_+_, _≤_};
 ghost use mathlib.Core.Path.{_≡_};
@@ -10,8 +10,10 @@ ghost use Rattle.events.specs.Octets.{eventOctets, reportOctets, eventFi
 ghost use Rattle.model.specs.Layout.{mostData, mostPrefix};
 
 fn put_event_in(out: &mut [u8], at: usize, prefix: &[u8], row: &[u8], state: u8)
-    requires { ⌜ (length (now prefix) ≤ mostPrefix) × (8 ≤ length (now row)) × (at + (12 + length (now prefix)) ≤ length (now out)) ⌝ }
-    ensures { λ _. ⌜ now (out .exit) ≡ put (now (out .entry)) at (eventOctets (now (prefix .entry)) (now (row .entry)) state) ⌝ }
+    requires { ⌜ (length (now prefix) ≤ mostPrefix) × (8 ≤ length (now row))
+        × (at + (12 + length (now prefix)) ≤ length (now out)) ⌝ }
+    ensures { λ _. ⌜ now (out .exit)
+        ≡ put (now (out .entry)) at (eventOctets (now (prefix .entry)) (now (row .entry)) state) ⌝ }
 {
     let n = prefix.len();
     out[at] = 0xFF;
@@ -25,7 +27,12 @@ fn put_event_in(out: &mut [u8], at: usize, prefix: &[u8], row: &[u8], state: u8)
 
 // Appends an event: the row opens with handle, address type and address; the state is 1 at a start and 0 at a stop.
 pub fn put_event(out: &mut [u8], at: usize, prefix: &[u8], row: &[u8], state: u8) -> usize
-    ensures { λ r. ⌜ (r ≡ pick (eventFits (length (now (out .entry))) at (now (prefix .entry)) (now (row .entry)) state) (length (eventOctets (now (prefix .entry)) (now (row .entry)) state)) 0) × (now (out .exit) ≡ putIf (eventFits (length (now (out .entry))) at (now (prefix .entry)) (now (row .entry)) state) (now (out .entry)) at (eventOctets (now (prefix .entry)) (now (row .entry)) state)) ⌝ }
+    ensures { λ r. ⌜
+        (r ≡ pick (eventFits (length (now (out .entry))) at (now (prefix .entry)) (now (row .entry)) state)
+        (length (eventOctets (now (prefix .entry)) (now (row .entry)) state)) 0)
+        × (now (out .exit)
+        ≡ putIf (eventFits (length (now (out .entry))) at (now (prefix .entry)) (now (row .entry)) state)
+        (now (out .entry)) at (eventOctets (now (prefix .entry)) (now (row .entry)) state)) ⌝ }
 {
     let n = prefix.len();
     if n > State::PREFIX {
@@ -46,8 +53,10 @@ pub fn put_event(out: &mut [u8], at: usize, prefix: &[u8], row: &[u8], state: u8
 }
 
 fn put_report_in(out: &mut [u8], at: usize, event: u8, device: &[u8], adv: &[u8], rssi: u8)
-    requires { ⌜ (length (now device) ≡ 7) × (length (now adv) ≤ mostData) × (at + (14 + length (now adv)) ≤ length (now out)) ⌝ }
-    ensures { λ _. ⌜ now (out .exit) ≡ put (now (out .entry)) at (reportOctets event (now (device .entry)) (now (adv .entry)) rssi) ⌝ }
+    requires { ⌜ (length (now device) ≡ 7) × (length (now adv) ≤ mostData)
+        × (at + (14 + length (now adv)) ≤ length (now out)) ⌝ }
+    ensures { λ _. ⌜ now (out .exit)
+        ≡ put (now (out .entry)) at (reportOctets event (now (device .entry)) (now (adv .entry)) rssi) ⌝ }
 {
     let n = adv.len();
     out[at] = 0x3E;
@@ -70,7 +79,12 @@ pub fn put_report(
     adv: &[u8],
     rssi: u8,
 ) -> usize
-    ensures { λ r. ⌜ (r ≡ pick (reportFits (length (now (out .entry))) at event (now (device .entry)) (now (adv .entry)) rssi) (length (reportOctets event (now (device .entry)) (now (adv .entry)) rssi)) 0) × (now (out .exit) ≡ putIf (reportFits (length (now (out .entry))) at event (now (device .entry)) (now (adv .entry)) rssi) (now (out .entry)) at (reportOctets event (now (device .entry)) (now (adv .entry)) rssi)) ⌝ }
+    ensures { λ r. ⌜
+        (r ≡ pick (reportFits (length (now (out .entry))) at event (now (device .entry)) (now (adv .entry)) rssi)
+        (length (reportOctets event (now (device .entry)) (now (adv .entry)) rssi)) 0)
+        × (now (out .exit)
+        ≡ putIf (reportFits (length (now (out .entry))) at event (now (device .entry)) (now (adv .entry)) rssi)
+        (now (out .entry)) at (reportOctets event (now (device .entry)) (now (adv .entry)) rssi)) ⌝ }
 {
     let n = adv.len();
     if device.len() != State::DEVICE {

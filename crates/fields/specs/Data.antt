@@ -14,7 +14,8 @@ use Rattle.words.specs.Uuids.{uuidText}
 use Rattle.fields.specs.Names.{adText}
 use Rattle.fields.specs.Cuts.{allOf}
 
--- how many octets the piece at the start has: its length octet and as many octets as that says, where it says at least one; else all that are left
+-- how many octets the piece at the start has: its length octet and as many octets as that says, where it says at
+-- least one; else all that are left
 unfoldable pub sizeOf : List ℕ → ℕ
 sizeOf [] = 0
 sizeOf (k ∷ s) = pick (eqb k 0) (suc (length s)) (pick (leb (suc (length s)) k) (suc (length s)) (1 + k))
@@ -41,7 +42,8 @@ quotedText s = codes " \"" ++ charactersText s ++ codes "\""
 -- how long the UUIDs of a list are, or the one before service data: 0 where an AD type has none
 unfoldable pub uuidSize : ℕ → ℕ
 uuidSize kind =
-    pick (((eqb kind 2 || eqb kind 3) || eqb kind 20) || eqb kind 22) 2 (pick (((eqb kind 4 || eqb kind 5) || eqb kind 31) || eqb kind 32) 4 (
+    pick (((eqb kind 2 || eqb kind 3) || eqb kind 20) || eqb kind 22) 2
+    (pick (((eqb kind 4 || eqb kind 5) || eqb kind 31) || eqb kind 32) 4 (
     pick (((eqb kind 6 || eqb kind 7) || eqb kind 21) || eqb kind 33) 16 0))
 
 -- UUIDs of k octets each; the last has what is left
@@ -64,23 +66,27 @@ headedText k s = pick (ltb (length s) k) (plainText s) ((codes " " ++ uuidText (
 
 -- the number of a company, and the octets behind it
 unfoldable pub companyText : List ℕ → List ℕ
-companyText s = pick (ltb (length s) 2) (plainText s) ((codes " 0x" ++ numberText (partOf s 0 2)) ++ plainText (drop 2 s))
+companyText s = pick (ltb (length s) 2) (plainText s)
+    ((codes " 0x" ++ numberText (partOf s 0 2)) ++ plainText (drop 2 s))
 
 -- values of manufacturer data, of service data, of lists of UUIDs and of other types
 unfoldable pub specialText : ℕ → List ℕ → List ℕ
 specialText kind s =
-    pick (eqb kind 255) (companyText s) (pick ((eqb kind 22 || eqb kind 32) || eqb kind 33) (headedText (uuidSize kind) s) (
+    pick (eqb kind 255) (companyText s)
+    (pick ((eqb kind 22 || eqb kind 32) || eqb kind 33) (headedText (uuidSize kind) s) (
     pick (eqb (uuidSize kind) 0) (plainText s) (uuidsText (uuidSize kind) s)))
 
 -- the value of a structure: a name, a Tx power, or one of those
 unfoldable pub valueText : ℕ → List ℕ → List ℕ
 valueText kind s =
-    pick (eqb kind 8 || eqb kind 9) (quotedText s) (pick (eqb kind 10 && eqb (length s) 1) (codes " " ++ dbm (numberAt 1 s 0)) (specialText kind s))
+    pick (eqb kind 8 || eqb kind 9) (quotedText s)
+    (pick (eqb kind 10 && eqb (length s) 1) (codes " " ++ dbm (numberAt 1 s 0)) (specialText kind s))
 
 -- a structure, or octets that are none
 unfoldable pub structureText : List ℕ → List ℕ
 structureText piece =
-    pick (isWhole piece 1) ((codes ", " ++ adText (numberAt 1 piece 1)) ++ valueText (numberAt 1 piece 1) (drop 2 piece))
+    pick (isWhole piece 1)
+    ((codes ", " ++ adText (numberAt 1 piece 1)) ++ valueText (numberAt 1 piece 1) (drop 2 piece))
     (codes ", no structure " ++ hexOf piece)
 
 -- the structures of advertisement data

@@ -19,7 +19,9 @@ use Rattle.fields.specs.Data.{sizeOf, isWhole, plainText}
 -- a pattern: AD type, start byte, octets; or octets that are none
 unfoldable pub patternText : List ℕ → List ℕ
 patternText piece =
-    pick (isWhole piece 3) ((codes ", " ++ adText (numberAt 1 piece 1)) ++ (codes " at " ++ decimal (numberAt 1 piece 2)) ++ (codes " " ++ hexOf (drop 3 piece)))
+    pick (isWhole piece 3)
+    ((codes ", " ++ adText (numberAt 1 piece 1)) ++ (codes " at " ++ decimal (numberAt 1 piece 2))
+    ++ (codes " " ++ hexOf (drop 3 piece)))
     (codes ", no pattern " ++ hexOf piece)
 
 unfoldable pub patternsText : List ℕ → List ℕ
@@ -32,28 +34,34 @@ unknownText kind s = (codes ", condition of type " ++ decimal kind) ++ plainText
 -- whether a UUID condition has the octets that its UUID type says
 unfoldable pub isUuid : List ℕ → Bool
 isUuid s =
-    ((eqb (numberAt 1 s 0) 1 && eqb (length s) 3) || (eqb (numberAt 1 s 0) 2 && eqb (length s) 5)) || (eqb (numberAt 1 s 0) 3 && eqb (length s) 17)
+    ((eqb (numberAt 1 s 0) 1 && eqb (length s) 3) || (eqb (numberAt 1 s 0) 2 && eqb (length s) 5))
+    || (eqb (numberAt 1 s 0) 3 && eqb (length s) 17)
 
 -- a condition of one of the types 2 to 4
 unfoldable pub singleText : ℕ → List ℕ → List ℕ
 singleText kind s =
-    pick (eqb kind 2 && isUuid s) (codes ", UUID " ++ uuidText (drop 1 s)) (pick (eqb kind 3 && eqb (length s) 16) (codes ", IRK 0x" ++ numberText s) (
-    pick ((eqb kind 4 && eqb (length s) 7) && leb (numberAt 1 s 0) 1) (codes ", address " ++ deviceText (deviceOf s)) (unknownText kind s)))
+    pick (eqb kind 2 && isUuid s) (codes ", UUID " ++ uuidText (drop 1 s))
+    (pick (eqb kind 3 && eqb (length s) 16) (codes ", IRK 0x" ++ numberText s) (
+    pick ((eqb kind 4 && eqb (length s) 7) && leb (numberAt 1 s 0) 1) (codes ", address " ++ deviceText (deviceOf s))
+    (unknownText kind s)))
 
 -- a condition: of type 1 the count of its patterns, and they
 unfoldable pub conditionText : ℕ → List ℕ → List ℕ
 conditionText kind s =
-    pick (eqb kind 1 && ltb 0 (length s)) ((codes ", patterns " ++ decimal (numberAt 1 s 0)) ++ patternsText (drop 1 s)) (singleText kind s)
+    pick (eqb kind 1 && ltb 0 (length s))
+    ((codes ", patterns " ++ decimal (numberAt 1 s 0)) ++ patternsText (drop 1 s)) (singleText kind s)
 
 -- a sampling period
 unfoldable pub samplingText : ℕ → List ℕ
 samplingText x =
-    pick (eqb x 0) (codes ", sampling every packet") (pick (eqb x 255) (codes ", sampling none") ((codes ", sampling " ++ decimal (100 * x)) ++ codes " ms"))
+    pick (eqb x 0) (codes ", sampling every packet")
+    (pick (eqb x 255) (codes ", sampling none") ((codes ", sampling " ++ decimal (100 * x)) ++ codes " ms"))
 
 -- high, low, interval, sampling period
 unfoldable pub limitsText : List ℕ → List ℕ
 limitsText s =
-    (codes " high " ++ dbm (numberAt 1 s 0)) ++ (codes ", low " ++ dbm (numberAt 1 s 1)) ++ (codes ", interval " ++ decimal (numberAt 1 s 2))
+    (codes " high " ++ dbm (numberAt 1 s 0)) ++ (codes ", low " ++ dbm (numberAt 1 s 1))
+    ++ (codes ", interval " ++ decimal (numberAt 1 s 2))
     ++ codes " s" ++ samplingText (numberAt 1 s 3)
 
 -- a bit by its word, where it is set
@@ -64,19 +72,22 @@ bitText x k words = pick (eqb (x / k % 2) 1) words []
 unfoldable pub reservedText : ℕ → List ℕ
 reservedText x = pick (eqb x 0) [] (codes " reserved 0x" ++ pairOf x)
 
--- Monitor_options (source document 000): whose packets are watched. Bits 0 and 1: those of the peer's address, or of an address that its IRK resolves, that
--- meet the condition; 2 and 3: directed ones of these; 4: every directed one; 5: those of any address that meet the condition
+-- Monitor_options (source document 000): whose packets are watched. Bits 0 and 1: those of the peer's address, or of
+-- an address that its IRK resolves, that meet the condition; 2 and 3: directed ones of these; 4: every directed one;
+-- 5: those of any address that meet the condition
 unfoldable pub optionsText : ℕ → List ℕ
 optionsText x =
     pick (eqb x 0) (codes " none") (
-    bitText x 1 (codes " peer-address") ++ bitText x 2 (codes " peer-IRK") ++ bitText x 4 (codes " directed-peer-address") ++ bitText x 8 (codes " directed-peer-IRK")
+    bitText x 1 (codes " peer-address") ++ bitText x 2 (codes " peer-IRK")
+    ++ bitText x 4 (codes " directed-peer-address") ++ bitText x 8 (codes " directed-peer-IRK")
     ++ bitText x 16 (codes " directed") ++ bitText x 32 (codes " any-address") ++ reservedText (x / 64 * 64))
 
 -- Advertisement_report_filtering_options: no duplicates; reports of legacy, of extended, of directed packets
 unfoldable pub filteringText : ℕ → List ℕ
 filteringText x =
     pick (eqb x 0) (codes " none") (
-    bitText x 1 (codes " no-duplicates") ++ bitText x 2 (codes " legacy") ++ bitText x 4 (codes " extended") ++ bitText x 8 (codes " directed")
+    bitText x 1 (codes " no-duplicates") ++ bitText x 2 (codes " legacy") ++ bitText x 4 (codes " extended")
+    ++ bitText x 8 (codes " directed")
     ++ reservedText (x / 16 * 16))
 
 -- the peer: its address type behind its address

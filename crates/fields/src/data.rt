@@ -34,8 +34,8 @@ const QUOTE: u8 = 34;
 
 const BACKSLASH: u8 = 92;
 
-// How many octets the piece has that begins at an index: its length octet and as many octets as that says, where it says at least one; else all
-// that are left.
+// How many octets the piece has that begins at an index: its length octet and as many octets as that says, where it
+// says at least one; else all that are left.
 pub(super) fn size(s: &[u8], at: usize) -> usize
     requires { ⌜ at < length (now s) ⌝ }
     ensures { λ r. ⌜ (r ≡ sizeOf (drop at (now (s .entry)))) × (0 < r) × (at + r ≤ length (now (s .entry))) ⌝ }

@@ -8,24 +8,7 @@ use borrow.Author.Tests.{eq-eqb, ne-eqb}
 use Rattle.laws.specs.Tests.{pick}
 use Rattle.fips197.specs.Field.{xtimes}
 use Rattle.fips197.specs.Words.{word, sums, turn}
-use Rattle.fips197.specs.Cipher.{
-  cell,
-  column,
-  subBytes,
-  shiftRows,
-  mixColumns,
-  addRoundKey,
-  rotWord,
-  subWord,
-  powerOfX,
-  rcon,
-  temp,
-  nextWords,
-  keyExpansion,
-  roundKey,
-  rounds,
-  cipher,
-}
+use Rattle.fips197.specs.Cipher.{cell, column, subBytes, shiftRows, mixColumns, addRoundKey, rotWord, subWord, powerOfX, rcon, temp, nextWords, keyExpansion, roundKey, rounds, cipher}
 
 -- the window of four words moved by one: where the new word's number is a multiple of 4, with the first octet of the
 -- round constant, and elsewhere

@@ -3,8 +3,10 @@
 -- an example.
 pub mod Field
 pub mod Words
+pub mod WordsLaws
 pub mod Cipher
 pub mod Tables
+pub mod TablesLaws
 pub mod Laws
 pub mod Computed
-pub mod Examples
+pub mod ExamplesLaws

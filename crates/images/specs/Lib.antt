@@ -1,11 +1,11 @@
 -- The laws of the image's text, of the model. Document 01, The image.
-pub mod Texts
-pub mod Fits
-pub mod Restores
-pub mod Exactly
-pub mod Sizes
-pub mod Engines
-pub mod Longest
-pub mod Reached
-pub mod Characters
-pub mod Edges
+pub mod TextsLaws
+pub mod FitsLaws
+pub mod RestoresLaws
+pub mod ExactlyLaws
+pub mod SizesLaws
+pub mod EnginesLaws
+pub mod LongestLaws
+pub mod ReachedLaws
+pub mod CharactersLaws
+pub mod EdgesLaws

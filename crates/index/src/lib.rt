@@ -1,5 +1,6 @@
-// The index by device behind the core of a block (document 02, T-02): worked out from the pairs, asked, compared. And the whole block of a
-// state, with the editions of the prefix (T-12) behind the index: its size, and how one is begun. The core is laid out as `State` says.
+// The index by device behind the core of a block (document 02, T-02): worked out from the pairs, asked, compared. And
+// the whole block of a state, with the editions of the prefix (T-12) behind the index: its size, and how one is
+// begun. The core is laid out as `State` says.
 mod table;
 mod walk;
 
@@ -25,8 +26,9 @@ ghost use Rattle.index.specs.Renewed.{indexedOnce, isMoved, followed, re
 // The octet that opens an event of a pair.
 const EVENT: u8 = 0xFF;
 
-// The whole block of a state: the core; behind it the index, a row for each device in the order of its first held pair, and the number of
-// entries; behind that the editions of the prefix in rising order and their number. What is not in use is 0.
+// The whole block of a state: the core; behind it the index, a row for each device in the order of its first held
+// pair, and the number of entries; behind that the editions of the prefix in rising order and their number. What is
+// not in use is 0.
 pub struct Whole {
     pub block: [u8; Whole::SIZE],
 }
@@ -77,7 +79,8 @@ impl Whole {
 
     // The fresh state with these settings; the blank one and refusal 9 where they are out of range.
     pub fn fresh(opcode: u16, prefix: &[u8]) -> Opened
-        ensures { λ r. ⌜ (r .answer ≡ settingsOf opcode (now (prefix .entry))) × (r .state .block ≡ begin opcode (now (prefix .entry))) ⌝ }
+        ensures { λ r. ⌜ (r .answer ≡ settingsOf opcode (now (prefix .entry)))
+            × (r .state .block ≡ begin opcode (now (prefix .entry))) ⌝ }
     {
         let mut block = [0u8; Whole::SIZE];
         let answer = put_fresh(&mut block, opcode, prefix);
@@ -108,10 +111,11 @@ fn put_first(s: &mut [u8])
     s[Whole::EDITION_COUNT_AT] = 1;
 }
 
-// The fresh state with these settings, in a lent whole block; the blank one and refusal 9 where they are out of range. A block of another length is left as
-// it is.
+// The fresh state with these settings, in a lent whole block; the blank one and refusal 9 where they are out of
+// range. A block of another length is left as it is.
 pub fn put_fresh(s: &mut [u8], opcode: u16, prefix: &[u8]) -> Start
-    ensures { λ r. ⌜ (r ≡ settingsOf opcode (now (prefix .entry))) × (now (s .exit) ≡ begunIn (now (s .entry)) opcode (now (prefix .entry))) ⌝ }
+    ensures { λ r. ⌜ (r ≡ settingsOf opcode (now (prefix .entry)))
+        × (now (s .exit) ≡ begunIn (now (s .entry)) opcode (now (prefix .entry))) ⌝ }
 {
     if s.len() != Whole::SIZE {
         let mut none = [0u8; 0];
@@ -168,15 +172,16 @@ fn mask_for(s: &[u8], kind: u8, address: &[u8]) -> u16
     table::mask_of(&s[Whole::INDEX_AT..Whole::COUNT_AT], n, dev)
 }
 
-// Which monitors watch a device (address type and address)? It reads the index alone: the first of at most 64 entries for that device
-// answers, whatever the block's octets are.
+// Which monitors watch a device (address type and address)? It reads the index alone: the first of at most 64 entries
+// for that device answers, whatever the block's octets are.
 pub fn ask(s: &[u8; Whole::SIZE], kind: u8, address: &[u8; 6]) -> Watch
     ensures { λ r. ⌜ r ≡ watchOf (handlesOf (maskFor (device kind (now (address .entry))) (now (s .entry)))) ⌝ }
 {
     told(mask_for(s, kind, address))
 }
 
-// Whether a block has its size, the index of the pairs that it holds, and holds each of them once, of a handle that there is.
+// Whether a block has its size, the index of the pairs that it holds, and holds each of them once, of a handle that
+// there is.
 pub fn is_indexed(s: &[u8]) -> bool
     ensures { λ r. ⌜ r ≡ indexedOnce (now (s .entry)) ⌝ }
 {
@@ -192,7 +197,8 @@ pub fn is_indexed(s: &[u8]) -> bool
     )
 }
 
-// The first n pairs of a block noted one by one in its own index, which holds zeros. Answers how many entries there are.
+// The first n pairs of a block noted one by one in its own index, which holds zeros. Answers how many entries there
+// are.
 fn note_all(s: &mut [u8], n: usize) -> usize
     requires { ⌜ (length (now s) ≡ wholeSize) × (n ≤ mostPairs) × (tableIn (now s) ≡ replicate entriesSize 0) ⌝ }
     ensures { λ r. ⌜ (r ≤ n) × Stands n r (now (s .entry)) (now (s .exit)) ⌝ }
@@ -228,8 +234,8 @@ pub fn renew(s: &mut [u8])
     s[Whole::COUNT_AT] = k as u8;
 }
 
-// Whether a frame that wrote n octets at an output's start, with so many pairs held before it, started or ended a pair: another number is
-// held now, or the answer opens with an event of a pair.
+// Whether a frame that wrote n octets at an output's start, with so many pairs held before it, started or ended a
+// pair: another number is held now, or the answer opens with an event of a pair.
 fn is_moved(s: &[u8], before: u8, out: &[u8], n: usize) -> bool
     requires { ⌜ length (now s) ≡ wholeSize ⌝ }
     ensures { λ r. ⌜ r ≡ isMoved before (now (out .entry)) n (now (s .entry)) ⌝ }
@@ -243,7 +249,8 @@ fn is_moved(s: &[u8], before: u8, out: &[u8], n: usize) -> bool
     octets::get8(out, 0) == EVENT
 }
 
-// Keeps the index up after such a frame: it is worked out again only where a pair started or ended. A block of another size is left as it is.
+// Keeps the index up after such a frame: it is worked out again only where a pair started or ended. A block of
+// another size is left as it is.
 pub fn follow(s: &mut [u8], before: u8, out: &[u8], n: usize)
     ensures { λ _. ⌜ now (s .exit) ≡ followed before (now (out .entry)) n (now (s .entry)) ⌝ }
 {

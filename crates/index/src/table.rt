@@ -48,7 +48,9 @@ pub(super) fn place(table: &[u8], k: usize, dev: u64) -> usize
 // The mask of the first of k entries that is a device's, 0 where it has none.
 pub(super) fn mask_of(table: &[u8], k: usize, dev: u64) -> u16
     requires { ⌜ (length (now table) ≡ entriesSize) × (k ≤ mostPairs) ⌝ }
-    ensures { λ r. ⌜ ((d : List ℕ) → Seven d → dev ≡ value d → r ≡ maskIn d (take k (rows entrySize mostPairs (now (table .entry))))) ⌝ }
+    ensures { λ r. ⌜
+        ((d : List ℕ) → Seven d → dev ≡ value d
+        → r ≡ maskIn d (take k (rows entrySize mostPairs (now (table .entry))))) ⌝ }
 {
     let j = place(table, k, dev);
     if j == k {
@@ -81,7 +83,9 @@ fn put_row(row: &mut [u8], dev: u64, mask: u16)
 // An entry for a device, with one handle.
 fn put_entry(table: &mut [u8], k: usize, dev: u64, bit: u16)
     requires { ⌜ (length (now table) ≡ entriesSize) × (k < mostPairs) × (dev < 72057594037927936) ⌝ }
-    ensures { λ _. ⌜ ((es : List Entry) (d : List ℕ) → Tabled es k (now (table .entry)) → Seven d → dev ≡ value d → Tabled (withEntry es d bit) (k + 1) (now (table .exit))) ⌝ }
+    ensures { λ _. ⌜
+        ((es : List Entry) (d : List ℕ) → Tabled es k (now (table .entry)) → Seven d → dev ≡ value d
+        → Tabled (withEntry es d bit) (k + 1) (now (table .exit))) ⌝ }
 {
     let from = Whole::ENTRY * k;
     let to = from + Whole::ENTRY;
@@ -91,17 +95,22 @@ fn put_entry(table: &mut [u8], k: usize, dev: u64, bit: u16)
 // A handle more in entry j.
 fn put_bit(table: &mut [u8], j: usize, bit: u16)
     requires { ⌜ (length (now table) ≡ entriesSize) × (j < mostPairs) ⌝ }
-    ensures { λ _. ⌜ ((es : List Entry) (k : ℕ) → Tabled es k (now (table .entry)) → j < k → Tabled (withBit es j bit) k (now (table .exit))) ⌝ }
+    ensures { λ _. ⌜
+        ((es : List Entry) (k : ℕ) → Tabled es k (now (table .entry)) → j < k
+        → Tabled (withBit es j bit) k (now (table .exit))) ⌝ }
 {
     let at = Whole::ENTRY * j + Whole::MASK_AT;
     let mask = octets::get16(table, at);
     octets::put16(table, at, mask | bit);
 }
 
-// A pair noted in the table of k entries: its handle in its device's entry, or in a new one behind the others. Answers how many there are.
+// A pair noted in the table of k entries: its handle in its device's entry, or in a new one behind the others.
+// Answers how many there are.
 fn note(table: &mut [u8], k: usize, dev: u64, h: u8) -> usize
     requires { ⌜ (length (now table) ≡ entriesSize) × (k < mostPairs) × (dev < 72057594037927936) ⌝ }
-    ensures { λ r. ⌜ (r ≤ k + 1) × ((es : List Entry) (d : List ℕ) → Tabled es k (now (table .entry)) → Seven d → dev ≡ value d → Tabled (noted d h es) r (now (table .exit))) ⌝ }
+    ensures { λ r. ⌜ (r ≤ k + 1)
+        × ((es : List Entry) (d : List ℕ) → Tabled es k (now (table .entry)) → Seven d → dev ≡ value d
+        → Tabled (noted d h es) r (now (table .exit))) ⌝ }
 {
     let j = place(table, k, dev);
     let bit = bit_of(h);
@@ -122,8 +131,11 @@ pub(super) fn mark_of(dev: u64) -> usize
 
 // The same by the marks of the entries' devices: a device without a mark has no entry, and none is searched for.
 pub(super) fn note_marked(table: &mut [u8], seen: &mut [u64], k: usize, dev: u64, h: u8) -> usize
-    requires { ⌜ (length (now table) ≡ entriesSize) × (length (now seen) ≡ words) × (k < mostPairs) × (dev < 72057594037927936) ⌝ }
-    ensures { λ r. ⌜ (r ≤ k + 1) × ((es : List Entry) (d : List ℕ) → Kept es k (now (table .entry)) (now (seen .entry)) → Seven d → dev ≡ value d → Kept (noted d h es) r (now (table .exit)) (now (seen .exit))) ⌝ }
+    requires { ⌜ (length (now table) ≡ entriesSize) × (length (now seen) ≡ words) × (k < mostPairs)
+        × (dev < 72057594037927936) ⌝ }
+    ensures { λ r. ⌜ (r ≤ k + 1)
+        × ((es : List Entry) (d : List ℕ) → Kept es k (now (table .entry)) (now (seen .entry)) → Seven d
+        → dev ≡ value d → Kept (noted d h es) r (now (table .exit)) (now (seen .exit))) ⌝ }
 {
     let m = mark_of(dev);
     let w = m / 64;

@@ -1,5 +1,5 @@
-// Whether a table of entries is that of pairs, each of them held once (document 02, T-02). The pairs are walked with the entries that stand
-// there; beside each entry a mask of the handles is gathered.
+// Whether a table of entries is that of pairs, each of them held once (document 02, T-02). The pairs are walked with
+// the entries that stand there; beside each entry a mask of the handles is gathered.
 use super::Whole;
 use super::table;
 use state::State;
@@ -28,10 +28,15 @@ const SLOTS: usize = 256;
 // More entries than there may be: the answer where a pair stands in no such table.
 const STOPPED: usize = State::PAIRS + 1;
 
-// The place of a device among the first k entries, k where it has none; then its mark has a slot as if entry k were its own.
+// The place of a device among the first k entries, k where it has none; then its mark has a slot as if entry k were
+// its own.
 fn place_by(table: &[u8], slots: &mut [u8], k: usize, dev: u64) -> usize
-    requires { ⌜ (length (now table) ≡ entriesSize) × (length (now slots) ≡ marks) × (k < mostPairs) × Slotted (now table) k (now slots) ⌝ }
-    ensures { λ r. ⌜ (r ≤ k) × (r ≡ placeIn dev (take k (rows entrySize mostPairs (now (table .entry))))) × (r < k → Slotted (now (table .entry)) k (now (slots .exit))) × (r ≡ k → little 7 (now (table .entry)) (entrySize * k) ≡ dev → Slotted (now (table .entry)) (k + 1) (now (slots .exit))) ⌝ }
+    requires { ⌜ (length (now table) ≡ entriesSize) × (length (now slots) ≡ marks) × (k < mostPairs)
+        × Slotted (now table) k (now slots) ⌝ }
+    ensures { λ r. ⌜ (r ≤ k) × (r ≡ placeIn dev (take k (rows entrySize mostPairs (now (table .entry)))))
+        × (r < k → Slotted (now (table .entry)) k (now (slots .exit)))
+        × (r ≡ k → little 7 (now (table .entry)) (entrySize * k) ≡ dev
+        → Slotted (now (table .entry)) (k + 1) (now (slots .exit))) ⌝ }
 {
     let m = table::mark_of(dev);
     let slot = octets::wide(slots[m]);
@@ -46,11 +51,16 @@ fn place_by(table: &[u8], slots: &mut [u8], k: usize, dev: u64) -> usize
     table::place(table, k, dev)
 }
 
-// A pair, by its key, among the first k entries: its handle goes into the mask beside its entry, which is one of them or the next. Answers how many
-// there are then. It stops where the handle is none or stands there already, and where the next entry is another device's.
+// A pair, by its key, among the first k entries: its handle goes into the mask beside its entry, which is one of them
+// or the next. Answers how many there are then. It stops where the handle is none or stands there already, and where
+// the next entry is another device's.
 fn note_once(table: &[u8], masks: &mut [u16], slots: &mut [u8], k: usize, key: u64) -> usize
-    requires { ⌜ (length (now table) ≡ entriesSize) × (length (now masks) ≡ mostPairs) × (length (now slots) ≡ marks) × (k < mostPairs) × Slotted (now table) k (now slots) ⌝ }
-    ensures { λ r. ⌜ ((es : List Entry) (d : List ℕ) → Walked es k (now (table .entry)) (now (masks .entry)) (now (slots .entry)) → Seven d → key / 256 ≡ value d → Stepped r es d (key % 256) (now (table .entry)) (now (masks .exit)) (now (slots .exit))) ⌝ }
+    requires { ⌜ (length (now table) ≡ entriesSize) × (length (now masks) ≡ mostPairs) × (length (now slots) ≡ marks)
+        × (k < mostPairs) × Slotted (now table) k (now slots) ⌝ }
+    ensures { λ r. ⌜
+        ((es : List Entry) (d : List ℕ) → Walked es k (now (table .entry)) (now (masks .entry)) (now (slots .entry))
+        → Seven d → key / 256 ≡ value d
+        → Stepped r es d (key % 256) (now (table .entry)) (now (masks .exit)) (now (slots .exit))) ⌝ }
 {
     let h = (key % 256) as u8;
     let dev = key / 256;
@@ -76,7 +86,8 @@ fn note_once(table: &[u8], masks: &mut [u16], slots: &mut [u8], k: usize, key: u
 
 // The first n pairs so, into lent masks. Answers how many entries they have.
 fn walk(table: &[u8], pairs: &[u8], masks: &mut [u16], n: usize) -> usize
-    requires { ⌜ (length (now table) ≡ entriesSize) × (length (now pairs) ≡ pairsSize) × (length (now masks) ≡ mostPairs) × (n ≤ mostPairs) ⌝ }
+    requires { ⌜ (length (now table) ≡ entriesSize) × (length (now pairs) ≡ pairsSize)
+        × (length (now masks) ≡ mostPairs) × (n ≤ mostPairs) ⌝ }
     ensures { λ r. ⌜ Walks (pairsOf n (now (pairs .entry))) (now (table .entry)) (now (masks .exit)) r ⌝ }
 {
     let mut slots = [0u8; SLOTS];
@@ -97,7 +108,8 @@ fn walk(table: &[u8], pairs: &[u8], masks: &mut [u16], n: usize) -> usize
 // Whether the masks of the first k entries are those gathered.
 fn is_gathered(table: &[u8], masks: &[u16], k: usize) -> bool
     requires { ⌜ (length (now table) ≡ entriesSize) × (length (now masks) ≡ mostPairs) × (k ≤ mostPairs) ⌝ }
-    ensures { λ r. ⌜ r ≡ sames (map rowMask (take k (rows entrySize mostPairs (now (table .entry))))) (take k (now (masks .entry))) ⌝ }
+    ensures { λ r. ⌜ r
+        ≡ sames (map rowMask (take k (rows entrySize mostPairs (now (table .entry))))) (take k (now (masks .entry))) ⌝ }
 {
     let mut all = true;
     let mut j = 0;
@@ -111,10 +123,14 @@ fn is_gathered(table: &[u8], masks: &[u16], k: usize) -> bool
     all
 }
 
-// Whether a table with its number of entries is that of the first n pairs, each of a handle that there is and held once.
+// Whether a table with its number of entries is that of the first n pairs, each of a handle that there is and held
+// once.
 pub(super) fn is_table(table: &[u8], count: u8, pairs: &[u8], n: usize) -> bool
     requires { ⌜ (length (now table) ≡ entriesSize) × (length (now pairs) ≡ pairsSize) × (n ≤ mostPairs) ⌝ }
-    ensures { λ r. ⌜ r ≡ (sames (entryTable (indexOf (pairsOf n (now (pairs .entry)))) ++ (length (indexOf (pairsOf n (now (pairs .entry)))) ∷ [])) (now (table .entry) ++ (count ∷ [])) && once (pairsOf n (now (pairs .entry)))) ⌝ }
+    ensures { λ r. ⌜ r
+        ≡ (sames (entryTable (indexOf (pairsOf n (now (pairs .entry))))
+        ++ (length (indexOf (pairsOf n (now (pairs .entry)))) ∷ [])) (now (table .entry) ++ (count ∷ []))
+        && once (pairsOf n (now (pairs .entry)))) ⌝ }
 {
     let mut masks = [0u16; State::PAIRS];
     let k = walk(table, pairs, &mut masks, n);

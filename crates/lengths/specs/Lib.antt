@@ -1,4 +1,4 @@
 -- No line has more words than the room of an output.
-pub mod Pieces
-pub mod Fields
-pub mod Lines
+pub mod PiecesLaws
+pub mod FieldsLaws
+pub mod LinesLaws

@@ -1,4 +1,5 @@
-// Which monitors are asked of a packet (document 01, Watching, by history): what the others would say matters to nothing.
+// Which monitors are asked of a packet (document 01, Watching, by history): what the others would say matters to
+// nothing.
 use state::State;
 ghost use Prim.Native.Nat.{_<_};
 ghost use mathlib.Core.Path.{_≡_};
@@ -18,7 +19,8 @@ pub(super) fn reach_of(may: bool, rssi: u8) -> u16
     0
 }
 
-// Whether a handle is asked, as 1 or 0: its pair of the packet's device is held, or the packet may start one and reaches its high threshold.
+// Whether a handle is asked, as 1 or 0: its pair of the packet's device is held, or the packet may start one and
+// reaches its high threshold.
 pub(super) fn ask_at(s: &[u8], h: usize, held: u8, reach: u16) -> u8
     requires { ⌜ (length (now s) ≡ blockSize) × (h < mostMonitors) ⌝ }
     ensures { λ r. ⌜ r ≡ askAt (now (s .entry)) h held reach ⌝ }

@@ -1,4 +1,5 @@
-// Monitors with a key (document 02, T-03): which of those that are asked resolve a private address. The cipher runs once a key.
+// Monitors with a key (document 02, T-03): which of those that are asked resolve a private address. The cipher runs
+// once a key.
 use super::asks;
 use state::State;
 ghost use Prim.Native.Nat.{_+_, _≤_, _<_};
@@ -53,7 +54,9 @@ fn is_alike(s: &[u8], ask: u8, j: usize, h: usize) -> bool
 // The first handle up to h that is asked and has the type and the condition of h: h itself where no other does.
 fn first_alike(s: &[u8], held: &[u8], reach: u16, h: usize) -> usize
     requires { ⌜ (length (now s) ≡ blockSize) × (length (now held) ≡ mostMonitors) × (h < mostMonitors) ⌝ }
-    ensures { λ r. ⌜ (r ≤ h) × (r < h → (getD (askedOf (now (held .entry)) (now (s .entry)) reach) r 0 ≡ 0 → ⊥) × Alike (now (s .entry)) r h) ⌝ }
+    ensures { λ r. ⌜ (r ≤ h)
+        × (r < h → (getD (askedOf (now (held .entry)) (now (s .entry)) reach) r 0 ≡ 0 → ⊥)
+        × Alike (now (s .entry)) r h) ⌝ }
 {
     let mut j = 0;
     while j < h {
@@ -68,8 +71,11 @@ fn first_alike(s: &[u8], held: &[u8], reach: u16, h: usize) -> usize
 
 // Whether a random address is resolved by the key at a handle.
 fn resolved_at(s: &[u8], h: usize, payload: &[u8]) -> bool
-    requires { ⌜ (length (now s) ≡ blockSize) × (h < mostMonitors) × Framed (now payload) × (privateOf (now payload) ≡ true) × KeyAt (now s) h ⌝ }
-    ensures { λ r. ⌜ r ≡ meetsCondition (monitorIn (row monitorSize h (drop monitorsAt (now (s .entry)))) .1) (packetOf (now (payload .entry))) ⌝ }
+    requires { ⌜ (length (now s) ≡ blockSize) × (h < mostMonitors) × Framed (now payload)
+        × (privateOf (now payload) ≡ true) × KeyAt (now s) h ⌝ }
+    ensures { λ r. ⌜ r
+        ≡ meetsCondition (monitorIn (row monitorSize h (drop monitorsAt (now (s .entry)))) .1)
+        (packetOf (now (payload .entry))) ⌝ }
 {
     let at = State::MONITORS_AT + State::MONITOR_ROW * h;
     let from = at + State::CONDITION_AT;
@@ -77,12 +83,17 @@ fn resolved_at(s: &[u8], h: usize, payload: &[u8]) -> bool
     resolve::resolves(&s[from..to], &payload[2..8])
 }
 
-// Whether the key at a handle that is asked resolves the packet's address, as 1 or 0; met has it of the keys before. What was found for a key
-// is not worked out again for another handle with the same key.
+// Whether the key at a handle that is asked resolves the packet's address, as 1 or 0; met has it of the keys before.
+// What was found for a key is not worked out again for another handle with the same key.
 fn met_key(met: &[u8], s: &[u8], held: &[u8], reach: u16, h: usize, payload: &[u8]) -> u8
-    requires { ⌜ (length (now met) ≡ mostMonitors) × (length (now s) ≡ blockSize) × (length (now held) ≡ mostMonitors) × (h < mostMonitors)
-        × Framed (now payload) × (privateOf (now payload) ≡ true) × Keyed (now met) (now s) (askedOf (now held) (now s) reach) (now payload) h ⌝ }
-    ensures { λ r. ⌜ ((getD (askedOf (now (held .entry)) (now (s .entry)) reach) h 0 ≡ 0 → ⊥) → KeyAt (now (s .entry)) h → r ≡ flag (meetsCondition (monitorIn (row monitorSize h (drop monitorsAt (now (s .entry)))) .1) (packetOf (now (payload .entry))))) ⌝ }
+    requires { ⌜ (length (now met) ≡ mostMonitors) × (length (now s) ≡ blockSize) × (length (now held) ≡ mostMonitors)
+        × (h < mostMonitors)
+        × Framed (now payload) × (privateOf (now payload) ≡ true)
+        × Keyed (now met) (now s) (askedOf (now held) (now s) reach) (now payload) h ⌝ }
+    ensures { λ r. ⌜
+        ((getD (askedOf (now (held .entry)) (now (s .entry)) reach) h 0 ≡ 0 → ⊥) → KeyAt (now (s .entry)) h
+        → r ≡ flag (meetsCondition (monitorIn (row monitorSize h (drop monitorsAt (now (s .entry)))) .1)
+        (packetOf (now (payload .entry))))) ⌝ }
 {
     if asks::ask_at(s, h, held[h], reach) == 0 {
         return 0;
@@ -100,9 +111,11 @@ fn met_key(met: &[u8], s: &[u8], held: &[u8], reach: u16, h: usize, payload: &[u
 
 // The same of every handle with a key that is asked.
 pub(super) fn met_keys(met: &mut [u8], s: &[u8], held: &[u8], reach: u16, payload: &[u8])
-    requires { ⌜ (length (now met) ≡ mostMonitors) × (length (now s) ≡ blockSize) × (length (now held) ≡ mostMonitors) × Framed (now payload)
+    requires { ⌜ (length (now met) ≡ mostMonitors) × (length (now s) ≡ blockSize) × (length (now held) ≡ mostMonitors)
+        × Framed (now payload)
         × (privateOf (now payload) ≡ true) ⌝ }
-    ensures { λ _. ⌜ Keyed (now (met .exit)) (now (s .entry)) (askedOf (now (held .entry)) (now (s .entry)) reach) (now (payload .entry)) mostMonitors ⌝ }
+    ensures { λ _. ⌜ Keyed (now (met .exit)) (now (s .entry)) (askedOf (now (held .entry)) (now (s .entry)) reach)
+        (now (payload .entry)) mostMonitors ⌝ }
 {
     let mut h = 0;
     while h < State::MONITORS {

@@ -1,5 +1,6 @@
-// What a packet means to each monitor of a block (document 01, Conditions, Watching, by history). The monitors are asked once, in
-// handle order; what each says of the packet is kept as one octet a handle, which the loops over pairs and handles read.
+// What a packet means to each monitor of a block (document 01, Conditions, Watching, by history). The monitors are
+// asked once, in handle order; what each says of the packet is kept as one octet a handle, which the loops over pairs
+// and handles read.
 mod asks;
 mod keys;
 mod options;
@@ -32,8 +33,8 @@ fn bit(t: bool) -> u8
 // What the octet of a packet that matches has beside the tests.
 pub const MATCHED: u8 = 0x40;
 
-// What a packet that matches means to a monitor: good, in its window, strong enough for a start, reported at once, duplicates filtered, let
-// through by the report filtering; its RSSI is kept.
+// What a packet that matches means to a monitor: good, in its window, strong enough for a start, reported at once,
+// duplicates filtered, let through by the report filtering; its RSSI is kept.
 fn row_bits(high: u8, low: u8, sampling: u8, rssi: u8, filtering: u8, event: u8) -> u8
     ensures { λ r. ⌜ r ≡ rowBits high low sampling rssi filtering event ⌝ }
 {
@@ -52,8 +53,11 @@ fn row_bits(high: u8, low: u8, sampling: u8, rssi: u8, filtering: u8, event: u8)
 
 // Whether a packet matches the condition at a handle. The scan response begins at index scan.
 fn matches_at(s: &[u8], h: usize, payload: &[u8], scan: usize) -> bool
-    requires { ⌜ (length (now s) ≡ blockSize) × (h < mostMonitors) × Framed (now payload) × (scan ≡ scanAt (now payload)) ⌝ }
-    ensures { λ r. ⌜ r ≡ meetsCondition (monitorIn (row monitorSize h (drop monitorsAt (now (s .entry)))) .1) (packetOf (now (payload .entry))) ⌝ }
+    requires { ⌜ (length (now s) ≡ blockSize) × (h < mostMonitors) × Framed (now payload)
+        × (scan ≡ scanAt (now payload)) ⌝ }
+    ensures { λ r. ⌜ r
+        ≡ meetsCondition (monitorIn (row monitorSize h (drop monitorsAt (now (s .entry)))) .1)
+        (packetOf (now (payload .entry))) ⌝ }
 {
     let at = State::MONITORS_AT + State::MONITOR_ROW * h;
     let from = at + State::CONDITION_AT;
@@ -70,12 +74,14 @@ fn matches_at(s: &[u8], h: usize, payload: &[u8], scan: usize) -> bool
     )
 }
 
-// Whether the monitor of a handle is in use (its interval is not 0) and the packet meets its condition, as 1 or 0; for an address that keys resolve
-// met has it of the handles with a key, and no key resolves another.
+// Whether the monitor of a handle is in use (its interval is not 0) and the packet meets its condition, as 1 or 0;
+// for an address that keys resolve met has it of the handles with a key, and no key resolves another.
 fn met_at(met: &[u8], s: &[u8], h: usize, payload: &[u8], scan: usize, private: bool) -> u8
-    requires { ⌜ (length (now met) ≡ mostMonitors) × (length (now s) ≡ blockSize) × (h < mostMonitors) × Framed (now payload)
+    requires { ⌜ (length (now met) ≡ mostMonitors) × (length (now s) ≡ blockSize) × (h < mostMonitors)
+        × Framed (now payload)
         × (scan ≡ scanAt (now payload)) × Told private (now met) (now s) (now payload) h ⌝ }
-    ensures { λ r. ⌜ r ≡ metRow (row monitorSize h (drop monitorsAt (now (s .entry)))) (packetOf (now (payload .entry))) ⌝ }
+    ensures { λ r. ⌜ r
+        ≡ metRow (row monitorSize h (drop monitorsAt (now (s .entry)))) (packetOf (now (payload .entry))) ⌝ }
 {
     let at = State::MONITORS_AT + State::MONITOR_ROW * h;
     if s[at + State::INTERVAL_AT] == 0 {
@@ -94,7 +100,8 @@ fn met_at(met: &[u8], s: &[u8], h: usize, payload: &[u8], scan: usize, private: 
 fn mark_at(s: &[u8], h: usize, payload: &[u8], met: u8) -> u8
     requires { ⌜ (length (now s) ≡ blockSize) × (h < mostMonitors) × Framed (now payload)
         × (met ≡ metRow (row monitorSize h (drop monitorsAt (now s))) (packetOf (now payload))) ⌝ }
-    ensures { λ r. ⌜ r ≡ metMark (row monitorSize h (drop monitorsAt (now (s .entry)))) (packetOf (now (payload .entry))) ⌝ }
+    ensures { λ r. ⌜ r
+        ≡ metMark (row monitorSize h (drop monitorsAt (now (s .entry)))) (packetOf (now (payload .entry))) ⌝ }
 {
     if met == 0 {
         return 0;
@@ -120,9 +127,12 @@ fn mark_asked(
     private: bool,
     ask: u8,
 ) -> u8
-    requires { ⌜ (length (now met) ≡ mostMonitors) × (length (now s) ≡ blockSize) × (h < mostMonitors) × Framed (now payload)
+    requires { ⌜ (length (now met) ≡ mostMonitors) × (length (now s) ≡ blockSize) × (h < mostMonitors)
+        × Framed (now payload)
         × (scan ≡ scanAt (now payload)) × ((ask ≡ 0 → ⊥) → Told private (now met) (now s) (now payload) h) ⌝ }
-    ensures { λ r. ⌜ r ≡ markIf ask (metMark (row monitorSize h (drop monitorsAt (now (s .entry)))) (packetOf (now (payload .entry)))) ⌝ }
+    ensures { λ r. ⌜ r
+        ≡ markIf ask (metMark (row monitorSize h (drop monitorsAt (now (s .entry))))
+        (packetOf (now (payload .entry)))) ⌝ }
 {
     if ask == 0 {
         return 0;
@@ -142,8 +152,11 @@ fn mark_each(
     private: bool,
 )
     requires { ⌜ (length (now acts) ≡ mostMonitors) × (length (now met) ≡ mostMonitors) × (length (now s) ≡ blockSize)
-        × (length (now held) ≡ mostMonitors) × Framed (now payload) × ToldAll private (now met) (now s) (askedOf (now held) (now s) reach) (now payload) ⌝ }
-    ensures { λ _. ⌜ now (acts .exit) ≡ metIf (askedOf (now (held .entry)) (now (s .entry)) reach) (now (s .entry)) (packetOf (now (payload .entry))) ⌝ }
+        × (length (now held) ≡ mostMonitors) × Framed (now payload)
+        × ToldAll private (now met) (now s) (askedOf (now held) (now s) reach) (now payload) ⌝ }
+    ensures { λ _. ⌜ now (acts .exit)
+        ≡ metIf (askedOf (now (held .entry)) (now (s .entry)) reach) (now (s .entry))
+        (packetOf (now (payload .entry))) ⌝ }
 {
     let scan = scan_at(payload);
     let mut h = 0;
@@ -162,10 +175,13 @@ fn is_private(payload: &[u8]) -> bool
     (payload[1] == 1) & resolve::is_resolvable(&payload[2..8])
 }
 
-// For a resolvable private address the keys of conditions are asked first, so that the cipher runs once a key. Answers whether it is such a one.
+// For a resolvable private address the keys of conditions are asked first, so that the cipher runs once a key.
+// Answers whether it is such a one.
 fn find_keys(met: &mut [u8], s: &[u8], held: &[u8], reach: u16, payload: &[u8]) -> bool
-    requires { ⌜ (length (now met) ≡ mostMonitors) × (length (now s) ≡ blockSize) × (length (now held) ≡ mostMonitors) × Framed (now payload) ⌝ }
-    ensures { λ r. ⌜ ToldAll r (now (met .exit)) (now (s .entry)) (askedOf (now (held .entry)) (now (s .entry)) reach) (now (payload .entry)) ⌝ }
+    requires { ⌜ (length (now met) ≡ mostMonitors) × (length (now s) ≡ blockSize) × (length (now held) ≡ mostMonitors)
+        × Framed (now payload) ⌝ }
+    ensures { λ r. ⌜ ToldAll r (now (met .exit)) (now (s .entry)) (askedOf (now (held .entry)) (now (s .entry)) reach)
+        (now (payload .entry)) ⌝ }
 {
     if is_private(payload) {
         keys::met_keys(met, s, held, reach, payload);
@@ -189,8 +205,8 @@ pub fn scan_at(payload: &[u8]) -> usize
     10 + d
 }
 
-// Whether octets are those of a packet frame by their lengths: event type, address type, address (6), data length n of at most 31,
-// n octets, then with kind 04 the scan response's length of at most 31 and so many octets, RSSI.
+// Whether octets are those of a packet frame by their lengths: event type, address type, address (6), data length n
+// of at most 31, n octets, then with kind 04 the scan response's length of at most 31 and so many octets, RSSI.
 fn is_framed(payload: &[u8]) -> bool
     ensures { λ r. ⌜ r ≡ framed (now (payload .entry)) ⌝ }
 {
@@ -220,13 +236,14 @@ fn is_fit(n: usize, s: &[u8], payload: &[u8]) -> bool
     (n == State::MONITORS) & ((s.len() == State::SIZE) & framed)
 }
 
-// The passes are written out here and in mark_held: each is then a function with two callers, which stays one, and the cipher, which two of them
-// ask, stands below neither the match of conditions nor its stack.
+// The passes are written out here and in mark_held: each is then a function with two callers, which stays one, and
+// the cipher, which two of them ask, stands below neither the match of conditions nor its stack.
 
-// The octets of the handles 0 to 15, from the block s and a packet frame's payload. Where acts is not of 16 octets, s no block of
-// 5,225 or the payload no packet frame's by its lengths, nothing is written and the answer is false.
+// The octets of the handles 0 to 15, from the block s and a packet frame's payload. Where acts is not of 16 octets, s
+// no block of 5,225 or the payload no packet frame's by its lengths, nothing is written and the answer is false.
 pub fn mark_all(acts: &mut [u8], s: &[u8], payload: &[u8]) -> bool
-    ensures { λ r. ⌜ (r ≡ marksFit (now (acts .entry)) (now (s .entry)) (now (payload .entry))) × (now (acts .exit) ≡ marked r (now (acts .entry)) (now (s .entry)) (now (payload .entry))) ⌝ }
+    ensures { λ r. ⌜ (r ≡ marksFit (now (acts .entry)) (now (s .entry)) (now (payload .entry)))
+        × (now (acts .exit) ≡ marked r (now (acts .entry)) (now (s .entry)) (now (payload .entry))) ⌝ }
 {
     if !is_fit(acts.len(), s, payload) {
         return false;
@@ -244,7 +261,9 @@ pub fn mark_all(acts: &mut [u8], s: &[u8], payload: &[u8]) -> bool
 // monitors no more than the high threshold is read. Where held is not of 16 octets, too, nothing is written and the
 // answer is false.
 pub fn mark_held(acts: &mut [u8], s: &[u8], payload: &[u8], held: &[u8], may: bool) -> bool
-    ensures { λ r. ⌜ (r ≡ heldFit (now (held .entry)) (now (acts .entry)) (now (s .entry)) (now (payload .entry))) × (now (acts .exit) ≡ markedFor r may (now (held .entry)) (now (acts .entry)) (now (s .entry)) (now (payload .entry))) ⌝ }
+    ensures { λ r. ⌜ (r ≡ heldFit (now (held .entry)) (now (acts .entry)) (now (s .entry)) (now (payload .entry)))
+        × (now (acts .exit)
+        ≡ markedFor r may (now (held .entry)) (now (acts .entry)) (now (s .entry)) (now (payload .entry))) ⌝ }
 {
     if held.len() != State::MONITORS {
         return false;

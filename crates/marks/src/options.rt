@@ -1,4 +1,5 @@
-// The options of a version 2 monitor: whether the packet's device is the monitor's peer, or its key resolves the address (document 02, T-13).
+// The options of a version 2 monitor: whether the packet's device is the monitor's peer, or its key resolves the
+// address (document 02, T-13).
 use state::State;
 ghost use Prim.Native.Nat.{_+_, _<_};
 ghost use mathlib.Core.Path.{_≡_};
@@ -18,7 +19,9 @@ ghost use Rattle.model.specs.Layout.{blockSize, monitorSize, monitorsAt, mostMo
 // Whether the packet's device is the peer that the options at a handle ask for (bit 0).
 fn is_peer_at(s: &[u8], h: usize, payload: &[u8]) -> bool
     requires { ⌜ (length (now s) ≡ blockSize) × (h < mostMonitors) × Framed (now payload) ⌝ }
-    ensures { λ r. ⌜ r ≡ peerMeets (addedIn (row monitorSize h (drop monitorsAt (now (s .entry))))) (packetOf (now (payload .entry))) ⌝ }
+    ensures { λ r. ⌜ r
+        ≡ peerMeets (addedIn (row monitorSize h (drop monitorsAt (now (s .entry))))) (packetOf (now (payload .entry)))
+        ⌝ }
 {
     let at = State::MONITORS_AT + State::MONITOR_ROW * h;
     if s[at + State::OPTIONS_AT] % 2 != 1 {
@@ -35,7 +38,9 @@ fn is_peer_at(s: &[u8], h: usize, payload: &[u8]) -> bool
 // Whether the key that the options at a handle ask for (bit 1) resolves the packet's address.
 fn is_owner_at(s: &[u8], h: usize, payload: &[u8]) -> bool
     requires { ⌜ (length (now s) ≡ blockSize) × (h < mostMonitors) × Framed (now payload) ⌝ }
-    ensures { λ r. ⌜ r ≡ keyMeets (addedIn (row monitorSize h (drop monitorsAt (now (s .entry))))) (packetOf (now (payload .entry))) ⌝ }
+    ensures { λ r. ⌜ r
+        ≡ keyMeets (addedIn (row monitorSize h (drop monitorsAt (now (s .entry))))) (packetOf (now (payload .entry)))
+        ⌝ }
 {
     let at = State::MONITORS_AT + State::MONITOR_ROW * h;
     if s[at + State::OPTIONS_AT] / 2 % 2 != 1 {
@@ -52,7 +57,9 @@ fn is_owner_at(s: &[u8], h: usize, payload: &[u8]) -> bool
 // Whether the options at a handle admit the packet's device: those of version 1 and bit 5 any.
 pub(super) fn admits_at(s: &[u8], h: usize, payload: &[u8]) -> bool
     requires { ⌜ (length (now s) ≡ blockSize) × (h < mostMonitors) × Framed (now payload) ⌝ }
-    ensures { λ r. ⌜ r ≡ admits (parameters (monitorIn (row monitorSize h (drop monitorsAt (now (s .entry)))) .1)) (packetOf (now (payload .entry))) ⌝ }
+    ensures { λ r. ⌜ r
+        ≡ admits (parameters (monitorIn (row monitorSize h (drop monitorsAt (now (s .entry)))) .1))
+        (packetOf (now (payload .entry))) ⌝ }
 {
     let options = s[State::MONITORS_AT + State::MONITOR_ROW * h + State::OPTIONS_AT];
     if options == 0 {
@@ -84,7 +91,8 @@ fn admit_at(s: &[u8], h: usize, payload: &[u8], a: u8) -> u8
 // The second pass: so of every handle.
 pub(super) fn admit_each(acts: &mut [u8], s: &[u8], payload: &[u8])
     requires { ⌜ (length (now acts) ≡ mostMonitors) × (length (now s) ≡ blockSize) × Framed (now payload) ⌝ }
-    ensures { λ _. ⌜ now (acts .exit) ≡ admitted (now (acts .entry)) (now (s .entry)) (packetOf (now (payload .entry))) ⌝ }
+    ensures { λ _. ⌜ now (acts .exit)
+        ≡ admitted (now (acts .entry)) (now (s .entry)) (packetOf (now (payload .entry))) ⌝ }
 {
     let mut h = 0;
     while h < State::MONITORS {

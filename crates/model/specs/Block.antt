@@ -1,6 +1,7 @@
--- The state as a block of octets: rows as the image has them before hexadecimal, unused octets and rows 0. Document 01, The image
--- ("every unused octet and place of the state 0"). A0's fields stand at 0 (40 octets, the prefix padded), the 16 monitor rows of 96
--- octets at 40, the row of handle h at place h, the 64 pair rows of 57 octets at 1576 in start order, the number of pairs at 5224.
+-- The state as a block of octets: rows as the image has them before hexadecimal, unused octets and rows 0. Document
+-- 01, The image ("every unused octet and place of the state 0"). A0's fields stand at 0 (40 octets, the prefix
+-- padded), the 16 monitor rows of 96 octets at 40, the row of handle h at place h, the 64 pair rows of 57 octets at
+-- 1576 in start order, the number of pairs at 5224.
 use Prim.Native.Nat.{ℕ, zero, suc, _+_, _-_, _*_}
 use mathlib.Core.Bool.{Bool, true, false, _&&_, not}
 use mathlib.Core.List.{List, [], _∷_, _++_, map}
@@ -71,7 +72,8 @@ held s =
 unfoldable pub sound : List ℕ → Bool
 sound s = soundModel (held s) && sames (padded (held s)) s
 
--- one frame further: the position of a block is 1 more, and 0 behind the last number; a block too short to have one stays as it is
+-- one frame further: the position of a block is 1 more, and 0 behind the last number; a block too short to have one
+-- stays as it is
 unfoldable pub advanced : List ℕ → List ℕ
 advanced s = putIf (leb 4 (length s)) s positionAt (octetsOf 4 (little 4 s positionAt + 1))
 

@@ -12,8 +12,8 @@ use Rattle.model.specs.Types.{Model, Monitor, Pair, withLists, withFilte
 use Rattle.model.specs.Monitors.{faultOf, monitorOf, invalid, full, disallowed, unknown}
 use Rattle.model.specs.Layout.{mostMonitors}
 
--- A row of the table: a sub-opcode, its parameter length counting the sub-opcode (03 and 0F: the least), and the number of return
--- parameters on success (00: less the prefix).
+-- A row of the table: a sub-opcode, its parameter length counting the sub-opcode (03 and 0F: the least), and the
+-- number of return parameters on success (00: less the prefix).
 pub record Row : Type 0 where
   pub sub : ℕ
   pub params : ℕ
@@ -50,7 +50,8 @@ subOf l = getD l 0 0
 unfoldable pub readStatus : List ℕ → ℕ
 readStatus l = pick (eqb (length l) (paramsIn table 0x00)) 0 invalid
 
--- a monitor's command: 03, or 0F, whose "other checks and .. answers are 03's, with that sub-opcode and its own least length (H)"
+-- a monitor's command: 03, or 0F, whose "other checks and .. answers are 03's, with that sub-opcode and its own least
+-- length (H)"
 unfoldable pub adds : List ℕ → Bool
 adds l = eqb (subOf l) 0x03 || eqb (subOf l) 0x0F
 

@@ -1,5 +1,5 @@
--- What the rows of examples compute with. A theorem over rows names `computed` on its unfolding line: every definition that
--- is named here then unfolds in it. Assumes nothing.
+-- What the rows of examples compute with. A theorem over rows names `computed` on its unfolding line: every
+-- definition that is named here then unfolds in it. Assumes nothing.
 use Prim.Native.Nat.{ℕ}
 
 -- The number says nothing; the names under it do.
@@ -7,13 +7,13 @@ unfoldable pub computed : ℕ
 unfolding
     Rattle.laws.specs.Rows.rows Rattle.laws.specs.Rows.flat
     Rattle.laws.specs.Tests.pick Rattle.laws.specs.Tests.sames
-    Rattle.laws.specs.Loops.part Rattle.laws.specs.Loops.every Rattle.laws.specs.Loops.some
+    Rattle.laws.specs.LoopsLaws.part Rattle.laws.specs.Loops.every Rattle.laws.specs.Loops.some
     Rattle.laws.specs.Loops.only Rattle.laws.specs.Loops.keep Rattle.laws.specs.Loops.when
     Rattle.laws.specs.Loops.each Rattle.laws.specs.Loops.upTo
     Rattle.octets.specs.Little.little Rattle.octets.specs.Little.octetsOf Rattle.octets.specs.Little.value
     Rattle.lines.specs.Hex.digit Rattle.lines.specs.Hex.isHex Rattle.lines.specs.Hex.nib Rattle.lines.specs.Hex.hexOf
     Rattle.lines.specs.Hex.textOf Rattle.lines.specs.Hex.isText Rattle.lines.specs.Hex.octetsIn
-    Rattle.lines.specs.Hex.notLf
+    Rattle.lines.specs.HexLaws.notLf
     Rattle.lines.specs.Frame.isForm Rattle.lines.specs.Frame.isFrame Rattle.lines.specs.Frame.isLine
     Rattle.advert.specs.Parts.partsFrom Rattle.advert.specs.Parts.parts
     Rattle.advert.specs.Sections.sections Rattle.advert.specs.Sections.isType Rattle.advert.specs.Sections.contentsOf

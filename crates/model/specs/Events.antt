@@ -31,7 +31,8 @@ report event kind address adv rssi =
 unfoldable pub packetReport : Packet → List ℕ
 packetReport p = report (p .event) (p .kind) (p .address) (p .adv) (p .rssi)
 
--- document 02, T-06: "a second report of event type 4 with the scan response follows", empty or not, with the packet's RSSI
+-- document 02, T-06: "a second report of event type 4 with the scan response follows", empty or not, with the
+-- packet's RSSI
 unfoldable pub scanReport : Packet → Option (List ℕ) → List ℕ
 scanReport p none = []
 scanReport p (some l) = report 4 (p .kind) (p .address) l (p .rssi)

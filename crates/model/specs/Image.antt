@@ -1,4 +1,5 @@
--- The image's text, and what text is an image. Document 01, The image; a text is an image exactly if saving a sound state writes it.
+-- The image's text, and what text is an image. Document 01, The image; a text is an image exactly if saving a sound
+-- state writes it.
 use Prim.Native.Nat.{ℕ, _+_}
 use mathlib.Core.Bool.{Bool, true, false, _&&_, _||_}
 use mathlib.Core.List.{List, [], _∷_, _++_, map}
@@ -21,9 +22,11 @@ headRow m = octetsOf 4 (m .position) ++ (m .filter ∷ (octetsOf 2 (m .opcode) +
 -- "A1 per monitor, by handle: handle, high, low, interval, sampling, type, condition length, condition"
 unfoldable pub monitorRow : ℕ × Monitor → List ℕ
 monitorRow x =
-    x .0 ∷ x .1 .high ∷ x .1 .low ∷ x .1 .interval ∷ x .1 .sampling ∷ x .1 .kind ∷ length (x .1 .condition) ∷ x .1 .condition
+    x .0 ∷ x .1 .high ∷ x .1 .low ∷ x .1 .interval ∷ x .1 .sampling ∷ x .1 .kind ∷ length (x .1 .condition)
+    ∷ x .1 .condition
 
--- T-13: "A version 2 monitor is an A5 line among the A1 lines, by handle: A1's fields, then the added parameters as printed"
+-- T-13: "A version 2 monitor is an A5 line among the A1 lines, by handle: A1's fields, then the added parameters as
+-- printed"
 unfoldable pub extraText : Option (List ℕ) → List ℕ
 extraText none = []
 extraText (some l) = l
@@ -35,9 +38,9 @@ nameOf (some l) = 0xA5
 unfoldable pub monitorText : ℕ × Monitor → List ℕ
 monitorText x = nameOf (x .1 .extra) ∷ (monitorRow x ++ extraText (x .1 .extra))
 
--- "A2 per pair, in start order: handle, address type, address, ticks since a good packet (2), ticks in the window (1), packets (4),
--- sum (8), event type, n, data of the latest packet in the window"; T-05: "The A2 line becomes an A3 line, which has that octet" (the kept
--- RSSI) "before the event type"
+-- "A2 per pair, in start order: handle, address type, address, ticks since a good packet (2), ticks in the window
+-- (1), packets (4), sum (8), event type, n, data of the latest packet in the window"; T-05: "The A2 line becomes an
+-- A3 line, which has that octet" (the kept RSSI) "before the event type"
 unfoldable pub pairRow : Pair → List ℕ
 pairRow q =
     q .handle ∷ q .kind ∷ (q .address ++ (octetsOf 2 (q .silent) ++ (q .ticks ∷ (octetsOf 4 (q .packets) ++ (octetsOf 8 (q .sum)
@@ -57,7 +60,8 @@ records m =
 unfoldable pub imageText : Model → List ℕ
 imageText m = each textOf (records m)
 
--- what rows hold: a monitor, a pair. Monitor_options 0, which version 2 forbids, says that there are no added parameters.
+-- what rows hold: a monitor, a pair. Monitor_options 0, which version 2 forbids, says that there are no added
+-- parameters.
 unfoldable pub extraIn : List ℕ → Option (List ℕ)
 extraIn a = pick (eqb (getD a optionsIn 0) 0) none (some a)
 
@@ -132,7 +136,8 @@ modelIn rs =
 unfoldable pub heldIn : List ℕ → Model
 heldIn t = modelIn (map octetsIn (cut t))
 
--- "not an image of a sound state" is refusal 10: a text is an image where what it holds is sound and is saved as that very text
+-- "not an image of a sound state" is refusal 10: a text is an image where what it holds is sound and is saved as that
+-- very text
 unfoldable pub isImage : List ℕ → Bool
 isImage t = soundModel (heldIn t) && sames (imageText (heldIn t)) t
 

@@ -1,4 +1,5 @@
--- Document 01, "A session in full", in its own text: the lines given, the answer lines and the image's lines, character by character. P1.
+-- Document 01, "A session in full", in its own text: the lines given, the answer lines and the image's lines,
+-- character by character. P1.
 use Prim.Native.Nat.{ℕ, zero, suc}
 use Prim.Native.String.{String}
 use mathlib.Core.Bool.{Bool, true, false, _&&_}
@@ -66,7 +67,8 @@ eventsOf (suc n) (c ∷ l) = (c ∷ take (suc (getD l 0 0)) l) ∷ eventsOf n (d
 unfoldable pub answerLines : List ℕ → List ℕ
 answerLines a = each textOf (eventsOf (length a) a)
 
--- A row: the journal's lines and ticks after them, the answer lines, and the image's lines at the end (none: not compared).
+-- A row: the journal's lines and ticks after them, the answer lines, and the image's lines at the end (none: not
+-- compared).
 pub record Told : Type 0 where
   pub journal : List String
   pub ticks : ℕ
@@ -86,11 +88,13 @@ module _ (M : Machine) (begin : ℕ → List ℕ → M .S) where
   -- the state is saved as this text, and so is what the text is restored to
   unfoldable pub pictured : List String → M .S → Bool
   pictured [] s = true
-  pictured (l ∷ ls) s = sames (M .encode s) (each codes (l ∷ ls)) && saves (M .decode (each codes (l ∷ ls))) (each codes (l ∷ ls))
+  pictured (l ∷ ls) s =
+      sames (M .encode s) (each codes (l ∷ ls)) && saves (M .decode (each codes (l ∷ ls))) (each codes (l ∷ ls))
 
   unfoldable pub replayed : Told → Replayed (M .S)
   replayed r =
-      replay M (λ i. answerRoom) (begin opcodeInFull prefixInFull) (each codes (r .journal) ++ ticksText (r .ticks) (suc (length (r .journal))))
+      replay M (λ i. answerRoom) (begin opcodeInFull prefixInFull)
+      (each codes (r .journal) ++ ticksText (r .ticks) (suc (length (r .journal))))
 
   -- replay of the journal runs through, writes these lines, and ends at a state of this image, which is restored
   unfoldable pub toldRight : Told → Bool

@@ -1,6 +1,6 @@
--- THE LAYOUT: the only home of the limits and of the places in the state's block and its rows. `State` in the crate state has the
--- same numbers for the code; `put_blank` leaves `padded blank` in the block, so the two cannot drift apart.
--- Document 01, Sizes of the gateway, The image. All of these unfold everywhere: arithmetic sees the numbers.
+-- THE LAYOUT: the only home of the limits and of the places in the state's block and its rows. `State` in the crate
+-- state has the same numbers for the code; `put_blank` leaves `padded blank` in the block, so the two cannot drift
+-- apart. Document 01, Sizes of the gateway, The image. All of these unfold everywhere: arithmetic sees the numbers.
 use Prim.Native.Nat.{ℕ, _+_, _-_, _*_}
 
 -- Sizes of the gateway: monitors 16 (handles 0 to 15); watched pairs 64; condition 64 octets; data 31; prefix 32.
@@ -69,8 +69,8 @@ abbrev pub conditionAt : ℕ
 conditionAt = conditionLengthAt + 1
 
 -- Behind the room of the condition, what version 2 adds (document 02, T-13): Monitor_options,
--- Advertisement_report_filtering_options, Peer_device_address (6), Peer_device_address_type, Peer_device_IRK (16). The places are
--- counted from the first of them; all are 0 in version 1.
+-- Advertisement_report_filtering_options, Peer_device_address (6), Peer_device_address_type, Peer_device_IRK (16).
+-- The places are counted from the first of them; all are 0 in version 1.
 abbrev pub extraAt : ℕ
 extraAt = conditionAt + mostCondition
 
@@ -98,8 +98,8 @@ extraSize = irkIn + irkSize
 abbrev pub monitorSize : ℕ
 monitorSize = extraAt + extraSize
 
--- A pair's row, A3's fields: handle, address type, address, ticks since a good packet (2), ticks in the window, packets (4),
--- sum (8), kept RSSI (document 02, T-05), event type, n, data.
+-- A pair's row, A3's fields: handle, address type, address, ticks since a good packet (2), ticks in the window,
+-- packets (4), sum (8), kept RSSI (document 02, T-05), event type, n, data.
 abbrev pub kindAt : ℕ
 kindAt = handleAt + 1
 
@@ -159,8 +159,8 @@ intervalsAt = monitorsAt + intervalAt
 abbrev pub periodsAt : ℕ
 periodsAt = monitorsAt + samplingAt
 
--- in a pair's row: from the ticks since a good packet, and from the packets on, up to the data's end; what an empty window has 0, before
--- the kept RSSI and behind it
+-- in a pair's row: from the ticks since a good packet, and from the packets on, up to the data's end; what an empty
+-- window has 0, before the kept RSSI and behind it
 abbrev pub timesSize : ℕ
 timesSize = dataAt + mostData - silentAt
 
@@ -195,9 +195,9 @@ lineRow = monitorSize + 1
 abbrev pub bodySize : ℕ
 bodySize = blockSize - headSize
 
--- the longest event, report, return parameters and Command Complete; what one handle's turn writes at a
--- packet, what all do (a stop event and a start event each), and with both reports; the parameters of 03 and 0F: the condition's type, and
--- the longest list that is accepted
+-- the longest event, report, return parameters and Command Complete; what one handle's turn writes at a packet, what
+-- all do (a stop event and a start event each), and with both reports; the parameters of 03 and 0F: the condition's
+-- type, and the longest list that is accepted
 abbrev pub eventMost : ℕ
 eventMost = 12 + mostPrefix
 
@@ -228,8 +228,8 @@ secondTypeIn = firstTypeIn + extraSize
 abbrev pub paramsMost : ℕ
 paramsMost = secondTypeIn + 1 + mostCondition
 
--- The image's lines with their LF: the octet that names a line and its fields, two characters an octet. A row of the block may be
--- longer than the fields of its line.
+-- The image's lines with their LF: the octet that names a line and its fields, two characters an octet. A row of the
+-- block may be longer than the fields of its line.
 abbrev pub headLine : ℕ
 headLine = 2 * (1 + (prefixAt + mostPrefix)) + 1
 

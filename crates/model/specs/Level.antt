@@ -1,7 +1,7 @@
--- RSSI and sums of RSSI as whole numbers with a sign. Document 01, Sizes of the gateway ("RSSI is signed, −127 to 20"),
--- Watching, by history ("RSSI the greatest whole number not above sum / count"), The image ("sum from −127 × packets to 20
--- × packets"). An RSSI is kept as an octet and a sum as 8 octets, both in two's complement: here stands which whole number
--- they mean. The arithmetic of levels is a law (Levels).
+-- RSSI and sums of RSSI as whole numbers with a sign. Document 01, Sizes of the gateway ("RSSI is signed, −127 to
+-- 20"), Watching, by history ("RSSI the greatest whole number not above sum / count"), The image ("sum from −127 ×
+-- packets to 20 × packets"). An RSSI is kept as an octet and a sum as 8 octets, both in two's complement: here stands
+-- which whole number they mean. The arithmetic of levels is a law (Levels).
 use Prim.Native.Nat.{ℕ, _+_, _-_, _*_, _/_, _%_}
 use mathlib.Core.Bool.{Bool, _&&_}
 use lib.IntN.{ℤ, pos, negsuc, negℤ, subℕ, _+ℤ_}

@@ -2,11 +2,12 @@
 pub mod Layout
 pub mod Types
 pub mod Level
-pub mod Signed
+pub mod SignedLaws
 pub mod Levels
+pub mod LevelsLaws
 pub mod Frames
 pub mod Monitors
-pub mod Accepted
+pub mod AcceptedLaws
 pub mod Commands
 pub mod Watch
 pub mod Events
@@ -18,9 +19,10 @@ pub mod Engine
 pub mod Radio
 pub mod Quoted
 pub mod InFull
-pub mod Lengths
+pub mod LengthsLaws
 pub mod Rows
 pub mod Requests
 pub mod Second
 pub mod Computed
 pub mod Edges
+pub mod EdgesLaws

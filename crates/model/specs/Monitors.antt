@@ -1,6 +1,7 @@
--- Which monitors are accepted, which packets they match, and which reports they let through. Document 01, Commands (03), Conditions,
--- Watching; document 02, T-13 (0F, version 2 of 03), with the tables of 000, HCI_VS_MSFT_LE_Monitor_Advertisement.
--- Requests that change a rule change it here: nothing outside looks into these definitions.
+-- Which monitors are accepted, which packets they match, and which reports they let through. Document 01, Commands
+-- (03), Conditions, Watching; document 02, T-13 (0F, version 2 of 03), with the tables of 000,
+-- HCI_VS_MSFT_LE_Monitor_Advertisement. Requests that change a rule change it here: nothing outside looks into these
+-- definitions.
 use Prim.Native.Nat.{ℕ, _+_, _*_, _/_, _%_}
 use mathlib.Core.Bool.{Bool, _&&_, _||_, not}
 use mathlib.Core.List.{List, [], _∷_}
@@ -37,15 +38,15 @@ ordered high low = leZ (dBm low) (dBm high)
 unfoldable pub settingsGood : ℕ → ℕ → ℕ → Bool
 settingsGood high low interval = inRange high && inRange low && ordered high low && leb 1 interval && leb interval 0x3C
 
--- what is said of a condition's form has its status (advert, Condition); a well-formed one may be too long: "condition type outside
--- 1 to 4: 0x12 .. Malformed condition: 0x12. Condition over 64 octets .. 0x07"
+-- what is said of a condition's form has its status (advert, Condition); a well-formed one may be too long:
+-- "condition type outside 1 to 4: 0x12 .. Malformed condition: 0x12. Condition over 64 octets .. 0x07"
 unfoldable pub conditionFault : ℕ → List ℕ → ℕ
 conditionFault kind condition =
     pick (eqb (formStatus (formOf kind condition)) 0) (pick (ltb mostCondition (length condition)) full 0)
     (formStatus (formOf kind condition))
 
--- 000, Missing parameters, what version 1 stands for: "Monitor_options: bit 5 set; Advertisement_report_filter_options: bits 1 and 2
--- set", all else 0
+-- 000, Missing parameters, what version 1 stands for: "Monitor_options: bit 5 set;
+-- Advertisement_report_filter_options: bits 1 and 2 set", all else 0
 unfoldable pub missing : List ℕ
 missing = 0x20 ∷ 0x06 ∷ replicate 23 0
 
@@ -107,9 +108,11 @@ sampledSifting a sampling = siftsBy a && not (isNone sampling)
 -- T-13, "whatever its tables forbid is 0x12": none of these, and Peer_device_address_type is not a reserved value
 unfoldable pub allowed : List ℕ → ℕ → ℕ → Bool
 allowed a sampling kind =
-    not (noOption a) && not (noKey a) && not (twoDevices a kind) && not (sampledSifting a sampling) && leb (peerType a) 1
+    not (noOption a) && not (noKey a) && not (twoDevices a kind) && not (sampledSifting a sampling)
+    && leb (peerType a) 1
 
--- Commands, 03 and 0F, in this order: the settings and the added parameters, all of them 0x12, then the condition; 0 where all are met.
+-- Commands, 03 and 0F, in this order: the settings and the added parameters, all of them 0x12, then the condition; 0
+-- where all are met.
 unfoldable pub faultOf : Monitor → ℕ
 faultOf m =
     pick (settingsGood (m .high) (m .low) (m .interval) && allowed (parameters m) (m .sampling) (m .kind))
@@ -130,7 +133,8 @@ typeIn l = pick (isSecond l) secondTypeIn firstTypeIn
 unfoldable pub extraOf : List ℕ → Option (List ℕ)
 extraOf l = pick (isSecond l) (some (take extraSize (drop firstTypeIn l))) none
 
--- "Parameters after it: high, low, interval, sampling, condition type, condition"; 0F has the added ones before the condition type
+-- "Parameters after it: high, low, interval, sampling, condition type, condition"; 0F has the added ones before the
+-- condition type
 unfoldable pub monitorOf : List ℕ → Monitor
 monitorOf l =
     record {
@@ -148,26 +152,29 @@ unfoldable pub meetsCondition : Monitor → Packet → Bool
 meetsCondition m p = meets (m .kind) (m .condition) (p .kind) (p .address) (p .adv) (scanText (p .scan))
 
 -- 000: "Monitor_options bit 5 is set"; IsAdvAMatch: "(bit 0 is set) && ((AdvA == Peer_device_address) && (TxAdd ==
--- Peer_device_address_type)) || (bit 1 is set) && (AdvA resolvable with Peer_device_IRK)". Bits 2, 3 and 4 ask for a TargetA, which no
--- packet carries (H): they match nothing.
+-- Peer_device_address_type)) || (bit 1 is set) && (AdvA resolvable with Peer_device_IRK)". Bits 2, 3 and 4 ask for a
+-- TargetA, which no packet carries (H): they match nothing.
 unfoldable pub admits : List ℕ → Packet → Bool
 admits a p =
-    bit 32 (options a) || ((bit 1 (options a) && sames (peer a) (deviceOf p)) || (bit 2 (options a) && irkMeets (irk a) (p .kind) (p .address)))
+    bit 32 (options a)
+    || ((bit 1 (options a) && sames (peer a) (deviceOf p))
+    || (bit 2 (options a) && irkMeets (irk a) (p .kind) (p .address)))
 
 -- 000: MonitorOptionsMatch
 unfoldable pub matches : Monitor → Packet → Bool
 matches m p = meetsCondition m p && admits (parameters m) p
 
--- 000: ShouldGenerateLegacyReport or ShouldGenerateDirectedReport. Bit 1 of report filtering is for legacy PDUs, which all packets are,
--- bit 3 for directed ones, those of event type 1 (Core, ADV_DIRECT_IND); bit 2 is for extended ones.
+-- 000: ShouldGenerateLegacyReport or ShouldGenerateDirectedReport. Bit 1 of report filtering is for legacy PDUs,
+-- which all packets are, bit 3 for directed ones, those of event type 1 (Core, ADV_DIRECT_IND); bit 2 is for extended
+-- ones.
 unfoldable pub letsThrough : ℕ → ℕ → Bool
 letsThrough bits event = bit 2 bits || (bit 8 bits && eqb event 1)
 
 unfoldable pub allows : Monitor → ℕ → Bool
 allows m event = letsThrough (filtering (parameters m)) event
 
--- "A packet is good if its RSSI is above low." T-01: "While under watch, a packet at the shared value is low." A start packet is good
--- whatever `low` is: a pair starts with no ticks since a good packet (Watch, `startPair`).
+-- "A packet is good if its RSSI is above low." T-01: "While under watch, a packet at the shared value is low." A
+-- start packet is good whatever `low` is: a pair starts with no ticks since a good packet (Watch, `startPair`).
 unfoldable pub good : Monitor → Packet → Bool
 good m p = ltZ (dBm (m .low)) (dBm (p .rssi))
 

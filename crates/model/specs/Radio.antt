@@ -1,4 +1,5 @@
--- The model's monitors, packets and frames as the history rule of the crate rule reads them. Document 01, Watching, by history.
+-- The model's monitors, packets and frames as the history rule of the crate rule reads them. Document 01, Watching,
+-- by history.
 use Prim.Native.Nat.{ℕ, _+_, _*_, _≤_, _<_}
 use mathlib.Core.Path.{_≡_, refl, sym, ap, _∙_}
 use mathlib.Core.Bool.{Bool, true, false, _&&_, not}
@@ -7,12 +8,13 @@ use native.Mathlib.Omega.{arith}
 use lib.Dec.{leb, ltb, eqb}
 use lib.ListN.{length, getD}
 use borrow.Author.Tests.{leb-true, eqb-true}
-use Rattle.laws.specs.Tests.{pick, sames, sames-eq, sames-refl}
+use Rattle.laws.specs.Tests.{pick, sames}
+use Rattle.laws.specs.TestsLaws.{sames-eq, sames-refl}
 use Rattle.rule.specs.Radio.{Radio, Frame, add, cancel, packet, tick, other}
 use Rattle.model.specs.Types.{Model, Monitor, Packet, Pair, deviceOf, ticksOf}
 use Rattle.model.specs.Level.{level}
 use Rattle.model.specs.Monitors.{matches, good, strong, runOf, accepts, monitorOf, faultOf}
-use Rattle.model.specs.Accepted.{accepts-run}
+use Rattle.model.specs.AcceptedLaws.{accepts-run}
 use Rattle.model.specs.Commands.{adds, subOf, paramsIn, table}
 use Rattle.model.specs.Frames.{Body, Typed, command, packet as packetFrame, tick as tickFrame, bad, typed}
 

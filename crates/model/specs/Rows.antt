@@ -1,5 +1,6 @@
--- Rows: settings, frames given one after another as octets, and what each is answered, octets written or a refusal number; with the
--- frames and answers that rows share. The expected octets are the documents' own, or follow from their rules by hand.
+-- Rows: settings, frames given one after another as octets, and what each is answered, octets written or a refusal
+-- number; with the frames and answers that rows share. The expected octets are the documents' own, or follow from
+-- their rules by hand.
 use Prim.Native.Nat.{ℕ, zero, suc, _+_}
 use mathlib.Core.Path.{_≡_, refl}
 use mathlib.Core.Bool.{Bool, true, false, _&&_}
@@ -52,7 +53,8 @@ module _ (M : Machine) (begin : ℕ → List ℕ → M .S) where
   answered s [] (r ∷ rs) = false
   answered s (f ∷ fs) [] = false
   answered s (f ∷ fs) (r ∷ rs) =
-      same (replyOf (answer M answerRoom s octets f)) r && answered (stateAfter s (answer M answerRoom s octets f)) fs rs
+      same (replyOf (answer M answerRoom s octets f)) r
+      && answered (stateAfter s (answer M answerRoom s octets f)) fs rs
 
   unfoldable pub reached : M .S → List (List ℕ) → M .S
   reached s [] = s
@@ -67,7 +69,8 @@ module _ (M : Machine) (begin : ℕ → List ℕ → M .S) where
   unfoldable pub allRight : List Told → List Row → Bool
   allRight ts rs = every (toldRight M begin) ts && every right rs
 
--- frames: a command, a packet of the device 06 05 04 03 02 01 with no data, a packet with data, a tick; and ticks in a row
+-- frames: a command, a packet of the device 06 05 04 03 02 01 with no data, a packet with data, a tick; and ticks in
+-- a row
 unfoldable pub cmd : ℕ → List ℕ → List ℕ
 cmd n l = 1 ∷ (octetsOf 4 n ++ (octetsOf 2 0xFC1E ++ (length l ∷ l)))
 
@@ -107,7 +110,8 @@ report60 = 0x3E ∷ 0x0C ∷ 0x02 ∷ 0x01 ∷ 0x00 ∷ 0x00 ∷ 0x06 ∷ 0x05 �
 
 -- the session: settings 0xFC1E and 4D 53
 unfoldable pub session : List (List ℕ) → List Reply → List (List ℕ) → Row
-session frames replies image = record { opcode = 0xFC1E; prefix = 0x4D ∷ 0x53 ∷ []; frames = frames; replies = replies; image = image }
+session frames replies image =
+    record { opcode = 0xFC1E; prefix = 0x4D ∷ 0x53 ∷ []; frames = frames; replies = replies; image = image }
 
 -- the filter switched on
 unfoldable pub on : List ℕ

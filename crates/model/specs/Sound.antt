@@ -1,5 +1,5 @@
--- Soundness, clause by clause. Document 01, The image ("Sound: ..") and Sizes of the gateway. A test on the model; that every
--- unused octet and place of the block is 0 is the test of Block.
+-- Soundness, clause by clause. Document 01, The image ("Sound: ..") and Sizes of the gateway. A test on the model;
+-- that every unused octet and place of the block is 0 is the test of Block.
 use Prim.Native.Nat.{ℕ, zero, suc, _+_}
 use mathlib.Core.Bool.{Bool, true, false, _&&_, _||_, not}
 use mathlib.Core.List.{List, [], _∷_}
@@ -33,15 +33,16 @@ soundExtra (some l) = eqb (length l) extraSize && every isOctet l
 -- "every monitor as 0x03 would accept it"; T-13: version 2 "where its command would accept it"; its fields octets
 unfoldable pub soundMonitor : Monitor → Bool
 soundMonitor m =
-    accepts m && isOctet (m .high) && isOctet (m .low) && isOctet (m .sampling) && every isOctet (m .condition) && soundExtra (m .extra)
+    accepts m && isOctet (m .high) && isOctet (m .low) && isOctet (m .sampling) && every isOctet (m .condition)
+    && soundExtra (m .extra)
 
 -- "monitors held in rising handle order, handles 0 to 15"; each handle at least k
 unfoldable pub soundMonitors : ℕ → List (ℕ × Monitor) → Bool
 soundMonitors k [] = true
 soundMonitors k (x ∷ l) = leb k (x .0) && ltb (x .0) mostMonitors && soundMonitor (x .1) && soundMonitors (suc (x .0)) l
 
--- "for P in 1 to 0xFE window ticks below P, packets at most the position, sum from −127 × packets to 20 × packets; with other
--- sampling window ticks and packets 0"
+-- "for P in 1 to 0xFE window ticks below P, packets at most the position, sum from −127 × packets to 20 × packets;
+-- with other sampling window ticks and packets 0"
 unfoldable pub soundWindow : ℕ → Monitor → Pair → Bool
 soundWindow position m q =
     pick (windowed m) (
@@ -49,15 +50,16 @@ soundWindow position m q =
     && sumInRange (q .sum) (q .packets))
     (eqb (q .ticks) 0 && eqb (q .packets) 0)
 
--- T-13: "for monitors that filter duplicates the A3 line's last fields keep that packet though packets is 0 (event type 0xFF, n 0 while
--- there is none)"; for others event type and n are 0
+-- T-13: "for monitors that filter duplicates the A3 line's last fields keep that packet though packets is 0 (event
+-- type 0xFF, n 0 while there is none)"; for others event type and n are 0
 unfoldable pub soundLatest : Bool → ℕ → List ℕ → Bool
 soundLatest true event adv = leb event 3 || (eqb event 0xFF && eqb (length adv) 0)
 soundLatest false event adv = eqb event 0 && eqb (length adv) 0
 
 -- "with valid .. event type"; "with packets 0 the sum, event type and n are 0"
 unfoldable pub soundEmpty : Monitor → Pair → Bool
-soundEmpty m q = pick (leb 1 (q .packets)) (leb (q .event) 3) (eqb (q .sum) 0 && soundLatest (sifts m) (q .event) (q .adv))
+soundEmpty m q =
+    pick (leb 1 (q .packets)) (leb (q .event) 3) (eqb (q .sum) 0 && soundLatest (sifts m) (q .event) (q .adv))
 
 -- "with valid address type .., n at most 31"; T-05: the kept RSSI "between −127 and 20"
 unfoldable pub soundFields : Pair → Bool
@@ -81,5 +83,6 @@ apart (q ∷ l) = not (holds l (q .handle) (watched q)) && apart l
 -- "Sound: settings in range, filter 0 or 1; monitors ..; pairs distinct, at most 64, .."
 unfoldable pub soundModel : Model → Bool
 soundModel m =
-    leb (m .position) lastNumber && leb (m .filter) 1 && soundSettings (m .opcode) (m .prefix) && soundMonitors 0 (m .mons)
+    leb (m .position) lastNumber && leb (m .filter) 1 && soundSettings (m .opcode) (m .prefix)
+    && soundMonitors 0 (m .mons)
     && leb (length (m .pairs)) mostPairs && apart (m .pairs) && every (soundPair m) (m .pairs)

@@ -1,5 +1,5 @@
--- One step: what a frame with the next number does. Document 01, Refusal numbers (5, 6), Commands, Watching, by history.
--- The refusals 7, 3, 4, 1, 2 come before, in `answer` of the crate sessions.
+-- One step: what a frame with the next number does. Document 01, Refusal numbers (5, 6), Commands, Watching, by
+-- history. The refusals 7, 3, 4, 1, 2 come before, in `answer` of the crate sessions.
 use Prim.Native.Nat.{ℕ}
 use mathlib.Core.List.{List, []}
 use lib.Dec.{eqb}

@@ -8,9 +8,9 @@ use mathlib.Core.Option.{Option, none, some}
 unfoldable pub ticksOf : ℕ → ℕ
 ticksOf seconds = 10 * seconds
 
--- Commands, 03: what a monitor was added with. `high` and `low` are RSSI octets, `interval` is in seconds, `kind` is the
--- condition's type. `extra` are the parameters that version 2 adds (document 02, T-13), 25 octets in the order of 000's command row;
--- version 1 has none.
+-- Commands, 03: what a monitor was added with. `high` and `low` are RSSI octets, `interval` is in seconds, `kind` is
+-- the condition's type. `extra` are the parameters that version 2 adds (document 02, T-13), 25 octets in the order of
+-- 000's command row; version 1 has none.
 pub record Monitor : Type 0 where
   pub high : ℕ
   pub low : ℕ
@@ -20,8 +20,8 @@ pub record Monitor : Type 0 where
   pub condition : List ℕ
   pub extra : Option (List ℕ)
 
--- Lines, 02: an advertisement. `kind` is the address type, `adv` the data; `scan` is the scan response of a packet of kind 04 (document
--- 02, T-06), which may be empty.
+-- Lines, 02: an advertisement. `kind` is the address type, `adv` the data; `scan` is the scan response of a packet of
+-- kind 04 (document 02, T-06), which may be empty.
 pub record Packet : Type 0 where
   pub event : ℕ
   pub kind : ℕ
@@ -30,11 +30,12 @@ pub record Packet : Type 0 where
   pub scan : Option (List ℕ)
   pub rssi : ℕ
 
--- The image, A3: a pair of a monitor (its handle) and a device (address type `kind` and address) under watch. `silent` are
--- the ticks since a good packet; `ticks`, `packets`, `sum` (two's complement in 8 octets), `event` and `adv` are the window's:
--- ticks in it, packets in it, the sum of their RSSI, and event type and data of the latest of them. `kept` is the RSSI octet of the
--- latest packet that matched, the start's included (document 02, T-05). For a monitor that filters duplicates, which has no windows,
--- `event` and `adv` are those of the last packet that was a reason for a report; 0xFF and none while there is none (T-13).
+-- The image, A3: a pair of a monitor (its handle) and a device (address type `kind` and address) under watch.
+-- `silent` are the ticks since a good packet; `ticks`, `packets`, `sum` (two's complement in 8 octets), `event` and
+-- `adv` are the window's: ticks in it, packets in it, the sum of their RSSI, and event type and data of the latest of
+-- them. `kept` is the RSSI octet of the latest packet that matched, the start's included (document 02, T-05). For a
+-- monitor that filters duplicates, which has no windows, `event` and `adv` are those of the last packet that was a
+-- reason for a report; 0xFF and none while there is none (T-13).
 pub record Pair : Type 0 where
   pub handle : ℕ
   pub kind : ℕ
@@ -74,15 +75,36 @@ scanText (some l) = l
 -- The state with other monitors and pairs, with another filter, one frame further.
 unfoldable pub withLists : Model → List (ℕ × Monitor) → List Pair → Model
 withLists m mons pairs =
-    record { position = m .position; filter = m .filter; opcode = m .opcode; prefix = m .prefix; mons = mons; pairs = pairs }
+    record {
+      position = m .position;
+      filter = m .filter;
+      opcode = m .opcode;
+      prefix = m .prefix;
+      mons = mons;
+      pairs = pairs;
+    }
 
 unfoldable pub withFilter : Model → ℕ → Model
 withFilter m on =
-    record { position = m .position; filter = on; opcode = m .opcode; prefix = m .prefix; mons = m .mons; pairs = m .pairs }
+    record {
+      position = m .position;
+      filter = on;
+      opcode = m .opcode;
+      prefix = m .prefix;
+      mons = m .mons;
+      pairs = m .pairs;
+    }
 
 unfoldable pub moved : Model → Model
 moved m =
-    record { position = m .position + 1; filter = m .filter; opcode = m .opcode; prefix = m .prefix; mons = m .mons; pairs = m .pairs }
+    record {
+      position = m .position + 1;
+      filter = m .filter;
+      opcode = m .opcode;
+      prefix = m .prefix;
+      mons = m .mons;
+      pairs = m .pairs;
+    }
 
 -- "A fresh state: position 0, filter off (000), no monitors."
 unfoldable pub fresh : ℕ → List ℕ → Model

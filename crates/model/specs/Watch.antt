@@ -1,4 +1,5 @@
--- Watching, by stored timers: what a packet and a tick do to the pairs held, and what they write. Document 01, Watching, by history.
+-- Watching, by stored timers: what a packet and a tick do to the pairs held, and what they write. Document 01,
+-- Watching, by history.
 use Prim.Native.Nat.{ℕ, zero, suc, _+_}
 use mathlib.Core.Bool.{Bool, true, false, _&&_, _||_, not}
 use mathlib.Core.List.{List, [], _∷_, _++_, map}
@@ -16,8 +17,8 @@ use Rattle.model.specs.Monitors.{allows, matches, good, sifts, strong, r
 use Rattle.model.specs.Events.{startEvent, stopEvent, packetReports, windowReport}
 use Rattle.model.specs.Layout.{mostMonitors, mostPairs}
 
--- A pair with other ticks since a good packet, with one packet more in its window, with another number of ticks in its window,
--- with an empty window.
+-- A pair with other ticks since a good packet, with one packet more in its window, with another number of ticks in
+-- its window, with an empty window.
 unfoldable pub withSilent : Pair → ℕ → Pair
 withSilent q n =
     record {
@@ -121,12 +122,13 @@ refreshed m p q = pick (good m p) (withSilent q 0) q
 unfoldable pub windowTakes : Monitor → Packet → Pair → Pair
 windowTakes m p q = pick (windowed m) (gathered p q) q
 
--- T-13: "A duplicate has the event type and advertisement data of the last packet that was a reason for a report for that pair"
+-- T-13: "A duplicate has the event type and advertisement data of the last packet that was a reason for a report for
+-- that pair"
 unfoldable pub duplicate : Monitor → Packet → Pair → Bool
 duplicate m p q = sifts m && (eqb (q .event) (p .event) && sames (q .adv) (p .adv))
 
--- the packet that was a reason is kept, for a monitor that filters duplicates; keeping a duplicate changes nothing, so it need not be
--- told apart (`duplicate-kept`)
+-- the packet that was a reason is kept, for a monitor that filters duplicates; keeping a duplicate changes nothing,
+-- so it need not be told apart (`duplicate-kept`)
 unfoldable pub remembered : Monitor → Packet → Pair → Pair
 remembered m p q = pick (sifts m && allows m (p .event)) (withLatest (p .event) (p .adv) q) q
 
@@ -177,9 +179,9 @@ fits r qs = hasRoom qs || ltZ (dBm (least r qs)) (dBm r)
 unfoldable pub begins : Monitor → Packet → ℕ → List Pair → Bool
 begins m p h qs = matches m p && (strong m p && (not (holds qs h (deviceOf p)) && fits (p .rssi) qs))
 
--- a pair at its start: "The start packet is in no window". T-01: "A start packet now counts as good even when its RSSI is not above
--- low": no ticks have passed since a good packet. T-13: "looking no further back than its latest start", "event type 0xFF, n 0 while there
--- is none"
+-- a pair at its start: "The start packet is in no window". T-01: "A start packet now counts as good even when its
+-- RSSI is not above low": no ticks have passed since a good packet. T-13: "looking no further back than its latest
+-- start", "event type 0xFF, n 0 while there is none"
 unfoldable pub startLike : Bool → Bool → ℕ → Packet → Pair
 startLike sifting reason h p =
     record {
@@ -204,8 +206,8 @@ unfoldable pub startOf : Option Monitor → Packet → ℕ → List Pair → Lis
 startOf none p h qs = []
 startOf (some m) p h qs = when (begins m p h qs) (startPair m h p ∷ [])
 
--- T-05: "that pair (the earliest started if several) gets its stop event": the pair that goes for a start at an RSSI where there is no
--- room, and those that stay
+-- T-05: "that pair (the earliest started if several) gets its stop event": the pair that goes for a start at an RSSI
+-- where there is no room, and those that stay
 unfoldable pub goesFor : ℕ → List Pair → List Pair
 goesFor r qs = pick (hasRoom qs) [] (firstKeeping (least r qs) qs)
 
@@ -248,8 +250,8 @@ packetPairs m p = turns (m .mons) p mostMonitors (map (packetMove (m .mons) p) (
 unfoldable pub startsOf : Model → Packet → List Pair
 startsOf m p = startsBelow (m .mons) p mostMonitors (map (packetMove (m .mons) p) (m .pairs))
 
--- "some matching monitor has sampling 0 and the pair under watch"; T-13: it is a reason where its report filtering lets the packet
--- through and it is no duplicate
+-- "some matching monitor has sampling 0 and the pair under watch"; T-13: it is a reason where its report filtering
+-- lets the packet through and it is no duplicate
 unfoldable pub reasonFor : Option Monitor → Packet → Pair → Bool
 reasonFor none p q = false
 reasonFor (some m) p q = counts m p q && (eqb (m .sampling) 0 && (allows m (p .event) && not (duplicate m p q)))
@@ -265,13 +267,14 @@ allowsBy (some m) event = allows m event
 unfoldable pub startTold : List (ℕ × Monitor) → Packet → Pair → Bool
 startTold mons p q = allowsBy (find mons (q .handle)) (p .event)
 
--- "one report .. if the filter is off, or some matching monitor has sampling 0 and the pair under watch, or the packet is a start"
+-- "one report .. if the filter is off, or some matching monitor has sampling 0 and the pair under watch, or the
+-- packet is a start"
 unfoldable pub reported : Model → Packet → Bool
 reported m p =
     eqb (m .filter) 0 || (someOf (wants (m .mons) p) (m .pairs) || someOf (startTold (m .mons) p) (startsOf m p))
 
--- "Packet, handles ascending: a start event for each start", behind the stop event of the pair that goes for it. "Then one report
--- with the packet's RSSI"; with kind 04 a second one
+-- "Packet, handles ascending: a start event for each start", behind the stop event of the pair that goes for it.
+-- "Then one report with the packet's RSSI"; with kind 04 a second one
 unfoldable pub packetAnswer : Model → Packet → List ℕ
 packetAnswer m p =
     turnsAnswer (m .prefix) (m .mons) p mostMonitors (map (packetMove (m .mons) p) (m .pairs)) ++ when (reported m p) (packetReports p)
@@ -295,8 +298,8 @@ atTick (some m) q = pick (goesOn m q) (some (windowTick m (withSilent q (q .sile
 unfoldable pub tickPairs : Model → List Pair
 tickPairs m = moveEach (λ q. atTick (find (m .mons) (q .handle)) q) (m .pairs)
 
--- "if the filter is on and the window had matching packets, one report"; T-13: where the report filtering lets the packet through that
--- it reports
+-- "if the filter is on and the window had matching packets, one report"; T-13: where the report filtering lets the
+-- packet through that it reports
 unfoldable pub windowSays : ℕ → Monitor → Pair → Bool
 windowSays filter m q = eqb filter 1 && (closes m q && (leb 1 (q .packets) && allows m (q .event)))
 

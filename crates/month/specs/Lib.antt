@@ -1,4 +1,7 @@
 pub mod Outcomes
+pub mod OutcomesLaws
 pub mod Gives
-pub mod Works
+pub mod GivesLaws
+pub mod WorksLaws
 pub mod Numbers
+pub mod NumbersLaws

@@ -1,7 +1,8 @@
-// The program of the month's end: `month [--csv] [IMAGE JOURNAL ..] [--rows FILE ..]` restores each image, counts its journal a line at a
-// time, reads each file of rows back and writes the sixteen rows, those of several sites joined (document 02, T-09 and T-10): a table, or
-// comma-separated values. Where a journal stopped, the refusal's number follows on a line; a refused image or a refused join gives only the
-// number. What is counted, joined, written and read back is the crates' month and sheets; here are files and arguments.
+// The program of the month's end: `month [--csv] [IMAGE JOURNAL ..] [--rows FILE ..]` restores each image, counts its
+// journal a line at a time, reads each file of rows back and writes the sixteen rows, those of several sites joined
+// (document 02, T-09 and T-10): a table, or comma-separated values. Where a journal stopped, the refusal's number
+// follows on a line; a refused image or a refused join gives only the number. What is counted, joined, written and
+// read back is the crates' month and sheets; here are files and arguments.
 mod journal;
 mod rows;
 mod site;

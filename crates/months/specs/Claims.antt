@@ -1,5 +1,5 @@
--- T-09's claim: the rows after any list of calls, refused ones too, are the rows of before and those of the frames that it executed. Over any
--- engine whose states have document 01's in them. Assumes nothing.
+-- T-09's claim: the rows after any list of calls, refused ones too, are the rows of before and those of the frames
+-- that it executed. Over any engine whose states have document 01's in them. Assumes nothing.
 use Prim.Native.Nat.{ℕ, zero, suc, _+_}
 use mathlib.Core.Path.{_≡_, refl, sym, ap, _∙_}
 use mathlib.Core.Bool.{Bool, true, false, not, cond, false≢true}
@@ -11,20 +11,24 @@ use lib.ListN.{length, replicate}
 use Rattle.laws.specs.Tests.{pick}
 use Rattle.laws.specs.Loops.{upTo}
 use Rattle.totals.specs.declared.Row.{Row}
-use Rattle.totals.specs.Two.{everyTwo, mapTwo, length-map-two}
+use Rattle.totals.specs.Two.{everyTwo, mapTwo}
+use Rattle.totals.specs.TwoLaws.{length-map-two}
 use Rattle.totals.specs.Table.{empty, passes, tableRows, rowFits, rowSum}
-use Rattle.totals.specs.Join.{sum-empty, sum-comm}
+use Rattle.totals.specs.JoinLaws.{sum-empty, sum-comm}
 use Rattle.sessions.specs.Machine.{Machine, Form, text, Line, Outcome, refused, done, answerRoom, saveRoom}
 use Rattle.sessions.specs.Session.{refuseIf, stateAfter, Call, give, save, Entry, entries, judge, answer, image, reply, after, ran, walk, trace}
-use Rattle.sessions.specs.Refusals.{save-leaves}
+use Rattle.sessions.specs.RefusalsLaws.{save-leaves}
 use Rattle.sessions.specs.Saved.{Replayed, resume, withAnswer, replayLines}
 use Rattle.model.specs.Types.{Model}
 use Rattle.model.specs.Layout.{mostMonitors}
 use Rattle.model.specs.Frames.{Body, typed}
 use Rattle.months.specs.Counts.{adds, rowIn}
-use Rattle.months.specs.Month.{next, addsOf, month, month-none, month-more, afterAll}
-use Rattle.months.specs.Tables.{tableOf, length-table, tables-assoc}
-use Rattle.months.specs.Counted.{Tallied, tally, counted, countAct, answer-same, addsRead}
+use Rattle.months.specs.Month.{next, addsOf, month, afterAll}
+use Rattle.months.specs.MonthLaws.{month-none, month-more}
+use Rattle.months.specs.Tables.{tableOf}
+use Rattle.months.specs.TablesLaws.{length-table, tables-assoc}
+use Rattle.months.specs.Counted.{Tallied, tally, counted, countAct}
+use Rattle.months.specs.CountedLaws.{answer-same, addsRead}
 use Rattle.months.specs.Counting.{noRows, counting, Tally, at}
 
 -- an empty table changes nothing, on either side
@@ -34,7 +38,8 @@ tables-empty [] zero e = refl
 tables-empty [] (suc n) e = absurd (omega arith)
 tables-empty (r ∷ l) zero e = absurd (omega arith)
 tables-empty (r ∷ l) (suc n) e =
-    ap (λ (x : Row). x ∷ mapTwo rowSum l (replicate n empty)) (sum-empty r) ∙ ap (λ (x : List Row). r ∷ x) (tables-empty l n (omega arith))
+    ap (λ (x : Row). x ∷ mapTwo rowSum l (replicate n empty)) (sum-empty r)
+    ∙ ap (λ (x : List Row). r ∷ x) (tables-empty l n (omega arith))
 
 pub empty-tables : (l : List Row) (n : ℕ) → length l ≡ n → mapTwo rowSum (replicate n empty) l ≡ l
 unfolding mapTwo
@@ -65,9 +70,11 @@ module _ (M : Machine) (core : M .S → Model) (body : M .Body → Body) where
   pub month-empty : (l : List Row) (s : M .S) → length l ≡ tableRows → mapTwo rowSum l (month M core body s []) ≡ l
   month-empty l s n = ap (mapTwo rowSum l) (month-none M core body s ∙ none-is) ∙ tables-empty l tableRows n
 
-  pub length-counted : (l : List Row) (s : M .S) (b : M .Body) → length l ≡ tableRows → length (mapTwo rowSum l (addsOf M core body s b)) ≡ tableRows
+  pub length-counted : (l : List Row) (s : M .S) (b : M .Body) → length l ≡ tableRows
+      → length (mapTwo rowSum l (addsOf M core body s b)) ≡ tableRows
   unfolding addsOf
-  length-counted l s b n = length-map-two rowSum l (adds (core s) (body b)) (n ∙ sym (length-adds (core s) (body b))) ∙ n
+  length-counted l s b n =
+      length-map-two rowSum l (adds (core s) (body b)) (n ∙ sym (length-adds (core s) (body b))) ∙ n
 
   -- an executed frame takes a state to the next
   pub act-next : (s t : M .S) (b : M .Body) (a : List ℕ) → M .act s b ≡ done t a → t ≡ next M core body s b
@@ -77,8 +84,11 @@ module _ (M : Machine) (core : M .S → Model) (body : M .Body → Body) where
   -- What a call does to a state with rows: nothing, or one frame more.
   pub data Did (x : (Tally M core body)) (c : Call) : Type 0 where
     nothing : after (counting M core body) x c ≡ x → ran (counting M core body) x c ≡ [] → Did x c
-    frame : (y : Line (M .Body)) (a : List ℕ) → everyTwo rowFits (x .rows) (addsOf M core body (x .state) (y .body)) ≡ true
-        → after (counting M core body) x c ≡ (at M core body) (next M core body (x .state) (y .body)) (mapTwo rowSum (x .rows) (addsOf M core body (x .state) (y .body)))
+    frame : (y : Line (M .Body)) (a : List ℕ)
+        → everyTwo rowFits (x .rows) (addsOf M core body (x .state) (y .body)) ≡ true
+        → after (counting M core body) x c
+        ≡ (at M core body) (next M core body (x .state) (y .body))
+        (mapTwo rowSum (x .rows) (addsOf M core body (x .state) (y .body)))
         → ran (counting M core body) x c ≡ record { line = y; wrote = a } ∷ [] → Did x c
 
   -- a frame that is executed was read, and acts
@@ -97,7 +107,8 @@ module _ (M : Machine) (core : M .S → Model) (body : M .Body → Body) where
       go false true q = absurd (false≢true (ap isDone q))
       go false false q = record { line = y; is = refl; acts = q }
 
-  pub answer-acts : (lent : ℕ) (s t : M .S) (w : Form) (r a : List ℕ) → answer M lent s w r ≡ done t a → Acts s t a (M .read w r)
+  pub answer-acts : (lent : ℕ) (s t : M .S) (w : Form) (r a : List ℕ) → answer M lent s w r ≡ done t a
+      → Acts s t a (M .read w r)
   unfolding answer refuseIf isDone
   answer-acts lent s t w r a e = go (not (M .sound s)) (ltb lent answerRoom) e
     where
@@ -128,43 +139,61 @@ module _ (M : Machine) (core : M .S → Model) (body : M .Body → Body) where
           none-of (some y) = refl
 
       took : (t : M .S) (a : List ℕ) (z : Acts (x .state) t a o) (b : Bool) → everyTwo rowFits (x .rows) d ≡ b
-          → answer (counting M core body) lent x w r ≡ pick b (done ((at M core body) t (mapTwo rowSum (x .rows) d)) a) (refused passes) → Did x (give lent w r)
+          → answer (counting M core body) lent x w r
+          ≡ pick b (done ((at M core body) t (mapTwo rowSum (x .rows) d)) a) (refused passes)
+          → Did x (give lent w r)
       took t a z false f e = idle passes e
       took t a z true f e =
-          let i : d ≡ addsOf M core body (x .state) (z .line .body) = ap (addsRead M (addsOf M core body) (x .state)) (z .is) in
+          let i : d ≡ addsOf M core body (x .state) (z .line .body) =
+          ap (addsRead M (addsOf M core body) (x .state)) (z .is) in
           let u : t ≡ next M core body (x .state) (z .line .body) = act-next (x .state) t (z .line .body) a (z .acts) in
           frame (z .line) a (ap (everyTwo rowFits (x .rows)) (sym i) ∙ f)
           (ap (stateAfter x) e ∙ ap (λ (k : List Row). (at M core body) t (mapTwo rowSum (x .rows) k)) i
-          ∙ ap (λ (k : M .S). (at M core body) k (mapTwo rowSum (x .rows) (addsOf M core body (x .state) (z .line .body)))) u)
-          (ap (entries o) e ∙ ap (λ (k : Option (Line (M .Body))). entries k (done ((at M core body) t (mapTwo rowSum (x .rows) d)) a)) (z .is))
+          ∙ ap (λ (k : M .S). (at M core body) k
+          (mapTwo rowSum (x .rows) (addsOf M core body (x .state) (z .line .body)))) u)
+          (ap (entries o) e
+          ∙ ap (λ (k : Option (Line (M .Body))). entries k
+          (done ((at M core body) t (mapTwo rowSum (x .rows) d)) a)) (z .is))
 
       go : (p : Outcome (M .S)) → answer M lent (x .state) w r ≡ p → Did x (give lent w r)
       go (refused n) e = idle n (same ∙ ap (tally (x .rows) d) e)
       go (done t a) e =
-          took t a (answer-acts lent (x .state) t w r a e) (everyTwo rowFits (x .rows) d) refl (same ∙ ap (tally (x .rows) d) e)
+          took t a (answer-acts lent (x .state) t w r a e) (everyTwo rowFits (x .rows) d) refl
+          (same ∙ ap (tally (x .rows) d) e)
 
   pub did : (x : (Tally M core body)) (c : Call) → Did x c
   unfolding ran
   did x (give lent w r) = given lent x w r
   did x (save lent) = nothing (save-leaves (counting M core body) lent x) refl
 
-  -- THE CLAIM: after any list of calls the state is that after the frames executed, and the rows are those of before with the month's.
+  -- THE CLAIM: after any list of calls the state is that after the frames executed, and the rows are those of before
+  -- with the month's.
   pub rows-after : (x : (Tally M core body)) (cs : List Call) → length (x .rows) ≡ tableRows
-      → walk (counting M core body) x cs ≡ (at M core body) (afterAll M core body (x .state) (bodies x cs)) (mapTwo rowSum (x .rows) (month M core body (x .state) (bodies x cs)))
+      → walk (counting M core body) x cs
+      ≡ (at M core body) (afterAll M core body (x .state) (bodies x cs))
+      (mapTwo rowSum (x .rows) (month M core body (x .state) (bodies x cs)))
   unfolding walk trace bodies afterAll
   rows-after x [] n = ap ((at M core body) (x .state)) (sym (month-empty (x .rows) (x .state) n))
-  rows-after x (c ∷ cs) n = go (λ y k. rows-after y cs k) (after (counting M core body) x c) (ran (counting M core body) x c) refl refl (did x c)
+  rows-after x (c ∷ cs) n =
+      go (λ y k. rows-after y cs k) (after (counting M core body) x c) (ran (counting M core body) x c) refl refl
+      (did x c)
     where
       Goal : (Tally M core body) → List (Entry (M .Body)) → Type 0
       Goal y es =
-          walk (counting M core body) y cs ≡ (at M core body) (afterAll M core body (x .state) (map (λ e. e .line .body) (es ++ trace (counting M core body) y cs)))
-          (mapTwo rowSum (x .rows) (month M core body (x .state) (map (λ e. e .line .body) (es ++ trace (counting M core body) y cs))))
+          walk (counting M core body) y cs
+          ≡ (at M core body)
+          (afterAll M core body (x .state) (map (λ e. e .line .body) (es ++ trace (counting M core body) y cs)))
+          (mapTwo rowSum (x .rows)
+          (month M core body (x .state) (map (λ e. e .line .body) (es ++ trace (counting M core body) y cs))))
 
       Later : Type 0
       Later = (y : (Tally M core body)) → length (y .rows) ≡ tableRows
-          → walk (counting M core body) y cs ≡ (at M core body) (afterAll M core body (y .state) (bodies y cs)) (mapTwo rowSum (y .rows) (month M core body (y .state) (bodies y cs)))
+          → walk (counting M core body) y cs
+          ≡ (at M core body) (afterAll M core body (y .state) (bodies y cs))
+          (mapTwo rowSum (y .rows) (month M core body (y .state) (bodies y cs)))
 
-      go : Later → (y : (Tally M core body)) (es : List (Entry (M .Body))) → after (counting M core body) x c ≡ y → ran (counting M core body) x c ≡ es → Did x c → Goal y es
+      go : Later → (y : (Tally M core body)) (es : List (Entry (M .Body))) → after (counting M core body) x c ≡ y
+          → ran (counting M core body) x c ≡ es → Did x c → Goal y es
       go ih y es p q (nothing h k) = rw (sym q ∙ k, sym p ∙ h) (ih x n)
       go ih y es p q (frame z a f h k) =
           let b : M .Body = z .body in
@@ -174,5 +203,6 @@ module _ (M : Machine) (core : M .S → Model) (body : M .Body → Body) where
           let bs : List (M .Body) = bodies u cs in
           rw (sym q ∙ k, sym p ∙ h) (
           ih u (length-counted (x .rows) (x .state) b n)
-          ∙ ap ((at M core body) (afterAll M core body t bs)) (tables-assoc (x .rows) (addsOf M core body (x .state) b) (month M core body t bs)
+          ∙ ap ((at M core body) (afterAll M core body t bs))
+          (tables-assoc (x .rows) (addsOf M core body (x .state) b) (month M core body t bs)
           ∙ ap (mapTwo rowSum (x .rows)) (sym (month-more M core body (x .state) b bs))))

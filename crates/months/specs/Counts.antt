@@ -1,5 +1,5 @@
--- What one executed frame counts for a handle. Document 02, T-09: "give per handle: matching packets, reports caused, ticks with at least
--- one device under watch, and the RSSI sum". Definitions alone.
+-- What one executed frame counts for a handle. Document 02, T-09: "give per handle: matching packets, reports caused,
+-- ticks with at least one device under watch, and the RSSI sum". Definitions alone.
 use Prim.Native.Nat.{ℕ, _+_}
 use mathlib.Core.Bool.{Bool, true, false, _&&_, _||_}
 use mathlib.Core.List.{List, [], _∷_}
@@ -26,7 +26,8 @@ one b = pick b 1 0
 unfoldable pub ofHandle : ℕ → Pair → Bool
 ofHandle h q = eqb (q .handle) h
 
--- "matching packets": every packet that matches while the monitor is live, under watch or not (T-13: by its options too)
+-- "matching packets": every packet that matches while the monitor is live, under watch or not (T-13: by its options
+-- too)
 unfoldable pub matchedBy : Option Monitor → Packet → Bool
 matchedBy none p = false
 matchedBy (some m) p = matches m p
@@ -34,9 +35,9 @@ matchedBy (some m) p = matches m p
 unfoldable pub matching : Model → Packet → ℕ → Bool
 matching m p h = matchedBy (find (m .mons) h) p
 
--- "reports caused": the handle is a reason for the packet's report, filter on or off: a pair of it wants the packet reported at once, or
--- the packet starts a pair of it and its report is let through. "A report caused by several monitors counts for each; one sent only because
--- the filter is off counts for none."
+-- "reports caused": the handle is a reason for the packet's report, filter on or off: a pair of it wants the packet
+-- reported at once, or the packet starts a pair of it and its report is let through. "A report caused by several
+-- monitors counts for each; one sent only because the filter is off counts for none."
 unfoldable pub causes : Model → Packet → ℕ → Bool
 causes m p h =
     someOf (λ q. ofHandle h q && wants (m .mons) p q) (m .pairs)

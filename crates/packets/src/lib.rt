@@ -1,11 +1,13 @@
-// A packet: what it does to the pairs held, the watches that it starts, and what it writes (document 01, Watching, by history). One pass
-// over the pairs finds those of the packet's device. The crate marks asks the monitors of these and those that the packet may start, and keeps
-// what each says of the packet as one octet a handle. Then the rows of the device's pairs are changed in place, the handles take their turns, which
-// start pairs behind them, and the reports are written.
+// A packet: what it does to the pairs held, the watches that it starts, and what it writes (document 01, Watching, by
+// history). One pass over the pairs finds those of the packet's device. The crate marks asks the monitors of these
+// and those that the packet may start, and keeps what each says of the packet as one octet a handle. Then the rows of
+// the device's pairs are changed in place, the handles take their turns, which start pairs behind them, and the
+// reports are written.
 mod device;
 mod reports;
 mod room;
 mod starts;
+mod weakest;
 mod windows;
 
 use state::State;
@@ -35,7 +37,9 @@ ghost use Rattle.model.specs.Layout.{blockSize, mostMonitors, mostPairs, pairSi
 // The count of ticks of pair i starts anew, where its handle's octet says so.
 fn refresh(s: &mut [u8], i: usize, a: u8)
     requires { ⌜ (length (now s) ≡ blockSize) × (i < mostPairs) ⌝ }
-    ensures { λ _. ⌜ ((m : Model) → AtPair m (now (s .entry)) i → now (s .exit) ≡ padded (withPair m i (freshened a (pairAt m i)))) ⌝ }
+    ensures { λ _. ⌜
+        ((m : Model) → AtPair m (now (s .entry)) i → now (s .exit) ≡ padded (withPair m i (freshened a (pairAt m i))))
+        ⌝ }
 {
     if a % 2 == 1 {
         octets::put16(
@@ -49,7 +53,10 @@ fn refresh(s: &mut [u8], i: usize, a: u8)
 // The window of pair i takes the packet, where its handle's octet says so.
 fn gather(s: &mut [u8], i: usize, a: u8, payload: &[u8])
     requires { ⌜ (length (now s) ≡ blockSize) × (i < mostPairs) × Framed (now payload) ⌝ }
-    ensures { λ _. ⌜ ((m : Model) → AtPair m (now (s .entry)) i → Sent (packetOf (now (payload .entry))) → pairAt m i .packets < 4294967295 → now (s .exit) ≡ padded (withPair m i (collected a (packetOf (now (payload .entry))) (pairAt m i)))) ⌝ }
+    ensures { λ _. ⌜
+        ((m : Model) → AtPair m (now (s .entry)) i → Sent (packetOf (now (payload .entry)))
+        → pairAt m i .packets < 4294967295
+        → now (s .exit) ≡ padded (withPair m i (collected a (packetOf (now (payload .entry))) (pairAt m i)))) ⌝ }
 {
     if a / 2 % 2 == 1 {
         windows::gather_at(
@@ -63,7 +70,10 @@ fn gather(s: &mut [u8], i: usize, a: u8, payload: &[u8])
 // The count of ticks and the window of pair i.
 fn count_row(s: &mut [u8], i: usize, a: u8, payload: &[u8])
     requires { ⌜ (length (now s) ≡ blockSize) × (i < mostPairs) × Framed (now payload) ⌝ }
-    ensures { λ _. ⌜ ((m : Model) → AtPair m (now (s .entry)) i → Sent (packetOf (now (payload .entry))) → pairAt m i .packets < 4294967295 → now (s .exit) ≡ padded (withPair m i (counted a (packetOf (now (payload .entry))) (pairAt m i)))) ⌝ }
+    ensures { λ _. ⌜
+        ((m : Model) → AtPair m (now (s .entry)) i → Sent (packetOf (now (payload .entry)))
+        → pairAt m i .packets < 4294967295
+        → now (s .exit) ≡ padded (withPair m i (counted a (packetOf (now (payload .entry))) (pairAt m i)))) ⌝ }
 {
     refresh(s, i, a);
     gather(s, i, a, payload);
@@ -72,7 +82,9 @@ fn count_row(s: &mut [u8], i: usize, a: u8, payload: &[u8])
 // The RSSI that pair i keeps, where its handle's octet says that the packet matches.
 fn keep(s: &mut [u8], i: usize, a: u8, rssi: u8)
     requires { ⌜ (length (now s) ≡ blockSize) × (i < mostPairs) ⌝ }
-    ensures { λ _. ⌜ ((m : Model) → AtPair m (now (s .entry)) i → now (s .exit) ≡ padded (withPair m i (strengthened a rssi (pairAt m i)))) ⌝ }
+    ensures { λ _. ⌜
+        ((m : Model) → AtPair m (now (s .entry)) i
+        → now (s .exit) ≡ padded (withPair m i (strengthened a rssi (pairAt m i)))) ⌝ }
 {
     if a < marks::MATCHED {
         return;
@@ -80,10 +92,13 @@ fn keep(s: &mut [u8], i: usize, a: u8, rssi: u8)
     s[State::PAIRS_AT + State::PAIR_ROW * i + State::RSSI_AT] = rssi;
 }
 
-// The packet that pair i keeps for duplicates, where its handle's octet says that these are filtered and that the packet is let through.
+// The packet that pair i keeps for duplicates, where its handle's octet says that these are filtered and that the
+// packet is let through.
 fn remember(s: &mut [u8], i: usize, a: u8, payload: &[u8])
     requires { ⌜ (length (now s) ≡ blockSize) × (i < mostPairs) × Framed (now payload) ⌝ }
-    ensures { λ _. ⌜ ((m : Model) → AtPair m (now (s .entry)) i → Sent (packetOf (now (payload .entry))) → now (s .exit) ≡ padded (withPair m i (recalled a (packetOf (now (payload .entry))) (pairAt m i)))) ⌝ }
+    ensures { λ _. ⌜
+        ((m : Model) → AtPair m (now (s .entry)) i → Sent (packetOf (now (payload .entry)))
+        → now (s .exit) ≡ padded (withPair m i (recalled a (packetOf (now (payload .entry))) (pairAt m i)))) ⌝ }
 {
     if a / 16 % 2 != 1 {
         return;
@@ -100,7 +115,10 @@ fn remember(s: &mut [u8], i: usize, a: u8, payload: &[u8])
 
 fn change_row(s: &mut [u8], i: usize, a: u8, payload: &[u8])
     requires { ⌜ (length (now s) ≡ blockSize) × (i < mostPairs) × Framed (now payload) ⌝ }
-    ensures { λ _. ⌜ ((m : Model) → AtPair m (now (s .entry)) i → Sent (packetOf (now (payload .entry))) → pairAt m i .packets < 4294967295 → now (s .exit) ≡ padded (withPair m i (changed a (packetOf (now (payload .entry))) (pairAt m i)))) ⌝ }
+    ensures { λ _. ⌜
+        ((m : Model) → AtPair m (now (s .entry)) i → Sent (packetOf (now (payload .entry)))
+        → pairAt m i .packets < 4294967295
+        → now (s .exit) ≡ padded (withPair m i (changed a (packetOf (now (payload .entry))) (pairAt m i)))) ⌝ }
 {
     keep(s, i, a, payload[payload.len() - 1]);
     count_row(s, i, a, payload);
@@ -110,7 +128,8 @@ fn change_row(s: &mut [u8], i: usize, a: u8, payload: &[u8])
 // Whether pair i keeps a packet with the event type and the data of this one.
 fn is_alike(s: &[u8], i: usize, payload: &[u8]) -> bool
     requires { ⌜ (length (now s) ≡ blockSize) × (i < mostPairs) × Framed (now payload) ⌝ }
-    ensures { λ r. ⌜ ((m : Model) → AtPair m (now (s .entry)) i → r ≡ alikeTo (packetOf (now (payload .entry))) (pairAt m i)) ⌝ }
+    ensures { λ r. ⌜
+        ((m : Model) → AtPair m (now (s .entry)) i → r ≡ alikeTo (packetOf (now (payload .entry))) (pairAt m i)) ⌝ }
 {
     let at = State::PAIRS_AT + State::PAIR_ROW * i;
     if s[at + State::EVENT_AT] != payload[0] {
@@ -126,10 +145,12 @@ fn is_alike(s: &[u8], i: usize, payload: &[u8]) -> bool
     parts::same(&s[from..to], &payload[9..end])
 }
 
-// Whether pair i, which is of the packet's device, is a reason for its report: at once, and where duplicates are filtered, if it is none.
+// Whether pair i, which is of the packet's device, is a reason for its report: at once, and where duplicates are
+// filtered, if it is none.
 fn is_reason(s: &[u8], i: usize, a: u8, payload: &[u8]) -> bool
     requires { ⌜ (length (now s) ≡ blockSize) × (i < mostPairs) × Framed (now payload) ⌝ }
-    ensures { λ r. ⌜ ((m : Model) → AtPair m (now (s .entry)) i → r ≡ reasonBy a (packetOf (now (payload .entry))) (pairAt m i)) ⌝ }
+    ensures { λ r. ⌜
+        ((m : Model) → AtPair m (now (s .entry)) i → r ≡ reasonBy a (packetOf (now (payload .entry))) (pairAt m i)) ⌝ }
 {
     if a / 8 % 2 != 1 {
         return false;
@@ -150,11 +171,17 @@ fn key_at(s: &[u8], i: usize) -> u64
     octets::get64(&s[from..to], 0)
 }
 
-// Pair i over the packet: changed where it is a pair of the packet's device. A row opens with its key, the handle and the device.
-// Answers whether the pair is a reason for a report.
+// Pair i over the packet: changed where it is a pair of the packet's device. A row opens with its key, the handle and
+// the device. Answers whether the pair is a reason for a report.
 fn move_row(s: &mut [u8], i: usize, acts: &[u8], payload: &[u8], dev: u64) -> bool
-    requires { ⌜ (length (now s) ≡ blockSize) × (i < mostPairs) × (length (now acts) ≡ mostMonitors) × Framed (now payload) ⌝ }
-    ensures { λ r. ⌜ ((m : Model) → AtPair m (now (s .entry)) i → Given (m .mons) (packetOf (now (payload .entry))) (now (acts .entry)) dev (pairAt m i) → pairAt m i .packets < 4294967295 → (r ≡ wants (m .mons) (packetOf (now (payload .entry))) (pairAt m i)) × (now (s .exit) ≡ padded (withPair m i (packetMove (m .mons) (packetOf (now (payload .entry))) (pairAt m i))))) ⌝ }
+    requires { ⌜ (length (now s) ≡ blockSize) × (i < mostPairs) × (length (now acts) ≡ mostMonitors)
+        × Framed (now payload) ⌝ }
+    ensures { λ r. ⌜
+        ((m : Model) → AtPair m (now (s .entry)) i
+        → Given (m .mons) (packetOf (now (payload .entry))) (now (acts .entry)) dev (pairAt m i)
+        → pairAt m i .packets < 4294967295 → (r ≡ wants (m .mons) (packetOf (now (payload .entry))) (pairAt m i))
+        × (now (s .exit)
+        ≡ padded (withPair m i (packetMove (m .mons) (packetOf (now (payload .entry))) (pairAt m i))))) ⌝ }
 {
     let key = key_at(s, i);
     if key / 256 != dev {
@@ -170,10 +197,17 @@ fn move_row(s: &mut [u8], i: usize, acts: &[u8], payload: &[u8], dev: u64) -> bo
     told
 }
 
-// The pairs held over the packet, from the first one of its device to the last. Answers whether one of them is a reason for a report.
+// The pairs held over the packet, from the first one of its device to the last. Answers whether one of them is a
+// reason for a report.
 fn move_rows(s: &mut [u8], from: usize, to: usize, acts: &[u8], payload: &[u8], dev: u64) -> bool
-    requires { ⌜ (length (now s) ≡ blockSize) × (from ≤ to) × (to ≤ mostPairs) × (length (now acts) ≡ mostMonitors) × Framed (now payload) ⌝ }
-    ensures { λ r. ⌜ ((m : Model) (held : List ℕ) (n : ℕ) → Begun m (now (s .entry)) (now (payload .entry)) (now (acts .entry)) held dev n → Spans (m .pairs) (packetOf (now (payload .entry))) from to → (r ≡ heldTold m (packetOf (now (payload .entry)))) × (now (s .exit) ≡ padded (afterMoves m (packetOf (now (payload .entry)))))) ⌝ }
+    requires { ⌜ (length (now s) ≡ blockSize) × (from ≤ to) × (to ≤ mostPairs) × (length (now acts) ≡ mostMonitors)
+        × Framed (now payload) ⌝ }
+    ensures { λ r. ⌜
+        ((m : Model) (held : List ℕ) (n : ℕ)
+        → Begun m (now (s .entry)) (now (payload .entry)) (now (acts .entry)) held dev n
+        → Spans (m .pairs) (packetOf (now (payload .entry))) from to
+        → (r ≡ heldTold m (packetOf (now (payload .entry))))
+        × (now (s .exit) ≡ padded (afterMoves m (packetOf (now (payload .entry)))))) ⌝ }
 {
     let mut told = false;
     let mut i = from;
@@ -188,7 +222,9 @@ fn move_rows(s: &mut [u8], from: usize, to: usize, acts: &[u8], payload: &[u8], 
 // Whether the packet is reported: the filter is off, or a pair held is a reason, or a start is told.
 fn is_told(s: &[u8], held: bool, start: bool) -> bool
     requires { ⌜ length (now s) ≡ blockSize ⌝ }
-    ensures { λ r. ⌜ ((m : Model) (p : Packet) (k : ℕ) → Holding (afterStarts m p) (now (s .entry)) k → held ≡ heldTold m p → start ≡ startsTold m p → r ≡ reported m p) ⌝ }
+    ensures { λ r. ⌜
+        ((m : Model) (p : Packet) (k : ℕ) → Holding (afterStarts m p) (now (s .entry)) k → held ≡ heldTold m p
+        → start ≡ startsTold m p → r ≡ reported m p) ⌝ }
 {
     if s[State::FILTER_AT] == 0 {
         return true;
@@ -199,7 +235,8 @@ fn is_told(s: &[u8], held: bool, start: bool) -> bool
 // What the monitors of the device's pairs say of the packet and, where it may start a pair behind the n that are held,
 // those that it is strong enough for. A packet that concerns nobody asks none.
 fn ask(acts: &mut [u8], s: &[u8], n: usize, payload: &[u8], held: &[u8])
-    requires { ⌜ (now acts ≡ replicate mostMonitors 0) × (length (now s) ≡ blockSize) × Framed (now payload) × (length (now held) ≡ mostMonitors) ⌝ }
+    requires { ⌜ (now acts ≡ replicate mostMonitors 0) × (length (now s) ≡ blockSize) × Framed (now payload)
+        × (length (now held) ≡ mostMonitors) ⌝ }
     ensures { λ _. ⌜ Acts (now (s .entry)) (now (payload .entry)) (now (held .entry)) n (now (acts .exit)) ⌝ }
 {
     let may = room::may_start(s, n, payload[payload.len() - 1]);
@@ -214,7 +251,10 @@ fn ask(acts: &mut [u8], s: &[u8], n: usize, payload: &[u8], held: &[u8])
 // A packet frame on a block of the right length.
 fn step(s: &mut [u8], payload: &[u8], out: &mut [u8]) -> usize
     requires { ⌜ (length (now s) ≡ blockSize) × (answerRoom ≤ length (now out)) × Framed (now payload) ⌝ }
-    ensures { λ r. ⌜ Within (now (out .entry)) (now (out .exit)) r × (hasPacket (now (payload .entry)) ≡ true → Steps (packetFrame (packetOf (now (payload .entry)))) (now (s .entry)) (now (s .exit)) (now (out .entry)) (now (out .exit)) r) ⌝ }
+    ensures { λ r. ⌜ Within (now (out .entry)) (now (out .exit)) r
+        × (hasPacket (now (payload .entry)) ≡ true
+        → Steps (packetFrame (packetOf (now (payload .entry)))) (now (s .entry)) (now (s .exit)) (now (out .entry))
+        (now (out .exit)) r) ⌝ }
 {
     let dev = octets::get64(payload, 0) / 256;
     let n = octets::at_most(s[State::COUNT_AT], State::PAIRS);
@@ -231,15 +271,17 @@ fn step(s: &mut [u8], payload: &[u8], out: &mut [u8]) -> usize
     turn.wrote + r
 }
 
-// A packet frame, executed: the pairs of its device refreshed and their windows given the packet, the turns of the handles taken, the
-// position moved; the stop and start events and the reports written into out. The payload is event type, address type, address (6),
-// data length n, n octets, with kind 04 scan response length k and k octets, and RSSI. Answers how many octets were written.
-// Where the block is not of 5,225 octets or at the last frame number, out has under 2,880 octets, or the payload is of no packet
-// frame, nothing is changed and the answer is 0. Of a block that is of no sound state the contents, what is written and how much are
-// free; the lengths stay, the answer is at most the length of out, and the octets past it are as they were.
-// No window of a sound state is full before the last number (crate steps, Counts).
+// A packet frame, executed: the pairs of its device refreshed and their windows given the packet, the turns of the
+// handles taken, the position moved; the stop and start events and the reports written into out. The payload is event
+// type, address type, address (6), data length n, n octets, with kind 04 scan response length k and k octets, and
+// RSSI. Answers how many octets were written. Where the block is not of 5,225 octets or at the last frame number, out
+// has under 2,880 octets, or the payload is of no packet frame, nothing is changed and the answer is 0. Of a block
+// that is of no sound state the contents, what is written and how much are free; the lengths stay, the answer is at
+// most the length of out, and the octets past it are as they were. No window of a sound state is full before the last
+// number (crate steps, Counts).
 pub fn packet(s: &mut [u8], payload: &[u8], out: &mut [u8]) -> usize
-    ensures { λ r. ⌜ Taken (packetFrame (packetOf (now (payload .entry)))) (hasPacket (now (payload .entry))) (now (s .entry)) (now (s .exit)) (now (out .entry)) (now (out .exit)) r ⌝ }
+    ensures { λ r. ⌜ Taken (packetFrame (packetOf (now (payload .entry)))) (hasPacket (now (payload .entry)))
+        (now (s .entry)) (now (s .exit)) (now (out .entry)) (now (out .exit)) r ⌝ }
 {
     if !state::ready(s, out) {
         return 0;

@@ -1,4 +1,5 @@
-// Whether a packet may start any pair (document 02, T-05): where none may, the monitors of which no pair is held are not asked.
+// Whether a packet may start any pair (document 02, T-05): where none may, the monitors of which no pair is held are
+// not asked.
 use state::State;
 ghost use mathlib.Core.Path.{_≡_};
 ghost use mathlib.Core.Bool.{false};
@@ -14,7 +15,7 @@ fn is_weaker(s: &[u8], level: u8) -> bool
     let mut some = false;
     let mut j = 0;
     while j < State::PAIRS {
-        some = some | (super::starts::kept_at(s, j) < level);
+        some = some | (super::weakest::kept_at(s, j) < level);
         j += 1;
     }
     some

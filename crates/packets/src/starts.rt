@@ -1,14 +1,13 @@
-// The starts of a packet (document 01, Watching, by history; document 02, T-05): each handle in turn. A start takes its room at once;
-// where 64 pairs are held, the one that keeps the smallest RSSI goes for it if the packet's is above that. The events are written as they
-// come: the stop event of the pair that goes, then the start event.
+// The starts of a packet (document 01, Watching, by history; document 02, T-05): each handle in turn. A start takes
+// its room at once; where 64 pairs are held, the one that keeps the smallest RSSI goes for it if the packet's is
+// above that. The events are written as they come: the stop event of the pair that goes, then the start event.
+use super::weakest;
 use state::State;
 ghost use Prim.Native.Nat.{ℕ, _+_, _-_, _*_, _≤_, _<_};
 ghost use mathlib.Core.Path.{_≡_};
 ghost use mathlib.Core.List.{[], _∷_};
-ghost use lib.Dec.{ltb};
 ghost use lib.ListN.{length, take, drop};
 ghost use Rattle.laws.specs.Put.{put};
-ghost use Rattle.laws.specs.Tests.{pick};
 ghost use Rattle.sessions.specs.Machine.{answerRoom};
 ghost use Rattle.model.specs.Types.{Model, Packet, deviceOf};
 ghost use Rattle.model.specs.Watch.{holds};
@@ -32,7 +31,8 @@ ghost use Rattle.packets.specs.Starts.{Holding, Asked, Told};
 ghost use Rattle.packets.specs.Handles.{Turns, NoStart};
 ghost use Rattle.model.specs.Layout.{blockSize, countAt, eventMost, mostMonitors, mostPairs, pairSize, pairsAt, turnMost, turnsMost};
 
-// What turns leave: how many pairs are held, how many octets were written, and whether the report of a start is let through.
+// What turns leave: how many pairs are held, how many octets were written, and whether the report of a start is let
+// through.
 pub struct Turn {
     pub held: usize,
     pub wrote: usize,
@@ -42,7 +42,10 @@ pub struct Turn {
 // The event of pair i, written into out at an index. Answers how many octets that is.
 fn put_event(s: &[u8], i: usize, state: u8, out: &mut [u8], at: usize) -> usize
     requires { ⌜ (length (now s) ≡ blockSize) × (i < mostPairs) ⌝ }
-    ensures { λ r. ⌜ (r ≤ eventMost) × (at ≤ length (now (out .entry)) → drop (at + r) (now (out .exit)) ≡ drop (at + r) (now (out .entry))) × ((m : Model) → AtPair m (now (s .entry)) i → at + eventMost ≤ length (now (out .entry)) → Wrote (now (out .entry)) at (event (m .prefix) (pairAt m i) state) (now (out .exit)) r) ⌝ }
+    ensures { λ r. ⌜ (r ≤ eventMost)
+        × (at ≤ length (now (out .entry)) → drop (at + r) (now (out .exit)) ≡ drop (at + r) (now (out .entry)))
+        × ((m : Model) → AtPair m (now (s .entry)) i → at + eventMost ≤ length (now (out .entry))
+        → Wrote (now (out .entry)) at (event (m .prefix) (pairAt m i) state) (now (out .exit)) r) ⌝ }
 {
     let end = State::PREFIX_AT + octets::at_most(s[State::PREFIX_LENGTH_AT], State::PREFIX);
     let from = State::PAIRS_AT + State::PAIR_ROW * i;
@@ -64,7 +67,8 @@ fn start_row(s: &mut [u8], i: usize, key: u64, rssi: u8)
 // A pair at its start behind the n pairs held, and the number of pairs.
 fn push_row(s: &mut [u8], n: usize, key: u64, rssi: u8)
     requires { ⌜ (length (now s) ≡ blockSize) × (n < mostPairs) ⌝ }
-    ensures { λ _. ⌜ now (s .exit) ≡ put (put (now (s .entry)) (pairsAt + pairSize * n) (startRow key rssi)) countAt ((n + 1) ∷ []) ⌝ }
+    ensures { λ _. ⌜ now (s .exit)
+        ≡ put (put (now (s .entry)) (pairsAt + pairSize * n) (startRow key rssi)) countAt ((n + 1) ∷ []) ⌝ }
 {
     start_row(s, n, key, rssi);
     s[State::COUNT_AT] = (n + 1) as u8;
@@ -73,7 +77,10 @@ fn push_row(s: &mut [u8], n: usize, key: u64, rssi: u8)
 // Pair i of 64 goes, those behind it move down, and a pair at its start stands last.
 fn replace_row(s: &mut [u8], i: usize, key: u64, rssi: u8)
     requires { ⌜ (length (now s) ≡ blockSize) × (i < mostPairs) ⌝ }
-    ensures { λ _. ⌜ now (s .exit) ≡ put (put (now (s .entry)) (pairsAt + pairSize * i) (take (pairSize * (mostPairs - 1 - i)) (drop (pairsAt + pairSize * (i + 1)) (now (s .entry))))) (pairsAt + pairSize * (mostPairs - 1)) (startRow key rssi) ⌝ }
+    ensures { λ _. ⌜ now (s .exit)
+        ≡ put (put (now (s .entry)) (pairsAt + pairSize * i)
+        (take (pairSize * (mostPairs - 1 - i)) (drop (pairsAt + pairSize * (i + 1)) (now (s .entry)))))
+        (pairsAt + pairSize * (mostPairs - 1)) (startRow key rssi) ⌝ }
 {
     let to = State::PAIRS_AT + State::PAIR_ROW * i;
     let from = State::PAIRS_AT + State::PAIR_ROW * (i + 1);
@@ -82,51 +89,14 @@ fn replace_row(s: &mut [u8], i: usize, key: u64, rssi: u8)
     start_row(s, State::PAIRS - 1, key, rssi);
 }
 
-// A pair's index, and the level that it keeps.
-struct Weak {
-    at: usize,
-    least: u8,
-}
-
-// The level that pair i keeps.
-pub(super) fn kept_at(s: &[u8], i: usize) -> u8
-    requires { ⌜ (length (now s) ≡ blockSize) × (i < mostPairs) ⌝ }
-    ensures { λ r. ⌜ r ≡ levelAt (now (s .entry)) i ⌝ }
-{
-    state::level_of(s[State::PAIRS_AT + State::PAIR_ROW * i + State::RSSI_AT])
-}
-
-// The weaker of a pair at an index, of a level, and the one at j, which keeps another: the first where they keep the same.
-fn weaker(i: usize, least: u8, j: usize, kept: u8) -> Weak
-    ensures { λ r. ⌜ (r .at ≡ pick (ltb kept least) j i) × (r .least ≡ pick (ltb kept least) kept least) ⌝ }
-{
-    if kept < least {
-        return Weak { at: j, least: kept };
-    }
-    Weak { at: i, least }
-}
-
-// Of 64 pairs the first that keeps the smallest RSSI, and its level.
-fn weakest(s: &[u8]) -> Weak
-    requires { ⌜ length (now s) ≡ blockSize ⌝ }
-    ensures { λ r. ⌜ (r .at < mostPairs) × (r .at ≡ weakestBelow (now (s .entry)) mostPairs) × (r .least ≡ levelAt (now (s .entry)) (r .at)) ⌝ }
-{
-    let mut i = 0;
-    let mut least = kept_at(s, 0);
-    let mut j = 0;
-    while j < State::PAIRS {
-        let w = weaker(i, least, j, kept_at(s, j));
-        i = w.at;
-        least = w.least;
-        j += 1;
-    }
-    Weak { at: i, least }
-}
-
 // A start behind the n pairs held. Answers how many octets were written.
 fn start_free(s: &mut [u8], n: usize, key: u64, rssi: u8, out: &mut [u8], at: usize) -> usize
     requires { ⌜ (length (now s) ≡ blockSize) × (n < mostPairs) ⌝ }
-    ensures { λ r. ⌜ (r ≤ turnMost) × (at ≤ length (now (out .entry)) → drop (at + r) (now (out .exit)) ≡ drop (at + r) (now (out .entry))) × ((m : Model) (p : Packet) (a h : ℕ) → Holding m (now (s .entry)) n → Asked m p a h key rssi → at + turnMost ≤ length (now (out .entry)) → Told m a h p (now (s .exit)) (n + 1) (now (out .entry)) at (now (out .exit)) r) ⌝ }
+    ensures { λ r. ⌜ (r ≤ turnMost)
+        × (at ≤ length (now (out .entry)) → drop (at + r) (now (out .exit)) ≡ drop (at + r) (now (out .entry)))
+        × ((m : Model) (p : Packet) (a h : ℕ) → Holding m (now (s .entry)) n → Asked m p a h key rssi
+        → at + turnMost ≤ length (now (out .entry))
+        → Told m a h p (now (s .exit)) (n + 1) (now (out .entry)) at (now (out .exit)) r) ⌝ }
 {
     push_row(s, n, key, rssi);
     put_event(s, n, 1, out, at)
@@ -135,7 +105,10 @@ fn start_free(s: &mut [u8], n: usize, key: u64, rssi: u8, out: &mut [u8], at: us
 // A start for which pair i of 64, the weakest, goes. Answers how many octets were written.
 fn start_full(s: &mut [u8], i: usize, key: u64, rssi: u8, out: &mut [u8], at: usize) -> usize
     requires { ⌜ (length (now s) ≡ blockSize) × (i < mostPairs) × (at + turnMost ≤ length (now out)) ⌝ }
-    ensures { λ r. ⌜ (r ≤ turnMost) × (drop (at + r) (now (out .exit)) ≡ drop (at + r) (now (out .entry))) × ((m : Model) (p : Packet) (n a h : ℕ) → Holding m (now (s .entry)) n → Asked m p a h key rssi → mostPairs ≤ n → i ≡ weakestBelow (now (s .entry)) mostPairs → levelAt (now (s .entry)) i < level rssi → Told m a h p (now (s .exit)) n (now (out .entry)) at (now (out .exit)) r) ⌝ }
+    ensures { λ r. ⌜ (r ≤ turnMost) × (drop (at + r) (now (out .exit)) ≡ drop (at + r) (now (out .entry)))
+        × ((m : Model) (p : Packet) (n a h : ℕ) → Holding m (now (s .entry)) n → Asked m p a h key rssi
+        → mostPairs ≤ n → i ≡ weakestBelow (now (s .entry)) mostPairs → levelAt (now (s .entry)) i < level rssi
+        → Told m a h p (now (s .exit)) n (now (out .entry)) at (now (out .exit)) r) ⌝ }
 {
     let stop = put_event(s, i, 0, out, at);
     replace_row(s, i, key, rssi);
@@ -143,10 +116,14 @@ fn start_full(s: &mut [u8], i: usize, key: u64, rssi: u8, out: &mut [u8], at: us
     stop + start
 }
 
-// A start of a pair that is not held, where there is room or a pair that goes, as of a monitor that filters no duplicates.
+// A start of a pair that is not held, where there is room or a pair that goes, as of a monitor that filters no
+// duplicates.
 fn start_new(s: &mut [u8], n: usize, key: u64, rssi: u8, out: &mut [u8], at: usize) -> Turn
     requires { ⌜ (length (now s) ≡ blockSize) × (n ≤ mostPairs) × (at + turnMost ≤ length (now out)) ⌝ }
-    ensures { λ r. ⌜ (r .held ≤ mostPairs) × (r .wrote ≤ turnMost) × (drop (at + r .wrote) (now (out .exit)) ≡ drop (at + r .wrote) (now (out .entry))) × (1 ≤ r .held) × ((m : Model) (p : Packet) (a h : ℕ) → Holding m (now (s .entry)) n → Asked m p a h key rssi → Told m a h p (now (s .exit)) (r .held) (now (out .entry)) at (now (out .exit)) (r .wrote)) ⌝ }
+    ensures { λ r. ⌜ (r .held ≤ mostPairs) × (r .wrote ≤ turnMost)
+        × (drop (at + r .wrote) (now (out .exit)) ≡ drop (at + r .wrote) (now (out .entry))) × (1 ≤ r .held)
+        × ((m : Model) (p : Packet) (a h : ℕ) → Holding m (now (s .entry)) n → Asked m p a h key rssi
+        → Told m a h p (now (s .exit)) (r .held) (now (out .entry)) at (now (out .exit)) (r .wrote)) ⌝ }
 {
     if n < State::PAIRS {
         let wrote = start_free(s, n, key, rssi, out, at);
@@ -157,7 +134,7 @@ fn start_new(s: &mut [u8], n: usize, key: u64, rssi: u8, out: &mut [u8], at: usi
             told: false,
         };
     }
-    let weak = weakest(s);
+    let weak = weakest::weakest(s);
     if state::level_of(rssi) <= weak.least {
         return Turn {
             held: n,
@@ -173,11 +150,14 @@ fn start_new(s: &mut [u8], n: usize, key: u64, rssi: u8, out: &mut [u8], at: usi
     }
 }
 
-// The packet that pair i, at its start, keeps for duplicates, where its handle's octet says that these are filtered: this one if it is let
-// through, else none.
+// The packet that pair i, at its start, keeps for duplicates, where its handle's octet says that these are filtered:
+// this one if it is let through, else none.
 fn keep_start(s: &mut [u8], i: usize, a: u8, payload: &[u8])
     requires { ⌜ (length (now s) ≡ blockSize) × (i < mostPairs) × Framed (now payload) ⌝ }
-    ensures { λ _. ⌜ ((m : Model) → AtPair m (now (s .entry)) i → Sent (packetOf (now (payload .entry))) → now (s .exit) ≡ padded (withPair m i (begunAs (sifted a) (allowed a) (packetOf (now (payload .entry))) (pairAt m i)))) ⌝ }
+    ensures { λ _. ⌜
+        ((m : Model) → AtPair m (now (s .entry)) i → Sent (packetOf (now (payload .entry)))
+        → now (s .exit) ≡ padded
+        (withPair m i (begunAs (sifted a) (allowed a) (packetOf (now (payload .entry))) (pairAt m i)))) ⌝ }
 {
     if a / 16 % 2 != 1 {
         return;
@@ -202,8 +182,15 @@ fn start_at(
     out: &mut [u8],
     at: usize,
 ) -> Turn
-    requires { ⌜ (length (now s) ≡ blockSize) × (n ≤ mostPairs) × (h < mostMonitors) × (dev < 72057594037927936) × (at + turnMost ≤ length (now out)) × Framed (now payload) ⌝ }
-    ensures { λ r. ⌜ (r .held ≤ mostPairs) × (r .wrote ≤ turnMost) × (drop (at + r .wrote) (now (out .exit)) ≡ drop (at + r .wrote) (now (out .entry))) × ((m : Model) → Holding m (now (s .entry)) n → Sender (packetOf (now (payload .entry))) dev → (opens a ≡ true → held ≡ flag (holds (m .pairs) h (deviceOf (packetOf (now (payload .entry)))))) → Told m a h (packetOf (now (payload .entry))) (now (s .exit)) (r .held) (now (out .entry)) at (now (out .exit)) (r .wrote) × (r .told ≡ (starts a h (packetOf (now (payload .entry))) (m .pairs) && allowed a))) ⌝ }
+    requires { ⌜ (length (now s) ≡ blockSize) × (n ≤ mostPairs) × (h < mostMonitors) × (dev < 72057594037927936)
+        × (at + turnMost ≤ length (now out)) × Framed (now payload) ⌝ }
+    ensures { λ r. ⌜ (r .held ≤ mostPairs) × (r .wrote ≤ turnMost)
+        × (drop (at + r .wrote) (now (out .exit)) ≡ drop (at + r .wrote) (now (out .entry)))
+        × ((m : Model) → Holding m (now (s .entry)) n → Sender (packetOf (now (payload .entry))) dev
+        → (opens a ≡ true → held ≡ flag (holds (m .pairs) h (deviceOf (packetOf (now (payload .entry))))))
+        → Told m a h (packetOf (now (payload .entry))) (now (s .exit)) (r .held) (now (out .entry)) at
+        (now (out .exit)) (r .wrote)
+        × (r .told ≡ (starts a h (packetOf (now (payload .entry))) (m .pairs) && allowed a))) ⌝ }
 {
     if a / 4 % 2 != 1 {
         return Turn {
@@ -252,8 +239,9 @@ fn is_start(acts: &[u8]) -> bool
     some
 }
 
-// The turns of the handles 0 to 15. For each, under is 1 where its pair of the packet's device was held before them, else 0: no turn before its own
-// changes that where its monitor matches the packet, since its pair then keeps the packet's RSSI and goes for no start.
+// The turns of the handles 0 to 15. For each, under is 1 where its pair of the packet's device was held before them,
+// else 0: no turn before its own changes that where its monitor matches the packet, since its pair then keeps the
+// packet's RSSI and goes for no start.
 pub(super) fn start_all(
     s: &mut [u8],
     n: usize,
@@ -263,8 +251,15 @@ pub(super) fn start_all(
     payload: &[u8],
     out: &mut [u8],
 ) -> Turn
-    requires { ⌜ (length (now s) ≡ blockSize) × (n ≤ mostPairs) × (length (now acts) ≡ mostMonitors) × (length (now under) ≡ mostMonitors) × (dev < 72057594037927936) × (answerRoom ≤ length (now out)) × Framed (now payload) ⌝ }
-    ensures { λ r. ⌜ (r .held ≤ mostPairs) × (r .wrote ≤ turnsMost) × (drop (r .wrote) (now (out .exit)) ≡ drop (r .wrote) (now (out .entry))) × ((m : Model) → Holding m (now (s .entry)) n → Settled m (packetOf (now (payload .entry))) (now (acts .entry)) (now (under .entry)) dev → Turns m (packetOf (now (payload .entry))) mostMonitors (now (s .exit)) (r .held) (now (out .entry)) (now (out .exit)) (r .wrote) (r .told)) ⌝ }
+    requires { ⌜ (length (now s) ≡ blockSize) × (n ≤ mostPairs) × (length (now acts) ≡ mostMonitors)
+        × (length (now under) ≡ mostMonitors) × (dev < 72057594037927936) × (answerRoom ≤ length (now out))
+        × Framed (now payload) ⌝ }
+    ensures { λ r. ⌜ (r .held ≤ mostPairs) × (r .wrote ≤ turnsMost)
+        × (drop (r .wrote) (now (out .exit)) ≡ drop (r .wrote) (now (out .entry)))
+        × ((m : Model) → Holding m (now (s .entry)) n
+        → Settled m (packetOf (now (payload .entry))) (now (acts .entry)) (now (under .entry)) dev
+        → Turns m (packetOf (now (payload .entry))) mostMonitors (now (s .exit)) (r .held) (now (out .entry))
+        (now (out .exit)) (r .wrote) (r .told)) ⌝ }
 {
     if !is_start(acts) {
         return Turn {

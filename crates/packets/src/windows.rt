@@ -29,7 +29,9 @@ fn extend(o: u8) -> u64
 // The packet's event type and data, kept from an index on: the length stands before the data, zeros behind it.
 pub(super) fn put_latest(s: &mut [u8], at: usize, payload: &[u8])
     requires { ⌜ (at + latestSize ≤ length (now s)) × Framed (now payload) ⌝ }
-    ensures { λ _. ⌜ now (s .exit) ≡ put (now (s .entry)) at (latestOf (packetOf (now (payload .entry)) .event) (packetOf (now (payload .entry)) .adv)) ⌝ }
+    ensures { λ _. ⌜ now (s .exit)
+        ≡ put (now (s .entry)) at
+        (latestOf (packetOf (now (payload .entry)) .event) (packetOf (now (payload .entry)) .adv)) ⌝ }
 {
     let n = octets::wide(payload[8]);
     let end = 9 + n;
@@ -52,7 +54,8 @@ pub(super) fn put_none(s: &mut [u8], at: usize)
 // type and data.
 pub(super) fn gather_at(s: &mut [u8], at: usize, payload: &[u8])
     requires { ⌜ (at + windowSize ≤ length (now s)) × Framed (now payload) ⌝ }
-    ensures { λ _. ⌜ now (s .exit) ≡ put (now (s .entry)) at (takenBy (packetOf (now (payload .entry))) (now (s .entry)) at) ⌝ }
+    ensures { λ _. ⌜ now (s .exit)
+        ≡ put (now (s .entry)) at (takenBy (packetOf (now (payload .entry))) (now (s .entry)) at) ⌝ }
 {
     let last = payload.len() - 1;
     let count = octets::get32(s, at);

@@ -1,6 +1,7 @@
--- What past frames say of one pair under watch: document 01, Watching, by history; document 02, T-05 (the kept RSSI) and T-13 (duplicates). A past is the
--- list of executed frames, the newest first; `after` are the frames after a pair's start. Nothing of the engine is used: no timer, sum or mark is
--- stored, each answer is worked out by looking back. Definitions alone.
+-- What past frames say of one pair under watch: document 01, Watching, by history; document 02, T-05 (the kept RSSI)
+-- and T-13 (duplicates). A past is the list of executed frames, the newest first; `after` are the frames after a
+-- pair's start. Nothing of the engine is used: no timer, sum or mark is stored, each answer is worked out by looking
+-- back. Definitions alone.
 use Prim.Native.Nat.{ℕ, zero, suc, _+_, _%_}
 use mathlib.Core.Bool.{Bool, true, false, _&&_, not}
 use mathlib.Core.List.{List, [], _∷_, _++_}
@@ -15,7 +16,8 @@ use Rattle.model.specs.Frames.{Typed, command, packet, tick, bad}
 use Rattle.model.specs.Commands.{subOf, paramsIn, table}
 use Rattle.model.specs.Monitors.{allows, matches, good, sifts, runOf, windowed}
 
--- A start: the number of its packet's frame, the handle, the monitor as it was added, and the packet, whose device is the pair's.
+-- A start: the number of its packet's frame, the handle, the monitor as it was added, and the packet, whose device is
+-- the pair's.
 pub record Start : Type 0 where
   pub number : ℕ
   pub handle : ℕ
@@ -49,8 +51,8 @@ unfoldable pub silentIn : Start → List Typed → ℕ
 silentIn s [] = 0
 silentIn s (f ∷ l) = pick (someOf (good (s .mon)) (heardAt s f)) 0 (count f (silentIn s l))
 
--- "no run of 10 × interval ticks has passed without a good packet"; "The tick that completes such a run ends the watch": at no tick since the start
--- was it complete
+-- "no run of 10 × interval ticks has passed without a good packet"; "The tick that completes such a run ends the
+-- watch": at no tick since the start was it complete
 unfoldable pub unbroken : Start → List Typed → Bool
 unbroken s [] = true
 unbroken s (command o c ∷ l) = unbroken s l
@@ -74,8 +76,8 @@ stretch zero (tick ∷ l) = []
 stretch (suc k) (tick ∷ l) = tick ∷ stretch k l
 stretch k (bad ∷ l) = bad ∷ stretch k l
 
--- "for sampling P from 0x01 to 0xFE, each P-th tick since the start closes a window": the ticks since the last one that did, and the matching packets
--- since; "The start packet is in no window"
+-- "for sampling P from 0x01 to 0xFE, each P-th tick since the start closes a window": the ticks since the last one
+-- that did, and the matching packets since; "The start packet is in no window"
 unfoldable pub windowTicks : Start → List Typed → ℕ
 windowTicks s after = pick (windowed (s .mon)) (ticksIn after % s .mon .sampling) 0
 
@@ -95,9 +97,10 @@ newestOr p (q ∷ l) = q
 unfoldable pub keptIn : Start → List Typed → ℕ
 keptIn s after = newestOr (s .packet) (heard s after) .rssi
 
--- T-13: "A duplicate has the event type and advertisement data of the last packet that was a reason for a report for that pair, .. looking no further
--- back than its latest start (H), and is itself no reason for one; a start packet is never a duplicate". A monitor that filters duplicates has
--- sampling 0, so a matching packet is a reason where report filtering lets it through and it is no duplicate.
+-- T-13: "A duplicate has the event type and advertisement data of the last packet that was a reason for a report for
+-- that pair, .. looking no further back than its latest start (H), and is itself no reason for one; a start packet is
+-- never a duplicate". A monitor that filters duplicates has sampling 0, so a matching packet is a reason where report
+-- filtering lets it through and it is no duplicate.
 unfoldable pub alike : Packet → Option Packet → Bool
 alike p none = false
 alike p (some r) = eqb (r .event) (p .event) && sames (r .adv) (p .adv)
@@ -106,7 +109,8 @@ unfoldable pub lastReason : Start → List Packet → Option Packet
 lastReason s [] = pick (allows (s .mon) (s .packet .event)) (some (s .packet)) none
 lastReason s (p ∷ l) = pick (allows (s .mon) (p .event) && not (alike p (lastReason s l))) (some p) (lastReason s l)
 
--- the packet that the A3 line's last fields tell of: the last reason, for a monitor that filters duplicates; else the latest in the window
+-- the packet that the A3 line's last fields tell of: the last reason, for a monitor that filters duplicates; else the
+-- latest in the window
 unfoldable pub newest : List Packet → Option Packet
 newest [] = none
 newest (p ∷ l) = some p

@@ -1,5 +1,6 @@
--- What past frames say of all pairs: which packets were starts, which pairs they displaced, which are under watch; the monitors, the filter and the state.
--- Document 01, Commands and Watching, by history; document 02, T-05. Definitions alone.
+-- What past frames say of all pairs: which packets were starts, which pairs they displaced, which are under watch;
+-- the monitors, the filter and the state. Document 01, Commands and Watching, by history; document 02, T-05.
+-- Definitions alone.
 use Prim.Native.Nat.{ℕ, zero, suc, _-_}
 use mathlib.Core.Bool.{Bool, false, _&&_, _||_, not}
 use mathlib.Core.List.{List, [], _∷_, _++_, map}
@@ -92,8 +93,8 @@ pub record Deeds : Type 0 where
   pub starts : List Start
   pub gone : List Start
 
--- "The pair is under watch if there is a start since which no run of 10 × interval ticks has passed without a good packet", since which its monitor was
--- not cancelled; T-05: "a displaced pair is not under watch until a new start"
+-- "The pair is under watch if there is a start since which no run of 10 × interval ticks has passed without a good
+-- packet", since which its monitor was not cancelled; T-05: "a displaced pair is not under watch until a new start"
 unfoldable pub stands : List Typed → List Start → Start → Bool
 stands past gone s =
     not (someOf (cancels (s .handle)) (sinceStart s past)) && (unbroken s (sinceStart s past) && not (among s gone))
@@ -111,7 +112,8 @@ unfoldable pub weakest : (Start → ℕ) → List Start → List Start
 weakest kept [] = []
 weakest kept (s ∷ l) = weaker kept s (weakest kept l)
 
--- The turns of a packet behind a past. "Each pair keeps its latest matching RSSI, updated for the present packet first."
+-- The turns of a packet behind a past. "Each pair keeps its latest matching RSSI, updated for the present packet
+-- first."
 pub record Turned : Type 0 where
   pub starts : List Start
   pub gone : List Start

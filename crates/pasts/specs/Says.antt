@@ -1,4 +1,5 @@
--- What a frame writes, worked out from its past frames alone. Document 01, Watching, by history; document 02, T-05, T-06, T-13. Definitions alone.
+-- What a frame writes, worked out from its past frames alone. Document 01, Watching, by history; document 02, T-05,
+-- T-06, T-13. Definitions alone.
 use Prim.Native.Nat.{ℕ, zero, suc, _%_}
 use mathlib.Core.Bool.{Bool, false, _&&_, _||_, not}
 use mathlib.Core.List.{List, [], _∷_, _++_}
@@ -21,7 +22,8 @@ module _ (prefix : List ℕ) (past : List Typed) where
   turnSays p none h w = []
   turnSays p (some m) h w =
       when (isStart past p m h w)
-      (each (λ (s : Start). stopEvent prefix (pairAfter past s)) (goesFor past p w) ++ startEvent prefix (pairOf (startOf past p m h) []))
+      (each (λ (s : Start). stopEvent prefix (pairAfter past s)) (goesFor past p w)
+      ++ startEvent prefix (pairOf (startOf past p m h) []))
 
   unfoldable pub turnsSay : Packet → ℕ → List ℕ
   turnsSay p zero = []
@@ -40,13 +42,16 @@ module _ (prefix : List ℕ) (past : List Typed) where
   -- "one report .. if the filter is off, or .."
   unfoldable pub isReported : Packet → Bool
   isReported p =
-      eqb (filterAfter past) 0 || (someOf (reasonBy p) (watch past) || someOf (tellsStart p) (turnsBy past p (watch past) mostMonitors .starts))
+      eqb (filterAfter past) 0
+      || (someOf (reasonBy p) (watch past)
+      || someOf (tellsStart p) (turnsBy past p (watch past) mostMonitors .starts))
 
   unfoldable pub packetSays : Packet → List ℕ
   packetSays p = turnsSay p mostMonitors ++ when (isReported p) (packetReports p)
 
-  -- "if the watch ends, a stop event and no report. Otherwise, for sampling P from 0x01 to 0xFE, each P-th tick since the start closes a window; if the
-  -- filter is on and the window had matching packets, one report"; T-13: where report filtering lets the latest of them through
+  -- "if the watch ends, a stop event and no report. Otherwise, for sampling P from 0x01 to 0xFE, each P-th tick since
+  -- the start closes a window; if the filter is on and the window had matching packets, one report"; T-13: where
+  -- report filtering lets the latest of them through
   unfoldable pub ends : Start → Bool
   ends s = leb (runOf (s .mon)) (silentIn s (tick ∷ sinceStart s past))
 

@@ -1,5 +1,5 @@
-// The editions of the prefix behind the index of a block (document 02, T-12): whether they are sound, which is in force at a frame, one more
-// behind them. The block is laid out as `Whole` says.
+// The editions of the prefix behind the index of a block (document 02, T-12): whether they are sound, which is in
+// force at a frame, one more behind them. The block is laid out as `Whole` says.
 use index::Whole;
 use state::State;
 ghost use Prim.Native.Nat.{_+_, _*_, _≤_, _<_};
@@ -38,7 +38,8 @@ fn number_at(s: &[u8], i: usize) -> u32
 
 // The prefix of edition i with its length, into a lent row of zeros.
 fn prefix_at(s: &[u8], i: usize, row: &mut [u8])
-    requires { ⌜ (length (now s) ≡ wholeSize) × (i < mostEditions) × (now row ≡ replicate prefixSize 0) × (length (now row) ≡ prefixSize) ⌝ }
+    requires { ⌜ (length (now s) ≡ wholeSize) × (i < mostEditions) × (now row ≡ replicate prefixSize 0)
+        × (length (now row) ≡ prefixSize) ⌝ }
     ensures { λ _. ⌜ now (row .exit) ≡ prefixRow (editionAt (now (s .entry)) i .prefix) ⌝ }
 {
     let at = Whole::EDITIONS_AT + Whole::EDITION * i + 4;
@@ -49,7 +50,8 @@ fn prefix_at(s: &[u8], i: usize, row: &mut [u8])
     parts::copy(row, 1, &s[from..to]);
 }
 
-// The edition in force at frame n: its place among them plus 1, 0 where there is none. The last of those that have begun is found from behind.
+// The edition in force at frame n: its place among them plus 1, 0 where there is none. The last of those that have
+// begun is found from behind.
 fn in_force(s: &[u8], n: u64) -> usize
     requires { ⌜ length (now s) ≡ wholeSize ⌝ }
     ensures { λ r. ⌜ InForce (now (s .entry)) n r ⌝ }
@@ -158,7 +160,8 @@ fn is_row(s: &[u8], i: usize) -> bool
     parts::same(&row, &s[from..to])
 }
 
-// Whether the editions that a block holds stand in it as they ought to: row by row, zeros behind them, and their number.
+// Whether the editions that a block holds stand in it as they ought to: row by row, zeros behind them, and their
+// number.
 fn is_laid(s: &[u8]) -> bool
     requires { ⌜ length (now s) ≡ wholeSize ⌝ }
     ensures { λ r. ⌜ r ≡ sames (editionBlock (listed (now (s .entry)))) (drop editionsAt (now (s .entry))) ⌝ }
@@ -210,9 +213,11 @@ pub fn last_number(s: &[u8]) -> u32
     number_at(s, count - 1)
 }
 
-// One edition more behind the others. Nothing is written where the block has another size, the prefix is too long or there is no room.
+// One edition more behind the others. Nothing is written where the block has another size, the prefix is too long or
+// there is no room.
 pub fn push(s: &mut [u8], number: u32, prefix: &[u8]) -> bool
-    ensures { λ r. ⌜ (r ≡ canPush (now (s .entry)) (now (prefix .entry))) × (now (s .exit) ≡ pushed r number (now (prefix .entry)) (now (s .entry))) ⌝ }
+    ensures { λ r. ⌜ (r ≡ canPush (now (s .entry)) (now (prefix .entry)))
+        × (now (s .exit) ≡ pushed r number (now (prefix .entry)) (now (s .entry))) ⌝ }
 {
     if s.len() != Whole::SIZE {
         return false;

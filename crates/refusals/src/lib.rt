@@ -1,4 +1,5 @@
-// The refusals of every call with their numbers (document 01, Refusal numbers; document 02, T-12), and what a call that writes answers.
+// The refusals of every call with their numbers (document 01, Refusal numbers; document 02, T-12), and what a call
+// that writes answers.
 ghost use mathlib.Core.Path.{_≡_};
 ghost use Rattle.refusals.specs.Numbers.{number};
 

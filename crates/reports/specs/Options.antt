@@ -27,7 +27,8 @@ unfoldable pub withAfter : Asked → Number → Asked
 withAfter a (Is n) = record { after = n; given = true; numbered = a .numbered; progress = a .progress; good = a .good }
 withAfter a Not = record { after = 0; given = true; numbered = a .numbered; progress = a .progress; good = false }
 
--- an option by its word and the next one: --numbered, --progress, --after N, which may stand once; any other word is none
+-- an option by its word and the next one: --numbered, --progress, --after N, which may stand once; any other word is
+-- none
 unfoldable pub optionOf : Asked → List ℕ → List ℕ → Asked
 optionOf a word number =
     pick (sames word (codes "--numbered")) (withNumbers a) (pick (sames word (codes "--progress")) (withProgress a) (

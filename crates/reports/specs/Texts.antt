@@ -35,17 +35,20 @@ reasonText n = codes ": refused by " ++ (decimal n ++ reasonOf n)
 -- of a gap, the frame's number that was due and the one that came
 unfoldable pub gapText : ℕ → ℕ → ℕ → List ℕ
 gapText n position found =
-    pick (eqb n 2) (codes ": frame " ++ (decimal (next position) ++ (codes " expected, " ++ (decimal found ++ codes " found")))) []
+    pick (eqb n 2) (codes ": frame "
+    ++ (decimal (next position) ++ (codes " expected, " ++ (decimal found ++ codes " found")))) []
 
 -- the line that was refused, by its number in the journal, and why: behind the journal's name
 unfoldable pub stopText : ℕ → ℕ → ℕ → ℕ → List ℕ
-stopText lines n position found = codes ":" ++ (decimal (next lines) ++ (reasonText n ++ (gapText n position found ++ codes "\n")))
+stopText lines n position found =
+    codes ":" ++ (decimal (next lines) ++ (reasonText n ++ (gapText n position found ++ codes "\n")))
 
 -- the frame's number in the line at a text's start, least octet first; 0 where it has none
 unfoldable pub foundIn : List ℕ → ℕ
 foundIn text = numberAt 4 (leading text 2 4) 0
 
--- what is said of a takeover that was stopped, behind the journal's name: by the text held, at whose start the refused line stands
+-- what is said of a takeover that was stopped, behind the journal's name: by the text held, at whose start the
+-- refused line stands
 unfoldable pub stopBy : Next → ℕ → ℕ → ℕ → List ℕ
 stopBy Read lines position found = []
 stopBy Again lines position found = []
@@ -80,12 +83,15 @@ sizeText n = pick (ltb n longLine) (decimal n) (codes "more than " ++ decimal li
 
 unfoldable pub pieceText : Next → ℕ → List ℕ
 pieceText n size =
-    pick (isEnded n && not (eqb size 0)) (codes "; a last piece of " ++ (sizeText size ++ codes " octets without LF not read")) []
+    pick (isEnded n && not (eqb size 0))
+    (codes "; a last piece of " ++ (sizeText size ++ codes " octets without LF not read")) []
 
 -- what was read and done
 unfoldable pub countsText : ℕ → ℕ → ℕ → List ℕ
 countsText lines executed position =
-    codes "standby: " ++ (decimal lines ++ (codes " lines read, " ++ (decimal executed ++ (codes " executed, " ++ (decimal (lines - executed)
+    codes "standby: "
+    ++ (decimal lines
+    ++ (codes " lines read, " ++ (decimal executed ++ (codes " executed, " ++ (decimal (lines - executed)
     ++ (codes " seen before; position " ++ decimal position))))))
 
 unfoldable pub summaryOf : Flow → ℕ → List ℕ
@@ -97,7 +103,8 @@ warns f = (eqb (f .executed) 0 && ltb 0 (f .lines)) && isEnded (f .next)
 
 unfoldable pub warningOf : Flow → List ℕ
 warningOf f =
-    pick (warns f) (codes "standby: warning: lines were read and none was executed: is this the journal that belongs to the image?\n") []
+    pick (warns f) (codes
+    "standby: warning: lines were read and none was executed: is this the journal that belongs to the image?\n") []
 
 -- how far a long journal is read: at every 1,048,576 lines
 abbrev pub every : ℕ
@@ -105,4 +112,5 @@ every = 1048576
 
 unfoldable pub progressOf : ℕ → ℕ → List ℕ
 progressOf before after =
-    pick (ltb (before / every) (after / every)) (codes "standby: " ++ (decimal after ++ codes " lines read so far\n")) []
+    pick (ltb (before / every) (after / every)) (codes "standby: " ++ (decimal after ++ codes " lines read so far\n"))
+    []

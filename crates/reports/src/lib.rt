@@ -1,5 +1,5 @@
-// What the program of a standby decides beside replay: what its options ask, what an image's file holds, and what it says on
-// standard error (man/standby.1). Octets in, octets out: reading and writing files is the program's.
+// What the program of a standby decides beside replay: what its options ask, what an image's file holds, and what it
+// says on standard error (man/standby.1). Octets in, octets out: reading and writing files is the program's.
 ghost use mathlib.Core.Path.{_≡_};
 ghost use Prim.Native.Nat.{_≤_};
 ghost use Rattle.reports.specs.Choices.{Loads};
@@ -21,8 +21,8 @@ mod options;
 // One octet more than the longest image has: a file that fills it is no image.
 pub const IMAGE_ROOM: usize = Whole::IMAGE + 1;
 
-// What the options ask: answers above a number, where one is given, with their numbers or without, with words on how far it is;
-// and whether that number is one.
+// What the options ask: answers above a number, where one is given, with their numbers or without, with words on how
+// far it is; and whether that number is one.
 pub struct Asked {
     pub after: u32,
     pub given: bool,
@@ -34,8 +34,9 @@ pub struct Asked {
 // Lines between two words on how far it is.
 const EVERY: u64 = 1048576;
 
-// What is said of a takeover that was stopped, behind the journal's name: the line's number and why, and of a gap the frame's number that was
-// due and the one that came. Nothing where it was not stopped. The refused line stands at the start of the text held.
+// What is said of a takeover that was stopped, behind the journal's name: the line's number and why, and of a gap the
+// frame's number that was due and the one that came. Nothing where it was not stopped. The refused line stands at the
+// start of the text held.
 pub fn stop(flow: Flow, position: u32, text: &[u8]) -> Text
     ensures { λ r. ⌜ told r ≡ stopOf flow position (now (text .entry)) ⌝ }
 {
@@ -53,7 +54,8 @@ pub fn stop(flow: Flow, position: u32, text: &[u8]) -> Text
     }
 }
 
-// What is said of additions of which one was refused, behind their file's name: the line's number and why. Nothing where none was.
+// What is said of additions of which one was refused, behind their file's name: the line's number and why. Nothing
+// where none was.
 pub fn addition(lines: u64, halt: Stop) -> Text
     ensures { λ r. ⌜ told r ≡ additionBy halt lines ⌝ }
 {

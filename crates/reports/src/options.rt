@@ -55,7 +55,8 @@ fn with_after(asked: Asked, number: Number) -> Asked
     }
 }
 
-// An option by its word, with its number in the next one. One that was there before is taken for a file name, and is none.
+// An option by its word, with its number in the next one. One that was there before is taken for a file name, and is
+// none.
 pub(super) fn taken(asked: Asked, word: &[u8], number: &[u8]) -> Asked
     ensures { λ r. ⌜ r ≡ optionOf asked (now (word .entry)) (now (number .entry)) ⌝ }
 {

@@ -1,5 +1,5 @@
--- What an example of a resolved address computes with. A theorem that names `computed` on its unfolding line unfolds every
--- definition that is named here, the cipher's too. Assumes nothing.
+-- What an example of a resolved address computes with. A theorem that names `computed` on its unfolding line unfolds
+-- every definition that is named here, the cipher's too. Assumes nothing.
 use Prim.Native.Nat.{ℕ}
 use Rattle.octets.specs.Little.{octetsOf, value}
 use Rattle.fips197.specs.Computed.{computed as cipherComputed}

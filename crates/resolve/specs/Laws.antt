@@ -7,25 +7,14 @@ use native.Mathlib.Omega.{arith}
 use borrow.Author.Tests.{eq-eqb, ne-eqb, eqb-true}
 use lib.Dec.{eqb}
 use lib.ListN.{length, getD}
-use Rattle.laws.specs.Tests.{and-left}
-use Rattle.octets.specs.Little.{little, octetsOf, value, octets-add}
+use Rattle.laws.specs.TestsLaws.{and-left}
+use Rattle.octets.specs.Little.{little, octetsOf, value}
+use Rattle.octets.specs.LittleLaws.{octets-add}
 use Rattle.fips197.specs.Words.{octet, octets}
 use Rattle.fips197.specs.Cipher.{cipher}
 use Rattle.aes.specs.Blocks.{blockOctets}
 use Rattle.aes.specs.declared.Block.{Block}
-use Rattle.resolve.specs.Resolve.{
-  keySize,
-  addressSize,
-  bigOctets,
-  bigValue,
-  e,
-  ah,
-  keyOf,
-  hashOf,
-  prandOf,
-  resolvable,
-  resolvesBy,
-}
+use Rattle.resolve.specs.Resolve.{keySize, addressSize, bigOctets, bigValue, e, ah, keyOf, hashOf, prandOf, resolvable, resolvesBy}
 
 -- k elements from place i
 unfoldable elements : ℕ → List ℕ → ℕ → List ℕ
@@ -106,7 +95,8 @@ module _ (address : List ℕ) where
   -- what a resolvable one has
   pub sized : resolvable address ≡ true → length address ≡ addressSize
   unfolding resolvable
-  sized e = eqb-true (length address) addressSize (and-left (eqb (length address) addressSize) (eqb (getD address 5 0 / 64) 1) e)
+  sized e = eqb-true (length address) addressSize
+      (and-left (eqb (length address) addressSize) (eqb (getD address 5 0 / 64) 1) e)
 
 -- the tests of a resolution, in the order of the code
 module _ (key address : List ℕ) where

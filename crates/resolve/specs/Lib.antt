@@ -4,3 +4,4 @@ pub mod Resolve
 pub mod Laws
 pub mod Computed
 pub mod Examples
+pub mod ExamplesLaws

@@ -1,6 +1,8 @@
 -- What the lines of an image leave in a block, and that those of a sound state leave its block.
 pub mod Lines
+pub mod LinesLaws
 pub mod Rows
-pub mod Spread
-pub mod Fill
-pub mod Signed
+pub mod RowsLaws
+pub mod SpreadLaws
+pub mod FillLaws
+pub mod SignedLaws

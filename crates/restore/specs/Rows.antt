@@ -1,30 +1,14 @@
 -- Rows that a line can have, with zeros behind them. Document 01, Lines and The image. Assumes nothing.
-use Prim.Native.Nat.{ℕ, _+_, _-_, _≤_}
-use mathlib.Core.Path.{_≡_, sym, ap, _∙_}
+use Prim.Native.Nat.{ℕ, _≤_}
+use mathlib.Core.Path.{_≡_}
 use mathlib.Core.Bool.{true}
-use mathlib.Core.List.{List, _++_}
-use native.Mathlib.Omega.{arith}
-use lib.ListN.{length, replicate, length-replicate, replicate-append-replicate}
-use Rattle.laws.specs.Put.{put, put-left}
+use mathlib.Core.List.{List}
+use lib.ListN.{length}
 use Rattle.laws.specs.Loops.{every}
-use Rattle.laws.specs.Rows.{put-whole}
 use Rattle.octets.specs.Little.{isOctet}
-use Rattle.model.specs.Block.{padTo}
 use Rattle.model.specs.Layout.{lineRow}
 
 -- a row with its name that is octets, at most 97
 pub record Row (r : List ℕ) : Type 0 where
   pub octets : every isOctet r ≡ true
   pub most : length r ≤ lineRow
-
--- a row put over zeros has zeros behind it
-pub put-zeros : (n : ℕ) (r : List ℕ) → length r ≤ n → put (replicate n 0) 0 r ≡ padTo n r
-unfolding padTo
-put-zeros n r h =
-    let z : List ℕ = replicate (length r) 0 in
-    let k : length z ≡ length r = length-replicate {A = ℕ} (length r) 0 in
-    let e : length r + (n - length r) ≡ n = omega arith in
-    ap (λ (j : ℕ). put (replicate j 0) 0 r) (sym e)
-    ∙ ap (λ (l : List ℕ). put l 0 r) (sym (replicate-append-replicate (length r) (n - length r) 0))
-    ∙ put-left z (replicate (n - length r) 0) 0 r (omega arith)
-    ∙ ap (λ (l : List ℕ). l ++ replicate (n - length r) 0) (put-whole z r k)

@@ -1,6 +1,6 @@
-// The lines of an image stored in a block of 5,225 octets (document 01, The image), whatever they hold: A0 at the start, A1 and A5 in the row of
-// their handle, A3 behind the pairs. Nothing is tested here: whether the text was an image is told afterwards, by the block's soundness and by what
-// save would write of it.
+// The lines of an image stored in a block of 5,225 octets (document 01, The image), whatever they hold: A0 at the
+// start, A1 and A5 in the row of their handle, A3 behind the pairs. Nothing is tested here: whether the text was an
+// image is told afterwards, by the block's soundness and by what save would write of it.
 use state::State;
 ghost use mathlib.Core.Path.{_≡_};
 ghost use lib.ListN.{length};
@@ -70,8 +70,8 @@ fn put_line(s: &mut [u8], line: &[u8])
     }
 }
 
-// Stores the octets of a line of an image, zeros behind them up to 97, in a block of 5,225 octets; lines of other names, and blocks and lines of
-// other lengths, change nothing.
+// Stores the octets of a line of an image, zeros behind them up to 97, in a block of 5,225 octets; lines of other
+// names, and blocks and lines of other lengths, change nothing.
 pub fn store_line(s: &mut [u8], line: &[u8])
     ensures { λ _. ⌜ now (s .exit) ≡ storedIn (now (s .entry)) (now (line .entry)) ⌝ }
 {

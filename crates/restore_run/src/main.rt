@@ -1,9 +1,9 @@
-// Runs texts through restore and save of whole blocks (document 01, The image; refusal 10; document 02, T-12). Standard input holds texts, each with a
-// letter before it and '=' behind it. For each a line is written: 0 where it is refused, else a digest of the
-// restored block and of the text that save writes of it. S adds three digests, of the answers to every text that is
-// one character of it off, one octet's digits off, and cut at every length; L, for the largest image, changes two
-// characters at each place and cuts it. The texts and the answers are made by vectors.rs over the independent
-// implementation.
+// Runs texts through restore and save of whole blocks (document 01, The image; refusal 10; document 02, T-12).
+// Standard input holds texts, each with a letter before it and '=' behind it. For each a line is written: 0 where it
+// is refused, else a digest of the restored block and of the text that save writes of it. S adds three digests, of
+// the answers to every text that is one character of it off, one octet's digits off, and cut at every length; L, for
+// the largest image, changes two characters at each place and cuts it. The texts and the answers are made by
+// vectors.rs over the independent implementation.
 ghost use Prim.Native.Nat.{_+_, _≤_, _<_};
 ghost use lib.ListN.{length};
 use index::Whole;

@@ -49,8 +49,8 @@ module _ (R : Radio) where
   life [] h = dead
   life (f ∷ past) h = life1 f (λ g. life past g) h
 
-  -- "Only packets that match its condition count. A packet is good if its RSSI is above low": a good frame, after the start, for a
-  -- monitor and a device is a packet of the device that matches and is above low.
+  -- "Only packets that match its condition count. A packet is good if its RSSI is above low": a good frame, after the
+  -- start, for a monitor and a device is a packet of the device that matches and is above low.
   abbrev pub goodFor : R .Mon → R .Dev → Frame R → Bool
   goodFor m d (add n) = false
   goodFor m d (cancel h) = false
@@ -186,10 +186,10 @@ module _ (R : Radio) where
   DoneBy d other past D W h e = ⊥
 
   -- "The pair is under watch if there is a start since which no run of 10 × interval ticks has passed without a good
-  -- packet". T-01: the start itself counts as good whatever `low` is, so runs are looked for among the frames after it;
-  -- a later packet is good only above low, so one at a shared value of high and low is low.
-  -- Further, "for a live monitor and a device, looking at frames after the monitor was added"; and (T-05) "a displaced pair
-  -- is not under watch until a new start": since which it was not displaced.
+  -- packet". T-01: the start itself counts as good whatever `low` is, so runs are looked for among the frames after
+  -- it; a later packet is good only above low, so one at a shared value of high and low is low. Further, "for a live
+  -- monitor and a device, looking at frames after the monitor was added"; and (T-05) "a displaced pair is not under
+  -- watch until a new start": since which it was not displaced.
   pub record Watching (past : List (Frame R)) (D : Deeds) (h : ℕ) (e : R .Dev) : Type 0 where
     pub mon : R .Mon
     pub age : ℕ

@@ -1,5 +1,7 @@
 -- What save writes of a block, and that it is the image's text.
 pub mod Text
-pub mod Steps
+pub mod TextLaws
+pub mod StepsTurns
 pub mod Passed
-pub mod Image
+pub mod PassedLaws
+pub mod ImageLaws

@@ -33,7 +33,8 @@ const REST: usize = State::IMAGE - HEAD;
 // name's LF.
 fn put_line(out: &mut [u8], at: usize, name: u8, row: &[u8]) -> usize
     requires { ⌜ at + 2 * length (now row) + 3 ≤ length (now out) ⌝ }
-    ensures { λ r. ⌜ (r ≡ at + length (textOf (name ∷ now (row .entry)))) × (now (out .exit) ≡ put (now (out .entry)) at (textOf (name ∷ now (row .entry)))) ⌝ }
+    ensures { λ r. ⌜ (r ≡ at + length (textOf (name ∷ now (row .entry))))
+        × (now (out .exit) ≡ put (now (out .entry)) at (textOf (name ∷ now (row .entry)))) ⌝ }
 {
     let first = [name];
     lines::put_text(out, at, &first);
@@ -43,18 +44,20 @@ fn put_line(out: &mut [u8], at: usize, name: u8, row: &[u8]) -> usize
 
 fn put_head(s: &[u8], out: &mut [u8]) -> usize
     requires { ⌜ (length (now s) ≡ blockSize) × (headLine ≤ length (now out)) ⌝ }
-    ensures { λ r. ⌜ (r ≡ length (headText (now (s .entry)))) × (now (out .exit) ≡ put (now (out .entry)) 0 (headText (now (s .entry)))) ⌝ }
+    ensures { λ r. ⌜ (r ≡ length (headText (now (s .entry))))
+        × (now (out .exit) ≡ put (now (out .entry)) 0 (headText (now (s .entry)))) ⌝ }
 {
     let n = octets::at_most(s[State::PREFIX_LENGTH_AT], State::PREFIX);
     let end = State::PREFIX_AT + n;
     put_line(out, 0, 0xA0, &s[..end])
 }
 
-// A monitor's line: A1, or A5 with what version 2 adds. That stands behind the room of the condition, and its text takes
-// the place of the LF of what comes before.
+// A monitor's line: A1, or A5 with what version 2 adds. That stands behind the room of the condition, and its text
+// takes the place of the LF of what comes before.
 fn put_monitor(out: &mut [u8], at: usize, row: &[u8]) -> usize
     requires { ⌜ (length (now row) ≡ monitorSize) × (at + monitorLine ≤ length (now out)) ⌝ }
-    ensures { λ r. ⌜ (r ≡ at + length (monitorText (now (row .entry)))) × (now (out .exit) ≡ put (now (out .entry)) at (monitorText (now (row .entry)))) ⌝ }
+    ensures { λ r. ⌜ (r ≡ at + length (monitorText (now (row .entry))))
+        × (now (out .exit) ≡ put (now (out .entry)) at (monitorText (now (row .entry)))) ⌝ }
 {
     if row[State::INTERVAL_AT] == 0 {
         return at;
@@ -71,7 +74,8 @@ fn put_monitor(out: &mut [u8], at: usize, row: &[u8]) -> usize
 
 fn put_monitors(s: &[u8], out: &mut [u8], at: usize) -> usize
     requires { ⌜ (length (now s) ≡ blockSize) × (at + monitorLines ≤ length (now out)) ⌝ }
-    ensures { λ r. ⌜ (r ≡ at + length (monitorsText (now (s .entry)) mostMonitors)) × (now (out .exit) ≡ put (now (out .entry)) at (monitorsText (now (s .entry)) mostMonitors)) ⌝ }
+    ensures { λ r. ⌜ (r ≡ at + length (monitorsText (now (s .entry)) mostMonitors))
+        × (now (out .exit) ≡ put (now (out .entry)) at (monitorsText (now (s .entry)) mostMonitors)) ⌝ }
 {
     let mut next = at;
     let mut h = 0;
@@ -86,7 +90,8 @@ fn put_monitors(s: &[u8], out: &mut [u8], at: usize) -> usize
 
 fn put_pair(out: &mut [u8], at: usize, row: &[u8]) -> usize
     requires { ⌜ (length (now row) ≡ pairSize) × (at + pairLine ≤ length (now out)) ⌝ }
-    ensures { λ r. ⌜ (r ≡ at + length (pairText (now (row .entry)))) × (now (out .exit) ≡ put (now (out .entry)) at (pairText (now (row .entry)))) ⌝ }
+    ensures { λ r. ⌜ (r ≡ at + length (pairText (now (row .entry))))
+        × (now (out .exit) ≡ put (now (out .entry)) at (pairText (now (row .entry)))) ⌝ }
 {
     let n = octets::at_most(row[State::LENGTH_AT], State::DATA);
     let end = State::DATA_AT + n;
@@ -95,7 +100,8 @@ fn put_pair(out: &mut [u8], at: usize, row: &[u8]) -> usize
 
 fn put_pairs(s: &[u8], out: &mut [u8], at: usize, n: usize) -> usize
     requires { ⌜ (length (now s) ≡ blockSize) × (n ≤ mostPairs) × (at + pairLines ≤ length (now out)) ⌝ }
-    ensures { λ r. ⌜ (r ≡ at + length (pairsText (now (s .entry)) n)) × (now (out .exit) ≡ put (now (out .entry)) at (pairsText (now (s .entry)) n)) ⌝ }
+    ensures { λ r. ⌜ (r ≡ at + length (pairsText (now (s .entry)) n))
+        × (now (out .exit) ≡ put (now (out .entry)) at (pairsText (now (s .entry)) n)) ⌝ }
 {
     let mut next = at;
     let mut i = 0;
@@ -133,7 +139,8 @@ fn live_in(s: &[u8]) -> usize
 
 fn put_end(out: &mut [u8], at: usize, mons: usize, pairs: usize) -> usize
     requires { ⌜ (at + 7 ≤ length (now out)) × (mons ≤ mostMonitors) × (pairs ≤ mostPairs) ⌝ }
-    ensures { λ r. ⌜ (r ≡ at + length (endText mons pairs)) × (now (out .exit) ≡ put (now (out .entry)) at (endText mons pairs)) ⌝ }
+    ensures { λ r. ⌜ (r ≡ at + length (endText mons pairs))
+        × (now (out .exit) ≡ put (now (out .entry)) at (endText mons pairs)) ⌝ }
 {
     let u = mons as u8;
     let n = pairs as u8;
@@ -144,7 +151,8 @@ fn put_end(out: &mut [u8], at: usize, mons: usize, pairs: usize) -> usize
 // Behind the first line: the monitors, the pairs, their numbers.
 fn put_rest(s: &[u8], out: &mut [u8], at: usize) -> usize
     requires { ⌜ (length (now s) ≡ blockSize) × (at + restRoom ≤ length (now out)) ⌝ }
-    ensures { λ r. ⌜ (r ≡ at + length (restText (now (s .entry)))) × (now (out .exit) ≡ put (now (out .entry)) at (restText (now (s .entry)))) ⌝ }
+    ensures { λ r. ⌜ (r ≡ at + length (restText (now (s .entry))))
+        × (now (out .exit) ≡ put (now (out .entry)) at (restText (now (s .entry)))) ⌝ }
 {
     let n = octets::at_most(s[State::COUNT_AT], State::PAIRS);
     let u = live_in(s);
@@ -155,7 +163,8 @@ fn put_rest(s: &[u8], out: &mut [u8], at: usize) -> usize
 
 fn put_image(s: &[u8], out: &mut [u8]) -> usize
     requires { ⌜ (length (now s) ≡ blockSize) × (coreRoom ≤ length (now out)) ⌝ }
-    ensures { λ r. ⌜ (r ≡ length (savedText (now (s .entry)))) × (now (out .exit) ≡ put (now (out .entry)) 0 (savedText (now (s .entry)))) ⌝ }
+    ensures { λ r. ⌜ (r ≡ length (savedText (now (s .entry))))
+        × (now (out .exit) ≡ put (now (out .entry)) 0 (savedText (now (s .entry)))) ⌝ }
 {
     let a = put_head(s, out);
     put_rest(s, out, a)
@@ -165,8 +174,14 @@ fn put_image(s: &[u8], out: &mut [u8]) -> usize
 // is under 10,698, nothing is written and the answer is 0. Of the block of a sound state that is its image; of any
 // other block it is savedText, the lines of what stands in its rows.
 pub fn save_image(s: &[u8], out: &mut [u8]) -> usize
-    ensures { λ r. ⌜ (r ≡ pick (saves (now (s .entry)) (length (now (out .entry)))) (length (savedText (now (s .entry)))) 0) × (now (out .exit) ≡ putIf (saves (now (s .entry)) (length (now (out .entry)))) (now (out .entry)) 0 (savedText (now (s .entry)))) ⌝ }
-    ensures { λ r. ⌜ ((m : Model) → soundModel m ≡ true → now (s .entry) ≡ padded m → coreRoom ≤ length (now (out .entry)) → (r ≡ length (imageText m)) × (now (out .exit) ≡ put (now (out .entry)) 0 (imageText m))) ⌝ }
+    ensures { λ r. ⌜
+        (r ≡ pick (saves (now (s .entry)) (length (now (out .entry)))) (length (savedText (now (s .entry)))) 0)
+        × (now (out .exit)
+        ≡ putIf (saves (now (s .entry)) (length (now (out .entry)))) (now (out .entry)) 0
+        (savedText (now (s .entry)))) ⌝ }
+    ensures { λ r. ⌜
+        ((m : Model) → soundModel m ≡ true → now (s .entry) ≡ padded m → coreRoom ≤ length (now (out .entry))
+        → (r ≡ length (imageText m)) × (now (out .exit) ≡ put (now (out .entry)) 0 (imageText m))) ⌝ }
 {
     if s.len() != State::SIZE {
         return 0;
@@ -179,7 +194,11 @@ pub fn save_image(s: &[u8], out: &mut [u8]) -> usize
 
 // The first line alone, and what stands behind it: as save_image, into room for the longest.
 pub fn save_head(s: &[u8], out: &mut [u8]) -> usize
-    ensures { λ r. ⌜ (r ≡ pick (savesIn headLine (now (s .entry)) (length (now (out .entry)))) (length (headText (now (s .entry)))) 0) × (now (out .exit) ≡ putIf (savesIn headLine (now (s .entry)) (length (now (out .entry)))) (now (out .entry)) 0 (headText (now (s .entry)))) ⌝ }
+    ensures { λ r. ⌜
+        (r ≡ pick (savesIn headLine (now (s .entry)) (length (now (out .entry)))) (length (headText (now (s .entry))))
+        0) × (now (out .exit)
+        ≡ putIf (savesIn headLine (now (s .entry)) (length (now (out .entry)))) (now (out .entry)) 0
+        (headText (now (s .entry)))) ⌝ }
 {
     if s.len() != State::SIZE {
         return 0;
@@ -191,7 +210,11 @@ pub fn save_head(s: &[u8], out: &mut [u8]) -> usize
 }
 
 pub fn save_rest(s: &[u8], out: &mut [u8]) -> usize
-    ensures { λ r. ⌜ (r ≡ pick (savesIn restRoom (now (s .entry)) (length (now (out .entry)))) (length (restText (now (s .entry)))) 0) × (now (out .exit) ≡ putIf (savesIn restRoom (now (s .entry)) (length (now (out .entry)))) (now (out .entry)) 0 (restText (now (s .entry)))) ⌝ }
+    ensures { λ r. ⌜
+        (r ≡ pick (savesIn restRoom (now (s .entry)) (length (now (out .entry)))) (length (restText (now (s .entry))))
+        0) × (now (out .exit)
+        ≡ putIf (savesIn restRoom (now (s .entry)) (length (now (out .entry)))) (now (out .entry)) 0
+        (restText (now (s .entry)))) ⌝ }
 {
     if s.len() != State::SIZE {
         return 0;
@@ -229,7 +252,9 @@ pub fn past(text: &[u8], at: usize, line: &[u8]) -> usize
 
 // The index behind the first line of a block's text, where a text begins with it.
 pub fn past_head(s: &[u8], text: &[u8]) -> usize
-    ensures { λ r. ⌜ r ≡ pick (eqb (length (now (s .entry))) blockSize) (passed (now (text .entry)) 0 (headText (now (s .entry)))) lost ⌝ }
+    ensures { λ r. ⌜ r
+        ≡ pick (eqb (length (now (s .entry))) blockSize) (passed (now (text .entry)) 0 (headText (now (s .entry))))
+        lost ⌝ }
 {
     if s.len() != State::SIZE {
         return LOST;
@@ -239,7 +264,8 @@ pub fn past_head(s: &[u8], text: &[u8]) -> usize
 
 // Whether a text is a block's behind the first line.
 pub fn is_rest(s: &[u8], text: &[u8]) -> bool
-    ensures { λ r. ⌜ r ≡ (eqb (length (now (s .entry))) blockSize && sames (restText (now (s .entry))) (now (text .entry))) ⌝ }
+    ensures { λ r. ⌜ r
+        ≡ (eqb (length (now (s .entry))) blockSize && sames (restText (now (s .entry))) (now (text .entry))) ⌝ }
 {
     if s.len() != State::SIZE {
         return false;

@@ -1,4 +1,5 @@
-// A text held to the lines that save would write of a block: each is written into a buffer of one line and compared with what stands in the text.
+// A text held to the lines that save would write of a block: each is written into a buffer of one line and compared
+// with what stands in the text.
 use super::past;
 use state::State;
 ghost use Prim.Native.Nat.{_+_, _*_, _≤_, _<_};

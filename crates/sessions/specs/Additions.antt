@@ -1,5 +1,5 @@
--- Sessions with additions: calls that add to what later frames use, as an edition of the event prefix (document 02, T-12). Over any engine M
--- and any kind of addition. Definitions alone; the theorem is `taken-over` of Given.
+-- Sessions with additions: calls that add to what later frames use, as an edition of the event prefix (document 02,
+-- T-12). Over any engine M and any kind of addition. Definitions alone; the theorem is `taken-over` of Given.
 use mathlib.Core.Path.{_≡_}
 use mathlib.Core.Bool.{Bool, true}
 use mathlib.Core.Option.{Option, none, some}
@@ -10,13 +10,11 @@ use Rattle.sessions.specs.Machine.{Machine, Line, Outcome, refused, done
 use Rattle.sessions.specs.Session.{Call, save, Entry, stateAfter, answer, image, reply, after, ran, linesOf, since}
 use Rattle.sessions.specs.Saved.{Replayed, resume, cut, Enough}
 
--- What an engine owes that takes additions. `number` is the frame number from which an addition holds; `add` is refused by a number or
--- done, and writes nothing.
---   stays, keeps: it leaves the position, and a sound state sound.
---   above: "An edition is added only for a number above the position."
---   earlier: what is accepted after a frame is accepted before it, and the frame then does the same and leads to the same state: a frame uses
---     nothing that begins above its number.
---   later: and the other way round, where the addition's number is above the frame's.
+-- What an engine owes that takes additions. `number` is the frame number from which an addition holds; `add` is
+-- refused by a number or done, and writes nothing. stays, keeps: it leaves the position, and a sound state sound.
+-- above: "An edition is added only for a number above the position." earlier: what is accepted after a frame is
+-- accepted before it, and the frame then does the same and leads to the same state: a frame uses nothing that begins
+-- above its number. later: and the other way round, where the addition's number is above the frame's.
 pub record Growing (M : Machine) : Type 1 where
   pub A : Type 0
   pub number : A → ℕ
@@ -29,7 +27,8 @@ pub record Growing (M : Machine) : Type 1 where
       (s t u : M .S) (x : Line (M .Body)) (w : List ℕ) (a : A) → Executes M s x t w → add t a ≡ done u []
       → (v : M .S) × (add s a ≡ done v []) × Executes M v x u w
   pub later :
-      (s v u : M .S) (x : Line (M .Body)) (w : List ℕ) (a : A) → M .sound s ≡ true → add s a ≡ done v [] → Executes M v x u w → x .num < number a
+      (s v u : M .S) (x : Line (M .Body)) (w : List ℕ) (a : A) → M .sound s ≡ true → add s a ≡ done v []
+      → Executes M v x u w → x .num < number a
       → (t : M .S) × Executes M s x t w × (add t a ≡ done u [])
 
 module _ (M : Machine) (G : Growing M) where
@@ -86,14 +85,15 @@ module _ (M : Machine) (G : Growing M) where
   addedIn (line l ∷ p) = addedIn p
   addedIn (again a ∷ p) = a ∷ addedIn p
 
-  -- "must be given again .. before replay reaches its number or ends": each addition comes before the line of the frame from which it holds.
-  -- The next line is of frame n.
+  -- "must be given again .. before replay reaches its number or ends": each addition comes before the line of the
+  -- frame from which it holds. The next line is of frame n.
   abbrev pub InTime : ℕ → List Step → Type 0
   InTime n [] = Unit {0}
   InTime n (line l ∷ p) = InTime (suc n) p
   InTime n (again a ∷ p) = (n ≤ G .number a) × InTime n p
 
-  -- Replay with additions: a line is answered as in a replay without; an addition changes the state, and one that is refused stops.
+  -- Replay with additions: a line is answered as in a replay without; an addition changes the state, and one that is
+  -- refused stops.
   unfoldable pub resumeAdd : M .S → Outcome (M .S) → (M .S → Replayed (M .S)) → Replayed (M .S)
   resumeAdd s (done t w) rest = rest t
   resumeAdd s (refused n) rest = record { state = s; answers = []; stop = some n }
@@ -114,7 +114,8 @@ module _ (M : Machine) (G : Growing M) where
   journalOn fresh calls j = linesOf M (since j (map (λ e. e .line) (traceOn fresh calls)))
 
   -- The image `img` is saved after frame k, of the state `at`; the calls `later` follow.
-  pub record SavedAmong (fresh : M .S) (calls : List Act) (k : ℕ) (img : List ℕ) (at : M .S) (later : List Act) : Type 0 where
+  pub record SavedAmong (fresh : M .S) (calls : List Act) (k : ℕ) (img : List ℕ) (at : M .S) (later : List Act) : Type
+      0 where
     pub before : List Act
     pub lent : ℕ
     pub split : calls ≡ before ++ (call (save lent) ∷ later)
@@ -122,16 +123,20 @@ module _ (M : Machine) (G : Growing M) where
     pub state : at ≡ walkOn fresh before
     pub saved : image M lent at ≡ done at img
 
-  -- Demand 3 with additions, for one image: restoring it gives the state that was saved; with the additions accepted after it given again, in
-  -- the same order, each before the line of its frame, replay from a frame j, 1 to k + 1, gives the unbroken run's state and exactly its
-  -- answers to frames k + 1 to n, once each; for j above k + 1 and at most n the first line is refused as a gap.
-  pub record TakenOver (fresh : M .S) (calls : List Act) (k : ℕ) (img : List ℕ) (at : M .S) (later : List Act) : Type 0 where
+  -- Demand 3 with additions, for one image: restoring it gives the state that was saved; with the additions accepted
+  -- after it given again, in the same order, each before the line of its frame, replay from a frame j, 1 to k + 1,
+  -- gives the unbroken run's state and exactly its answers to frames k + 1 to n, once each; for j above k + 1 and at
+  -- most n the first line is refused as a gap.
+  pub record TakenOver (fresh : M .S) (calls : List Act) (k : ℕ) (img : List ℕ) (at : M .S) (later : List Act) : Type
+      0 where
     pub within : k ≤ framesOn fresh calls
     pub restored : M .decode img ≡ some at
     pub goes-on :
-        (j : ℕ) → 1 ≤ j → j ≤ k + 1 → (p : List Step) → linesIn p ≡ cut (journalOn fresh calls j) → addedIn p ≡ addedOn at later → InTime j p
+        (j : ℕ) → 1 ≤ j → j ≤ k + 1 → (p : List Step) → linesIn p ≡ cut (journalOn fresh calls j)
+        → addedIn p ≡ addedOn at later → InTime j p
         → (lent : ℕ → ℕ) → Enough lent
-        → replayOn lent at p ≡ record { state = walkOn fresh calls; answers = drop k (answersOn fresh calls); stop = none }
+        → replayOn lent at p
+        ≡ record { state = walkOn fresh calls; answers = drop k (answersOn fresh calls); stop = none }
     pub gapped :
         (j : ℕ) → k + 1 < j → j ≤ framesOn fresh calls → (l : List ℕ) (p : List Step)
         → linesIn (line l ∷ p) ≡ cut (journalOn fresh calls j) → (lent : ℕ → ℕ) → Enough lent

@@ -1,5 +1,5 @@
--- The text of sixteen rows as `bin/month --csv` writes it, and what such a text is read as (document 02, T-10: "`--csv` reads back what it
--- writes"). Definitions alone.
+-- The text of sixteen rows as `bin/month --csv` writes it, and what such a text is read as (document 02, T-10:
+-- "`--csv` reads back what it writes"). Definitions alone.
 use Prim.Native.Nat.{ℕ, zero, suc, _+_, _-_, _*_}
 use mathlib.Core.Bool.{Bool, true, false, _&&_}
 use mathlib.Core.List.{List, [], _∷_, _++_}
@@ -31,7 +31,8 @@ abbrev pub sumWord : List ℕ
 sumWord = 115 ∷ 117 ∷ 109 ∷ []
 
 abbrev pub names : List ℕ
-names = handleWord ++ (44 ∷ (packetsWord ++ (44 ∷ (reportsWord ++ (44 ∷ (ticksWord ++ (44 ∷ (sumWord ++ (10 ∷ [])))))))))
+names = handleWord
+    ++ (44 ∷ (packetsWord ++ (44 ∷ (reportsWord ++ (44 ∷ (ticksWord ++ (44 ∷ (sumWord ++ (10 ∷ [])))))))))
 
 unfoldable pub namesThen : List ℕ → List ℕ
 namesThen t = names ++ t
@@ -44,7 +45,9 @@ signed (negsuc n) = 45 ∷ decimal (suc n)
 -- the line of a handle's row, and the text behind it
 unfoldable pub rowThen : ℕ → Row → List ℕ → List ℕ
 rowThen h r rest =
-    decimal h ++ (44 ∷ (decimal (r .packets) ++ (44 ∷ (decimal (r .reports) ++ (44 ∷ (decimal (r .ticks) ++ (44 ∷ (signed (r .sum) ++ (10 ∷ rest)))))))))
+    decimal h ++ (44
+    ∷ (decimal (r .packets)
+    ++ (44 ∷ (decimal (r .reports) ++ (44 ∷ (decimal (r .ticks) ++ (44 ∷ (signed (r .sum) ++ (10 ∷ rest)))))))))
 
 unfoldable pub linesFrom : ℕ → List Row → List ℕ
 linesFrom h [] = []

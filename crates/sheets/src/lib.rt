@@ -1,5 +1,5 @@
-// The text of sixteen rows as `month --csv` writes it, and such a text read back (document 02, T-10): the rows whose text it is, octet for
-// octet, and nothing else.
+// The text of sixteen rows as `month --csv` writes it, and such a text read back (document 02, T-10): the rows whose
+// text it is, octet for octet, and nothing else.
 mod joins;
 mod marks;
 mod reads;
@@ -33,9 +33,11 @@ pub fn size_of(sum: i64) -> u64
     sum as u64
 }
 
-// Writes the text of sixteen rows at the start of out, nothing where out has fewer octets than ROOM. How many were written.
+// Writes the text of sixteen rows at the start of out, nothing where out has fewer octets than ROOM. How many were
+// written.
 pub fn write(out: &mut [u8], rows: [Row; Row::TABLE]) -> usize
-    ensures { λ r. ⌜ (r ≡ length (writtenIn (length (now (out .entry))) rows)) × (now (out .exit) ≡ put (now (out .entry)) 0 (writtenIn (length (now (out .entry))) rows)) ⌝ }
+    ensures { λ r. ⌜ (r ≡ length (writtenIn (length (now (out .entry))) rows))
+        × (now (out .exit) ≡ put (now (out .entry)) 0 (writtenIn (length (now (out .entry))) rows)) ⌝ }
 {
     if out.len() < ROOM {
         return 0;
@@ -43,9 +45,11 @@ pub fn write(out: &mut [u8], rows: [Row; Row::TABLE]) -> usize
     writes::put_rows(out, rows)
 }
 
-// The rows of a text that `write` wrote. The rows that its words hold are written again: it is read where this gives the text.
+// The rows of a text that `write` wrote. The rows that its words hold are written again: it is read where this gives
+// the text.
 pub fn read(text: &[u8]) -> Sheet
-    ensures { λ r. ⌜ (r .good ≡ isRead (readSheet (now (text .entry)))) × (r .rows ≡ rowsRead (readSheet (now (text .entry)))) ⌝ }
+    ensures { λ r. ⌜ (r .good ≡ isRead (readSheet (now (text .entry))))
+        × (r .rows ≡ rowsRead (readSheet (now (text .entry)))) ⌝ }
 {
     let rows = reads::held_rows(text);
     let mut again = [0u8; ROOM];
@@ -63,8 +67,8 @@ pub fn read(text: &[u8]) -> Sheet
     }
 }
 
-// What joining the rows of two sites gives: the first handle whose join is refused, the number of rows where none is, and the rows, all
-// empty where one is.
+// What joining the rows of two sites gives: the first handle whose join is refused, the number of rows where none is,
+// and the rows, all empty where one is.
 pub struct Both {
     pub refused: usize,
     pub rows: [Row; Row::TABLE],

@@ -1,5 +1,5 @@
-// A text of rows read, word by word. Whether the words are numbers, and the right ones, is not asked: a number that passes 64 bits is held at
-// the end of its range.
+// A text of rows read, word by word. Whether the words are numbers, and the right ones, is not asked: a number that
+// passes 64 bits is held at the end of its range.
 ghost use Prim.Native.Nat.{_-_, _≤_};
 ghost use mathlib.Core.Path.{_≡_};
 ghost use lib.Dec.{eqb};

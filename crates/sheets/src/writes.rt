@@ -17,7 +17,8 @@ const NAMES: usize = 33;
 // A number, and an octet behind it.
 fn put_count(out: &mut [u8], at: usize, n: u64, end: u8) -> usize
     requires { ⌜ at + 21 ≤ length (now out) ⌝ }
-    ensures { λ r. ⌜ (r ≡ at + length (countThen n end)) × (now (out .exit) ≡ put (now (out .entry)) at (countThen n end)) ⌝ }
+    ensures { λ r. ⌜ (r ≡ at + length (countThen n end))
+        × (now (out .exit) ≡ put (now (out .entry)) at (countThen n end)) ⌝ }
 {
     let mut digits = [0u8; decimals::MOST];
     let k = decimals::write(&mut digits, n, decimals::MOST - 1);
@@ -43,7 +44,8 @@ fn put_sum(out: &mut [u8], at: usize, sum: i64) -> usize
 // The line of a handle's row.
 fn put_row(out: &mut [u8], at: usize, h: u64, r: Row) -> usize
     requires { ⌜ at + lineOctets ≤ length (now out) ⌝ }
-    ensures { λ e. ⌜ (e ≡ at + length (rowThen h r [])) × (now (out .exit) ≡ put (now (out .entry)) at (rowThen h r [])) ⌝ }
+    ensures { λ e. ⌜ (e ≡ at + length (rowThen h r []))
+        × (now (out .exit) ≡ put (now (out .entry)) at (rowThen h r [])) ⌝ }
 {
     let a = put_count(out, at, h, COMMA);
     let b = put_count(out, a, r.packets, COMMA);

@@ -1,4 +1,5 @@
--- Frames, events and reports in words (docs/FORMATS.md, What `show` writes: packet, tick, start, stop, report). Definitions alone.
+-- Frames, events and reports in words (docs/FORMATS.md, What `show` writes: packet, tick, start, stop, report).
+-- Definitions alone.
 use Prim.Native.Nat.{ℕ, _+_, _-_}
 use mathlib.Core.Bool.{Bool, false, _&&_}
 use mathlib.Core.List.{List, [], _++_}
@@ -18,7 +19,8 @@ use Rattle.shown.specs.Commands.{commandText}
 -- event type, address and level of a packet; the level is its last octet
 unfoldable pub heardText : List ℕ → List ℕ
 heardText s =
-    codes ": " ++ eventText (numberAt 1 s 0) ++ (codes ", " ++ deviceText (deviceOf (drop 1 s))) ++ (codes ", RSSI " ++ dbm (numberAt 1 s (length s - 1)))
+    codes ": " ++ eventText (numberAt 1 s 0) ++ (codes ", " ++ deviceText (deviceOf (drop 1 s)))
+    ++ (codes ", RSSI " ++ dbm (numberAt 1 s (length s - 1)))
 
 -- a packet: event type, address type, address, n, data, RSSI
 unfoldable pub packetText : List ℕ → List ℕ
@@ -27,7 +29,8 @@ packetText s = heardText s ++ structuresText (partOf s 9 (numberAt 1 s 8))
 -- one with its scan response
 unfoldable pub scannedText : List ℕ → List ℕ
 scannedText s =
-    packetText s ++ codes "; scan response" ++ structuresText (partOf s (9 + numberAt 1 s 8 + 1) (numberAt 1 s (9 + numberAt 1 s 8)))
+    packetText s ++ codes "; scan response"
+    ++ structuresText (partOf s (9 + numberAt 1 s 8 + 1) (numberAt 1 s (9 + numberAt 1 s 8)))
 
 -- a frame: kind, number, payload
 unfoldable pub frameText : List ℕ → List ℕ
@@ -46,13 +49,15 @@ isFrame s =
 -- a start or a stop: prefix, 2, address type, address, handle, which
 unfoldable pub changeText : List ℕ → List ℕ
 changeText s =
-    pick (ltb (length s) 12) [] (changeWord (numberAt 1 s (length s - 1)) ++ (codes " " ++ deviceText (deviceOf (drop (length s - 9) s)))
+    pick (ltb (length s) 12) []
+    (changeWord (numberAt 1 s (length s - 1)) ++ (codes " " ++ deviceText (deviceOf (drop (length s - 9) s)))
     ++ (codes ", monitor " ++ decimal (numberAt 1 s (length s - 2))) ++ prefixText (partOf s 2 (length s - 12)))
 
 -- whether an event is one
 unfoldable pub isChange : List ℕ → Bool
 isChange s =
-    pick (ltb (length s) 12) false (pick (ltb 44 (length s)) false ((eqb (numberAt 1 s 1) (length s - 2) && eqb (numberAt 1 s (length s - 10)) 2)
+    pick (ltb (length s) 12) false
+    (pick (ltb 44 (length s)) false ((eqb (numberAt 1 s 1) (length s - 2) && eqb (numberAt 1 s (length s - 10)) 2)
     && (leb (numberAt 1 s (length s - 9)) 1 && leb (numberAt 1 s (length s - 1)) 1)))
 
 -- an advertising report
@@ -63,5 +68,6 @@ reportText s = codes "report" ++ packetText (drop 4 s)
 unfoldable pub isReport : List ℕ → Bool
 isReport s =
     pick (ltb (length s) 14) false ((((eqb (numberAt 1 s 1) (length s - 2) && eqb (length s - 14) (numberAt 1 s 12))
-    && (eqb (numberAt 1 s 2) 2 && eqb (numberAt 1 s 3) 1)) && ((leb (numberAt 1 s 4) 4 && leb (numberAt 1 s 5) 1) && leb (numberAt 1 s 12) 31))
+    && (eqb (numberAt 1 s 2) 2 && eqb (numberAt 1 s 3) 1))
+    && ((leb (numberAt 1 s 4) 4 && leb (numberAt 1 s 5) 1) && leb (numberAt 1 s 12) 31))
     && inRange (numberAt 1 s (length s - 1)))

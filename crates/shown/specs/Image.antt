@@ -30,7 +30,8 @@ addedText s = pick (eqb (numberAt 1 s 0) 165) (peerText (partOf s (8 + numberAt 
 -- a monitor of either version
 unfoldable pub monitorText : List ℕ → List ℕ
 monitorText s =
-    (codes "monitor " ++ decimal (numberAt 1 s 1)) ++ codes ":" ++ limitsText (drop 2 s) ++ conditionText (numberAt 1 s 6) (partOf s 8 (numberAt 1 s 7))
+    (codes "monitor " ++ decimal (numberAt 1 s 1)) ++ codes ":" ++ limitsText (drop 2 s)
+    ++ conditionText (numberAt 1 s 6) (partOf s 8 (numberAt 1 s 7))
     ++ addedText s
 
 -- a pair under watch: what it counts, then the packet that it keeps
@@ -41,8 +42,10 @@ countsText s =
 
 unfoldable pub pairText : List ℕ → List ℕ
 pairText s =
-    (codes "pair: monitor " ++ decimal (numberAt 1 s 1)) ++ (codes ", " ++ deviceText (deviceOf (drop 2 s))) ++ countsText s
-    ++ (codes ", last RSSI " ++ dbm (numberAt 1 s 24)) ++ codes ", " ++ eventText (numberAt 1 s 25) ++ structuresText (drop 27 s)
+    (codes "pair: monitor " ++ decimal (numberAt 1 s 1)) ++ (codes ", " ++ deviceText (deviceOf (drop 2 s)))
+    ++ countsText s
+    ++ (codes ", last RSSI " ++ dbm (numberAt 1 s 24)) ++ codes ", " ++ eventText (numberAt 1 s 25)
+    ++ structuresText (drop 27 s)
 
 -- the end: how many monitors and pairs
 unfoldable pub endText : List ℕ → List ℕ
@@ -51,7 +54,8 @@ endText s = (codes "end: monitors " ++ decimal (numberAt 1 s 1)) ++ (codes ", pa
 -- a line of an image, by its first octet
 unfoldable pub imageText : List ℕ → List ℕ
 imageText s =
-    pick (eqb (numberAt 1 s 0) 160) (headText s) (pick (eqb (numberAt 1 s 0) 164) (editionText s) (pick (eqb (numberAt 1 s 0) 163) (pairText s) (
+    pick (eqb (numberAt 1 s 0) 160) (headText s)
+    (pick (eqb (numberAt 1 s 0) 164) (editionText s) (pick (eqb (numberAt 1 s 0) 163) (pairText s) (
     pick (eqb (numberAt 1 s 0) 175) (endText s) (monitorText s))))
 
 -- how many octets it has, by its octet that says a length

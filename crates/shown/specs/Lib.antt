@@ -3,4 +3,4 @@ pub mod Commands
 pub mod Frames
 pub mod Image
 pub mod Line
-pub mod Read
+pub mod ReadLaws

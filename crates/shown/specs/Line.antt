@@ -34,13 +34,15 @@ formOf good = pick good 0 7
 
 unfoldable pub whyNot : List ℕ → ℕ
 whyNot s =
-    pick (isKind (numberAt 1 s 0)) (whyNoFrame s) (pick (begins (numberAt 1 s 0)) (formOf (eqb (length s) (imageSize s))) (
+    pick (isKind (numberAt 1 s 0)) (whyNoFrame s)
+    (pick (begins (numberAt 1 s 0)) (formOf (eqb (length s) (imageSize s))) (
     pick ((eqb (numberAt 1 s 0) 14 || eqb (numberAt 1 s 0) 255) || eqb (numberAt 1 s 0) 62) (formOf (isEvent s)) 4))
 
 -- the words of octets that are a line
 unfoldable pub lineText : List ℕ → List ℕ
 lineText s =
-    pick (isKind (numberAt 1 s 0)) (frameText s) (pick (begins (numberAt 1 s 0)) (imageText s) (pick (eqb (numberAt 1 s 0) 14) (completeText s) (
+    pick (isKind (numberAt 1 s 0)) (frameText s)
+    (pick (begins (numberAt 1 s 0)) (imageText s) (pick (eqb (numberAt 1 s 0) 14) (completeText s) (
     pick (eqb (numberAt 1 s 0) 255) (changeText s) (reportText s))))
 
 -- what is said of a text that is no line

@@ -1,5 +1,6 @@
-// A line of a journal, of an image or of answers in words (man/show.1). What a line is is told by its first octet: 01 to 04 a frame, 0E, 3E and FF
-// an event, A0, A1, A3, A4, A5 and AF a line of an image. A number in decimal is a refusal.
+// A line of a journal, of an image or of answers in words (man/show.1). What a line is is told by its first octet: 01
+// to 04 a frame, 0E, 3E and FF an event, A0, A1, A3, A4, A5 and AF a line of an image. A number in decimal is a
+// refusal.
 use decimals::Number;
 use refusals::Wrote;
 use words::ROOM;
@@ -159,7 +160,8 @@ fn octets_why(s: &[u8]) -> u8
 
 // The words of octets, or why they are no line.
 fn of_octets(out: &mut [u8; ROOM], s: &[u8]) -> Shown
-    ensures { λ r. ⌜ Says (now (out .entry)) 0 (octetsText (now (s .entry))) (now (out .exit)) (r .count) × (r .good ≡ eqb (octetsWhy (now (s .entry))) 0) ⌝ }
+    ensures { λ r. ⌜ Says (now (out .entry)) 0 (octetsText (now (s .entry))) (now (out .exit)) (r .count)
+        × (r .good ≡ eqb (octetsWhy (now (s .entry))) 0) ⌝ }
 {
     let why = octets_why(s);
     if why != FINE {
@@ -201,7 +203,8 @@ fn of_text(out: &mut [u8; ROOM], text: &[u8]) -> Shown
 // The words of the first k octets.
 fn of_read(out: &mut [u8; ROOM], read: [u8; lines::MOST_FRAME], k: usize) -> Shown
     requires { ⌜ k ≤ 263 ⌝ }
-    ensures { λ r. ⌜ Says (now (out .entry)) 0 (octetsText (take k read)) (now (out .exit)) (r .count) × (r .good ≡ eqb (octetsWhy (take k read)) 0) ⌝ }
+    ensures { λ r. ⌜ Says (now (out .entry)) 0 (octetsText (take k read)) (now (out .exit)) (r .count)
+        × (r .good ≡ eqb (octetsWhy (take k read)) 0) ⌝ }
 {
     let s = read;
     of_octets(out, &s[..k])
@@ -252,7 +255,8 @@ fn of_refusal(out: &mut [u8; ROOM], x: u8) -> Shown
 
 // Writes a line's words from the output's start on. The line has its LF, the words have none.
 pub fn line(out: &mut [u8; ROOM], text: &[u8]) -> Shown
-    ensures { λ r. ⌜ Says (now (out .entry)) 0 (wordsOf (now (text .entry))) (now (out .exit)) (r .count) × (r .good ≡ isLine (now (text .entry))) ⌝ }
+    ensures { λ r. ⌜ Says (now (out .entry)) 0 (wordsOf (now (text .entry))) (now (out .exit)) (r .count)
+        × (r .good ≡ isLine (now (text .entry))) ⌝ }
 {
     let x = refusal_in(text);
     let first = octets::get8(text, 0);

@@ -1,5 +1,6 @@
-// Images with editions (document 02, T-12): the image's text of a whole block, any text read into one, and whether a block is sound. The core's
-// text and the core are those of the crates save and restore; a line for each edition stands behind the first line.
+// Images with editions (document 02, T-12): the image's text of a whole block, any text read into one, and whether a
+// block is sound. The core's text and the core are those of the crates save and restore; a line for each edition
+// stands behind the first line.
 use index::Whole;
 use state::State;
 ghost use Prim.Native.Nat.{ℕ, _+_, _*_, _≤_, _<_};
@@ -30,7 +31,8 @@ const NAME: u8 = 0xA4;
 // The line of edition i, written at an index.
 fn put_one(s: &[u8], i: usize, out: &mut [u8], at: usize) -> usize
     requires { ⌜ (length (now s) ≡ wholeSize) × (i < mostEditions) × (at + editionLine ≤ length (now out)) ⌝ }
-    ensures { λ r. ⌜ (r ≡ at + length (lineAt (now (s .entry)) i)) × (now (out .exit) ≡ put (now (out .entry)) at (lineAt (now (s .entry)) i)) ⌝ }
+    ensures { λ r. ⌜ (r ≡ at + length (lineAt (now (s .entry)) i))
+        × (now (out .exit) ≡ put (now (out .entry)) at (lineAt (now (s .entry)) i)) ⌝ }
 {
     let from = Whole::EDITIONS_AT + Whole::EDITION * i;
     let k = octets::at_most(s[from + 4], State::PREFIX);
@@ -45,7 +47,8 @@ fn put_one(s: &[u8], i: usize, out: &mut [u8], at: usize) -> usize
 // The lines of a block's editions, written at an index.
 fn put_lines(s: &[u8], out: &mut [u8], from: usize) -> usize
     requires { ⌜ (length (now s) ≡ wholeSize) × (from + editionLine * mostEditions ≤ length (now out)) ⌝ }
-    ensures { λ r. ⌜ (r ≡ from + length (linesText (now (s .entry)))) × (now (out .exit) ≡ put (now (out .entry)) from (linesText (now (s .entry)))) ⌝ }
+    ensures { λ r. ⌜ (r ≡ from + length (linesText (now (s .entry))))
+        × (now (out .exit) ≡ put (now (out .entry)) from (linesText (now (s .entry)))) ⌝ }
 {
     let count = octets::at_most(s[Whole::EDITION_COUNT_AT], Whole::EDITIONS);
     let mut at = from;
@@ -60,7 +63,8 @@ fn put_lines(s: &[u8], out: &mut [u8], from: usize) -> usize
 // The image's text of a block: the core's first line, the editions' lines, the rest of the core's.
 fn put_image(s: &[u8], out: &mut [u8]) -> usize
     requires { ⌜ (length (now s) ≡ wholeSize) × (saveRoom ≤ length (now out)) ⌝ }
-    ensures { λ r. ⌜ (r ≡ length (savedOn (now (s .entry)))) × (now (out .exit) ≡ put (now (out .entry)) 0 (savedOn (now (s .entry)))) ⌝ }
+    ensures { λ r. ⌜ (r ≡ length (savedOn (now (s .entry))))
+        × (now (out .exit) ≡ put (now (out .entry)) 0 (savedOn (now (s .entry)))) ⌝ }
 {
     let a = save::save_head(&s[..State::SIZE], out);
     let b = put_lines(s, out, a);
@@ -68,10 +72,15 @@ fn put_image(s: &[u8], out: &mut [u8]) -> usize
     b + n
 }
 
-// The image's text of the state in a whole block, written from the start of out; its length. Where the block is not 6,987 octets or out is under
-// 13,162, nothing is written and the answer is 0. Of a sound block that is its image; of any other it is savedOn.
+// The image's text of the state in a whole block, written from the start of out; its length. Where the block is not
+// 6,987 octets or out is under 13,162, nothing is written and the answer is 0. Of a sound block that is its image; of
+// any other it is savedOn.
 pub fn save_image(s: &[u8], out: &mut [u8]) -> usize
-    ensures { λ r. ⌜ (r ≡ pick (savesOn (now (s .entry)) (length (now (out .entry)))) (length (savedOn (now (s .entry)))) 0) × (now (out .exit) ≡ putIf (savesOn (now (s .entry)) (length (now (out .entry)))) (now (out .entry)) 0 (savedOn (now (s .entry)))) ⌝ }
+    ensures { λ r. ⌜
+        (r ≡ pick (savesOn (now (s .entry)) (length (now (out .entry)))) (length (savedOn (now (s .entry)))) 0)
+        × (now (out .exit)
+        ≡ putIf (savesOn (now (s .entry)) (length (now (out .entry)))) (now (out .entry)) 0
+        (savedOn (now (s .entry)))) ⌝ }
 {
     if s.len() != Whole::SIZE {
         return 0;
@@ -82,8 +91,8 @@ pub fn save_image(s: &[u8], out: &mut [u8]) -> usize
     put_image(s, out)
 }
 
-// Whether a block is that of a sound state: its core is sound, its index is that of the pairs held, its editions are sound, and the head has
-// the prefix in force at the position. That no pair is held twice is told with the index.
+// Whether a block is that of a sound state: its core is sound, its index is that of the pairs held, its editions are
+// sound, and the head has the prefix in force at the position. That no pair is held twice is told with the index.
 pub fn is_sound(s: &[u8]) -> bool
     ensures { λ r. ⌜ r ≡ soundWhole (now (s .entry)) ⌝ }
 {
@@ -128,8 +137,8 @@ fn store_line(s: &mut [u8], line: &[u8])
     restore::store_line(&mut s[..State::SIZE], line);
 }
 
-// The line at an index, read in one pass and stored. The answer is the index behind it, or that index where no line of at most 97 octets
-// stands there.
+// The line at an index, read in one pass and stored. The answer is the index behind it, or that index where no line
+// of at most 97 octets stands there.
 fn store_text(s: &mut [u8], text: &[u8], at: usize) -> usize
     requires { ⌜ (length (now s) ≡ wholeSize) × (at ≤ length (now text)) ⌝ }
     ensures { λ r. ⌜ Placed (now (text .entry)) at (now (s .entry)) (now (s .exit)) r ⌝ }
@@ -147,7 +156,9 @@ fn store_text(s: &mut [u8], text: &[u8], at: usize) -> usize
 // The lines of a text, up to the first that cannot be read.
 fn store_lines(s: &mut [u8], text: &[u8])
     requires { ⌜ length (now s) ≡ wholeSize ⌝ }
-    ensures { λ _. ⌜ ((rs : List (List ℕ)) → All Row rs → now (text .entry) ≡ each textOf rs → now (s .exit) ≡ storedAllOn (now (s .entry)) rs) ⌝ }
+    ensures { λ _. ⌜
+        ((rs : List (List ℕ)) → All Row rs → now (text .entry) ≡ each textOf rs
+        → now (s .exit) ≡ storedAllOn (now (s .entry)) rs) ⌝ }
 {
     let n = text.len();
     let mut at = 0;
@@ -160,10 +171,12 @@ fn store_lines(s: &mut [u8], text: &[u8])
     }
 }
 
-// The lines of a text in an empty block. Of the image of a sound state that is the state's whole block; what it is of another text is not said.
+// The lines of a text in an empty block. Of the image of a sound state that is the state's whole block; what it is of
+// another text is not said.
 fn fill_block(s: &mut [u8], text: &[u8])
     requires { ⌜ length (now s) ≡ wholeSize ⌝ }
-    ensures { λ _. ⌜ ((g : Gateway) → soundGateway g ≡ true → now (text .entry) ≡ imageOn g → now (s .exit) ≡ whole g) ⌝ }
+    ensures { λ _. ⌜ ((g : Gateway) → soundGateway g ≡ true → now (text .entry) ≡ imageOn g → now (s .exit) ≡ whole g)
+        ⌝ }
 {
     parts::fill(s, 0, Whole::SIZE, 0);
     store_lines(s, text);
@@ -208,8 +221,8 @@ fn is_saved(s: &[u8], text: &[u8]) -> bool
     save::is_rest(&s[..State::SIZE], &text[b..])
 }
 
-// Reads an image into s: the answer is whether the text is an image of a sound state. Where it is, s is then the whole block of the state that the
-// text holds; where not, what s holds is not said.
+// Reads an image into s: the answer is whether the text is an image of a sound state. Where it is, s is then the
+// whole block of the state that the text holds; where not, what s holds is not said.
 fn take_image(text: &[u8], s: &mut [u8]) -> bool
     requires { ⌜ length (now s) ≡ wholeSize ⌝ }
     ensures { λ r. ⌜ ReadOn (now (text .entry)) (now (s .exit)) r ⌝ }
@@ -224,10 +237,12 @@ fn take_image(text: &[u8], s: &mut [u8]) -> bool
     false
 }
 
-// Restores an image into s: the answer is whether s has 6,987 octets and the text is an image of a sound state. Where it is, s is then the whole
-// block of the state that the text holds; where the text is refused, the blank state's. A block of another length stays as it is.
+// Restores an image into s: the answer is whether s has 6,987 octets and the text is an image of a sound state. Where
+// it is, s is then the whole block of the state that the text holds; where the text is refused, the blank state's. A
+// block of another length stays as it is.
 pub fn read_image(text: &[u8], s: &mut [u8]) -> bool
-    ensures { λ r. ⌜ (r ≡ restoresOn (now (text .entry)) (length (now (s .entry)))) × (now (s .exit) ≡ restoredOn (now (text .entry)) (now (s .entry))) ⌝ }
+    ensures { λ r. ⌜ (r ≡ restoresOn (now (text .entry)) (length (now (s .entry))))
+        × (now (s .exit) ≡ restoredOn (now (text .entry)) (now (s .entry))) ⌝ }
 {
     if s.len() != Whole::SIZE {
         return false;

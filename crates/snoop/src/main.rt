@@ -1,13 +1,14 @@
-// The program `snoop [--from SECONDS] IMAGE JOURNAL`: restores the image, replays the journal and writes a btsnoop file of the commands and of
-// the answers' events and reports on standard output, with time from ticks (man/snoop.1). What is written is the crate captures'; here are
-// files and words of the command.
+// The program `snoop [--from SECONDS] IMAGE JOURNAL`: restores the image, replays the journal and writes a btsnoop
+// file of the commands and of the answers' events and reports on standard output, with time from ticks (man/snoop.1).
+// What is written is the crate captures'; here are files and words of the command.
 mod journal;
 
 use decimals::Number;
 use libc::STDERR_FILENO;
 use libc::STDOUT_FILENO;
 
-// What the options ask: words on how far it is, the first tick's time; whether they are good; the place of the first name.
+// What the options ask: words on how far it is, the first tick's time; whether they are good; the place of the first
+// name.
 struct Asked {
     progress: bool,
     from: u32,
@@ -15,7 +16,8 @@ struct Asked {
     at: usize,
 }
 
-// The first tick's time where none is given: the beginning of 2000, in seconds since 1970. btmon reads no time before it.
+// The first tick's time where none is given: the beginning of 2000, in seconds since 1970. btmon reads no time before
+// it.
 const BEGIN_2000: u32 = 946684800;
 
 // The last place at which an option is looked for.

@@ -40,11 +40,13 @@ monitorOfRow r = pick (eqb (getD r intervalAt 0) 0) none (some (monitorIn r .1))
 unfoldable pub bareTest : List ℕ → Bool
 bareTest r = pick (eqb (getD r extraAt 0) 0) (every isZero (drop extraAt r)) true
 
--- a row in use: its handle is its place, "every monitor as 0x03 would accept it" (or 0x0F), the octets behind the condition 0
+-- a row in use: its handle is its place, "every monitor as 0x03 would accept it" (or 0x0F), the octets behind the
+-- condition 0
 unfoldable pub heldTest : ℕ → List ℕ → Bool
 heldTest h r =
     eqb (getD r handleAt 0) h && leb (getD r conditionLengthAt 0) mostCondition
-    && every isZero (drop (conditionAt + getD r conditionLengthAt 0) (take extraAt r)) && bareTest r && accepts (monitorIn r .1)
+    && every isZero (drop (conditionAt + getD r conditionLengthAt 0) (take extraAt r)) && bareTest r
+    && accepts (monitorIn r .1)
 
 unfoldable pub monitorTest : ℕ → List ℕ → Bool
 monitorTest h r = pick (eqb (getD r intervalAt 0) 0) (every isZero r) (heldTest h r)
@@ -56,7 +58,8 @@ liveAt s h = pick (ltb h mostMonitors) (monitorOfRow (monitorRowAt s h)) none
 -- a pair's row: what soundness asks of a pair, and the octets behind its data 0
 unfoldable pub pairTest : ℕ → Option Monitor → List ℕ → Bool
 pairTest position o r =
-    soundOf position o (pairIn r) && leb (getD r lengthAt 0) mostData && every isZero (drop (dataAt + getD r lengthAt 0) r)
+    soundOf position o (pairIn r) && leb (getD r lengthAt 0) mostData
+    && every isZero (drop (dataAt + getD r lengthAt 0) r)
 
 -- the pair at a place, with its monitor if its handle is live
 unfoldable pub placeTest : List ℕ → ℕ → Bool
@@ -83,7 +86,8 @@ loosePairsTest s c = leb c mostPairs && freeTest s c && allBelow (placeTest s) c
 
 -- .. but that a pair may be held twice
 unfoldable pub loose : List ℕ → Bool
-loose s = eqb (length s) blockSize && headTest (take headSize s) && monitorsTest s && loosePairsTest s (getD s countAt 0)
+loose s = eqb (length s) blockSize && headTest (take headSize s) && monitorsTest s
+    && loosePairsTest s (getD s countAt 0)
 
 -- .. and each pair another than those before it
 unfoldable pub othersTest : List ℕ → Bool

@@ -1,5 +1,5 @@
-// Whether the pairs of a block are distinct. Each key has one of 256 marks. A key whose mark none before it has is another than all of
-// them; only where the mark was seen is it compared with each.
+// Whether the pairs of a block are distinct. Each key has one of 256 marks. A key whose mark none before it has is
+// another than all of them; only where the mark was seen is it compared with each.
 use state::State;
 ghost use Prim.Native.Nat.{_+_, _≤_, _<_};
 ghost use mathlib.Core.Path.{_≡_};
@@ -11,7 +11,8 @@ ghost use Rattle.model.specs.Layout.{blockSize, mostPairs};
 
 const MARKS: usize = 256;
 
-// The mark of a key: pairs of one monitor differ in it by their address' lowest octets, pairs of one device by their handles.
+// The mark of a key: pairs of one monitor differ in it by their address' lowest octets, pairs of one device by their
+// handles.
 fn mark_of(key: u64) -> usize
     ensures { λ r. ⌜ (r ≡ markOf key) × (r < marks) ⌝ }
 {
@@ -36,7 +37,8 @@ fn other_sound(s: &[u8], i: usize) -> bool
 
 // The same, by the marks of the keys before it, to which its own is added.
 fn take_key(seen: &mut [u8], s: &[u8], i: usize) -> bool
-    requires { ⌜ (length (now s) ≡ blockSize) × (i < mostPairs) × (length (now seen) ≡ marks) × Marked (now s) i (now seen) ⌝ }
+    requires { ⌜ (length (now s) ≡ blockSize) × (i < mostPairs) × (length (now seen) ≡ marks)
+        × Marked (now s) i (now seen) ⌝ }
     ensures { λ b. ⌜ (b ≡ otherTest (now (s .entry)) i) × Marked (now (s .entry)) (i + 1) (now (seen .exit)) ⌝ }
 {
     let m = mark_of(octets::get64(s, State::PAIRS_AT + State::PAIR_ROW * i));

@@ -204,10 +204,13 @@ fn held_window_sound(r: &[u8], position: u32, sampling: u8, sifts: bool) -> bool
     window & empty & behind
 }
 
-// The same, its monitor's row at an index of the block. Of a window that holds nothing only the ticks are asked, and most hold nothing.
+// The same, its monitor's row at an index of the block. Of a window that holds nothing only the ticks are asked, and
+// most hold nothing.
 fn rest_sound(s: &[u8], r: &[u8], m: usize) -> bool
     requires { ⌜ (m + monitorSize ≤ length (now s)) × (length (now r) ≡ pairSize) ⌝ }
-    ensures { λ b. ⌜ b ≡ restTest (numberAt 4 (now (s .entry)) positionAt) (getD (now (s .entry)) (m + samplingAt) 0) (siftsAt (now (s .entry)) m) (now (r .entry)) ⌝ }
+    ensures { λ b. ⌜ b
+        ≡ restTest (numberAt 4 (now (s .entry)) positionAt) (getD (now (s .entry)) (m + samplingAt) 0)
+        (siftsAt (now (s .entry)) m) (now (r .entry)) ⌝ }
 {
     if is_blank(r) {
         return ticks_sound(s[m + State::SAMPLING_AT], r[State::TICKS_AT]);
@@ -268,7 +271,8 @@ fn pairs_sound(s: &[u8]) -> bool
     held_pairs_sound(s, c)
 }
 
-// Whether the octets are a sound state's block, but that a pair may be held twice: where an index is compared with the pairs, that is told there.
+// Whether the octets are a sound state's block, but that a pair may be held twice: where an index is compared with
+// the pairs, that is told there.
 pub fn is_loose(s: &[u8]) -> bool
     ensures { λ b. ⌜ b ≡ loose (now (s .entry)) ⌝ }
 {

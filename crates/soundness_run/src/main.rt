@@ -1,8 +1,9 @@
-// Runs the soundness check on blocks. Standard input holds a vector a line, in hexadecimal: how often to check (2 octets), then parts
-// that are written over the block of a fresh state with opcode 0xFC1E and prefix 4D 53, each with its offset (2), its length (2)
-// and its octets. Other lines are passed over. For each vector a line is written: 1 if every check found the block sound, else 0.
-// Before each check the highest octet of the position is turned from 0 to 1 or back, so that no check can be spared.
-// The vectors and their answers are made by vectors.py, an independent program written from document 01.
+// Runs the soundness check on blocks. Standard input holds a vector a line, in hexadecimal: how often to check (2
+// octets), then parts that are written over the block of a fresh state with opcode 0xFC1E and prefix 4D 53, each with
+// its offset (2), its length (2) and its octets. Other lines are passed over. For each vector a line is written: 1 if
+// every check found the block sound, else 0. Before each check the highest octet of the position is turned from 0 to
+// 1 or back, so that no check can be spared. The vectors and their answers are made by vectors.py, an independent
+// program written from document 01.
 ghost use Prim.Native.Nat.{_≤_};
 ghost use mathlib.Core.Path.{_≡_};
 ghost use lib.ListN.{length};

@@ -42,8 +42,8 @@ fn goes_on(given: Given) -> bool {
     !additions::is_stopped(stop)
 }
 
-// Reads until the file ends or an addition is refused. Nothing says that an input ends, so the reads are counted down from a
-// number that no run uses up.
+// Reads until the file ends or an addition is refused. Nothing says that an input ends, so the reads are counted down
+// from a number that no run uses up.
 fn give_from(block: &mut [u8; Whole::SIZE], fd: i32, name: &[u8]) -> Given {
     let mut line = [0u8; additions::ROOM];
     let mut given = Given {

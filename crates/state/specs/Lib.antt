@@ -1,3 +1,4 @@
 -- What starting a state answers and leaves; the position moved by one frame.
 pub mod Start
-pub mod Position
+pub mod StartLaws
+pub mod PositionLaws

@@ -56,7 +56,8 @@ pub fn in_range(rssi: u8) -> bool
     (State::LEAST_LEVEL <= level) & (level <= State::MOST_LEVEL)
 }
 
-// The report filtering that holds for a monitor, from its row's octets: where options are 0 that of version 1, bits 1 and 2.
+// The report filtering that holds for a monitor, from its row's octets: where options are 0 that of version 1, bits 1
+// and 2.
 pub fn filtering_of(options: u8, filtering: u8) -> u8
     ensures { λ r. ⌜ r ≡ filteringOf options filtering ⌝ }
 {
@@ -66,7 +67,8 @@ pub fn filtering_of(options: u8, filtering: u8) -> u8
     filtering
 }
 
-// Whether report filtering lets packets of an event type through: bit 1 all, which are legacy ones, bit 3 the directed, of event type 1.
+// Whether report filtering lets packets of an event type through: bit 1 all, which are legacy ones, bit 3 the
+// directed, of event type 1.
 pub fn lets_through(filtering: u8, event: u8) -> bool
     ensures { λ r. ⌜ r ≡ letsThrough filtering event ⌝ }
 {
@@ -85,7 +87,8 @@ pub fn advance(block: &mut [u8])
     );
 }
 
-// Whether a frame may be taken: the block has its size, the output room for the longest answer, and a frame number is left.
+// Whether a frame may be taken: the block has its size, the output room for the longest answer, and a frame number is
+// left.
 pub fn ready(block: &[u8], out: &[u8]) -> bool
     ensures { λ r. ⌜ r ≡ isReady (now (block .entry)) (now (out .entry)) ⌝ }
 {
@@ -110,10 +113,11 @@ pub fn put_blank(block: &mut [u8])
     settings::set_settings(block, State::LEAST_OPCODE, &none);
 }
 
-// The fresh state with these settings, in a lent block of the right length; the blank one and refusal 9 where they are out of range. A block of another length
-// is left as it is.
+// The fresh state with these settings, in a lent block of the right length; the blank one and refusal 9 where they
+// are out of range. A block of another length is left as it is.
 pub fn put_fresh(block: &mut [u8], opcode: u16, prefix: &[u8]) -> Start
-    ensures { λ r. ⌜ (r ≡ settingsOf opcode (now (prefix .entry))) × (now (block .exit) ≡ freshIn (now (block .entry)) opcode (now (prefix .entry))) ⌝ }
+    ensures { λ r. ⌜ (r ≡ settingsOf opcode (now (prefix .entry)))
+        × (now (block .exit) ≡ freshIn (now (block .entry)) opcode (now (prefix .entry))) ⌝ }
 {
     if opcode < State::LEAST_OPCODE {
         put_blank(block);
@@ -208,8 +212,8 @@ impl State {
 
     pub const CONDITION_AT: usize = State::CONDITION_LENGTH_AT + 1;
 
-    // Behind the room of the condition, what version 2 adds: options, report filtering, peer address (6), its type, IRK (16). Options 0
-    // say that there is none of it.
+    // Behind the room of the condition, what version 2 adds: options, report filtering, peer address (6), its type,
+    // IRK (16). Options 0 say that there is none of it.
     pub const OPTIONS_AT: usize = State::CONDITION_AT + State::CONDITION;
 
     pub const FILTERING_AT: usize = State::OPTIONS_AT + 1;
@@ -225,8 +229,8 @@ impl State {
     pub const EXTRA: usize = State::IRK_AT + State::IRK - State::OPTIONS_AT;
 
     pub const MONITOR_ROW: usize = State::OPTIONS_AT + State::EXTRA;
-    // A pair's row: its key (handle, and the device: address type and address), ticks since a good packet (2), ticks in the
-    // window, packets (4), sum (8), kept RSSI, event type, n, data.
+    // A pair's row: its key (handle, and the device: address type and address), ticks since a good packet (2), ticks
+    // in the window, packets (4), sum (8), kept RSSI, event type, n, data.
     pub const KIND_AT: usize = 1;
 
     pub const ADDRESS_AT: usize = State::KIND_AT + 1;
@@ -279,7 +283,8 @@ impl State {
 
     // The fresh state with these settings; the blank one and refusal 9 where they are out of range.
     pub fn fresh(opcode: u16, prefix: &[u8]) -> Begun
-        ensures { λ r. ⌜ (r .answer ≡ settingsOf opcode (now (prefix .entry))) × (r .state .block ≡ begin opcode (now (prefix .entry))) ⌝ }
+        ensures { λ r. ⌜ (r .answer ≡ settingsOf opcode (now (prefix .entry)))
+            × (r .state .block ≡ begin opcode (now (prefix .entry))) ⌝ }
     {
         let mut block = [0u8; State::SIZE];
         let answer = put_fresh(&mut block, opcode, prefix);

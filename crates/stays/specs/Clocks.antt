@@ -1,13 +1,10 @@
 -- A time of day as a word: hh:mm:ss. Definitions, and the laws of reading it. Assumes nothing.
-use Prim.Native.Nat.{ℕ, _+_, _-_, _*_, _≤_, _<_}
-use mathlib.Core.Path.{_≡_, refl, sym, ap, _∙_}
-use mathlib.Core.Bool.{Bool, true, false, _&&_}
+use Prim.Native.Nat.{ℕ, _+_, _-_, _*_}
+use mathlib.Core.Bool.{Bool, _&&_}
 use mathlib.Core.List.{List}
-use native.Mathlib.Omega.{arith}
-use borrow.Author.Tests.{leb-true}
 use lib.Dec.{leb, ltb, eqb}
 use lib.ListN.{length}
-use Rattle.laws.specs.Tests.{pick, pick-true, pick-false, and-left, and-right}
+use Rattle.laws.specs.Tests.{pick}
 use Rattle.octets.specs.Numbers.{numberAt}
 
 -- characters: the last digit, and the one behind it
@@ -23,50 +20,15 @@ isDigit c = leb 48 c && leb c nine
 
 unfoldable pub twoAt : List ℕ → ℕ → ℕ
 twoAt w i =
-    pick (isDigit (numberAt 1 w i) && isDigit (numberAt 1 w (i + 1))) (10 * (numberAt 1 w i - 48) + (numberAt 1 w (i + 1) - 48)) 100
+    pick (isDigit (numberAt 1 w i) && isDigit (numberAt 1 w (i + 1)))
+    (10 * (numberAt 1 w i - 48) + (numberAt 1 w (i + 1) - 48)) 100
 
 -- eight characters, colons at their places, a time of day
 unfoldable pub isTime : List ℕ → Bool
 isTime w =
-    (eqb (length w) 8 && eqb (numberAt 1 w 2) colon && eqb (numberAt 1 w 5) colon) && (ltb (twoAt w 0) 24 && ltb (twoAt w 3) 60 && ltb (twoAt w 6) 60)
+    (eqb (length w) 8 && eqb (numberAt 1 w 2) colon && eqb (numberAt 1 w 5) colon)
+    && (ltb (twoAt w 0) 24 && ltb (twoAt w 3) 60 && ltb (twoAt w 6) 60)
 
 -- its ticks since midnight
 unfoldable pub timeIn : List ℕ → ℕ
 timeIn w = (twoAt w 0 * 3600 + twoAt w 3 * 60 + twoAt w 6) * 10
-
--- digits are at least 48 and at most nine
-pub digits-in : (a b : ℕ) {p q : Bool} → p ≡ (leb 48 a && leb a nine) → q ≡ (leb 48 b && leb b nine) → (p && q) ≡ true
-    → (48 ≤ a) × (a ≤ nine) × (48 ≤ b) × (b ≤ nine)
-digits-in a b {p} {q} e f t =
-    let x : (leb 48 a && leb a nine) ≡ true = sym e ∙ and-left p q t in
-    let y : (leb 48 b && leb b nine) ≡ true = sym f ∙ and-right p q t in (
-      leb-true 48 a (and-left (leb 48 a) (leb a nine) x),
-      leb-true a nine (and-right (leb 48 a) (leb a nine) x),
-      leb-true 48 b (and-left (leb 48 b) (leb b nine) y),
-      leb-true b nine (and-right (leb 48 b) (leb b nine) y),
-    )
-
-module _ (w : List ℕ) (i a b : ℕ) {p q : Bool} (ea : a ≡ numberAt 1 w i) (eb : b ≡ numberAt 1 w (i + 1)) (e : p ≡ (leb 48 a && leb a nine)) (f : q ≡ (leb 48 b && leb b nine)) where
-  test : (p && q) ≡ (isDigit (numberAt 1 w i) && isDigit (numberAt 1 w (i + 1)))
-  unfolding isDigit
-  test =
-      ap (λ (x : Bool). x && q) (e ∙ ap (λ (x : ℕ). leb 48 x && leb x nine) ea)
-      ∙ ap (λ (x : Bool). (leb 48 (numberAt 1 w i) && leb (numberAt 1 w i) nine) && x) (f ∙ ap (λ (x : ℕ). leb 48 x && leb x nine) eb)
-
-  pub two-some : (p && q) ≡ true → (10 * (a - 48) + (b - 48) ≡ twoAt w i) × (10 * (a - 48) + (b - 48) ≤ 100)
-  unfolding twoAt
-  two-some t =
-      let d = digits-in a b e f t in (
-        ap (λ (x : ℕ). 10 * (x - 48) + (b - 48)) ea ∙ ap (λ (x : ℕ). 10 * (numberAt 1 w i - 48) + (x - 48)) eb
-            ∙ sym (pick-true (10 * (numberAt 1 w i - 48) + (numberAt 1 w (i + 1) - 48)) 100 (sym test ∙ t)),
-        omega (arith, d),
-      )
-
-  pub two-none : (p && q) ≡ false → (100 ≡ twoAt w i) × (100 ≤ 100)
-  unfolding twoAt
-  two-none t = (sym (pick-false (10 * (numberAt 1 w i - 48) + (numberAt 1 w (i + 1) - 48)) 100 (sym test ∙ t)), omega arith)
-
-pub clock-so : (w : List ℕ) {h m s x y : ℕ} → h ≡ twoAt w 0 → m ≡ twoAt w 3 → s ≡ twoAt w 6 → x ≡ numberAt 1 w 2 → y ≡ numberAt 1 w 5
-    → (((eqb (length w) 8 && eqb x colon && eqb y colon) && (ltb h 24 && ltb m 60 && ltb s 60)) ≡ isTime w) × ((h * 3600 + m * 60 + s) * 10 ≡ timeIn w)
-unfolding isTime timeIn
-clock-so w a b c d e = (rw (a, b, c, d, e), rw (a, b, c))

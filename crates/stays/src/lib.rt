@@ -1,4 +1,5 @@
-// The service record's rows in text (man/visits.1): a visit as a row of a table for people, of comma-separated values, or as a JSON object.
+// The service record's rows in text (man/visits.1): a visit as a row of a table for people, of comma-separated
+// values, or as a JSON object.
 ghost use Prim.Native.Nat.{_+_, _/_, _%_, _≤_, _<_};
 ghost use mathlib.Core.Path.{_≡_};
 ghost use mathlib.Core.List.{_++_, []};
@@ -211,7 +212,8 @@ fn long(t: Text) -> usize
 
 // A value behind its lead, and the blanks behind it.
 fn put(t: Text, style: u8, csv: &[u8], json: &[u8], value: Text, width: usize) -> Text
-    ensures { λ r. ⌜ told r ≡ take room (told t ++ putText style (now (csv .entry)) (now (json .entry)) width (told value)) ⌝ }
+    ensures { λ r. ⌜ told r
+        ≡ take room (told t ++ putText style (now (csv .entry)) (now (json .entry)) width (told value)) ⌝ }
 {
     let a = lead(t, style, csv, json);
     let b = append(a, value);

@@ -1,22 +1,25 @@
--- One step of the model: it keeps a sound state sound, moves the position by one, and writes at most 2,880 octets; that a window's sum
--- and mean are those of its RSSI values; what the contracts of commands, packets and ticks say of a step.
-pub mod Lists
-pub mod Facts
-pub mod Whole
+-- One step of the model: it keeps a sound state sound, moves the position by one, and writes at most 2,880 octets;
+-- that a window's sum and mean are those of its RSSI values; what the contracts of commands, packets and ticks say of
+-- a step.
+pub mod ListsLaws
+pub mod FactsLaws
+pub mod WholeLaws
 pub mod Typed
-pub mod Sums
-pub mod Moves
-pub mod Stays
-pub mod Drops
+pub mod TypedLaws
+pub mod SumsLaws
+pub mod MovesLaws
+pub mod StaysLaws
+pub mod DropsLaws
 pub mod Turns
-pub mod Orders
-pub mod Executed
-pub mod Keeps
-pub mod Counts
-pub mod Starts
-pub mod Sizes
-pub mod Named
-pub mod Answers
-pub mod Given
-pub mod Mean
+pub mod OrdersLaws
+pub mod ExecutedLaws
+pub mod KeepsLaws
+pub mod CountsLaws
+pub mod StartsLaws
+pub mod SizesLaws
+pub mod NamedTurns
+pub mod AnswersLaws
+pub mod GivenLaws
+pub mod MeanLaws
 pub mod Stepped
+pub mod SteppedLaws

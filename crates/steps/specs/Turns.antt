@@ -8,24 +8,26 @@ use mathlib.Core.Option.{Option, none, some}
 use mathlib.Core.List.{List, [], _∷_, _++_, map}
 use lib.ListN.{length, length-append}
 use borrow.Author.Tests.{not-true}
-use Rattle.laws.specs.Tests.{and-left, and-right}
-use Rattle.rule.specs.Base.{In, From, each, all-in, in-all, all-append, each-in, each-length}
-use Rattle.rule.specs.Base.{each-distinct, distinct-snoc, map-append, some-inj}
+use Rattle.laws.specs.TestsLaws.{and-left, and-right}
+use Rattle.rule.specs.Base.{In, each}
+use Rattle.rule.specs.BaseLaws.{From, all-in, in-all, all-append, each-in, each-length}
+use Rattle.rule.specs.BaseLaws.{each-distinct, distinct-snoc, map-append, some-inj}
 use Rattle.rule.specs.Engine.{find}
-use Rattle.rule.specs.Finds.{find-all}
+use Rattle.rule.specs.FindsLaws.{find-all}
 use Rattle.model.specs.Types.{Model, Monitor, Packet, Pair, deviceOf, watched}
-use Rattle.model.specs.Accepted.{accepts-run}
+use Rattle.model.specs.AcceptedLaws.{accepts-run}
 use Rattle.model.specs.Monitors.{runOf, matches, strong}
 use Rattle.model.specs.Watch.{atPacket, packetMove, atTick, holds, fits, staysFor, begins, startLike, startPair, turn, turns, packetPairs}
 use Rattle.model.specs.Watch.{tickPairs}
-use Rattle.steps.specs.Lists.{map-each, all-weaken}
-use Rattle.steps.specs.Facts.{stored-of}
-use Rattle.steps.specs.Whole.{Row, key, in-holds, Kept, Held, Pairs, Monitors}
-use Rattle.steps.specs.Typed.{pick-both, Sent}
-use Rattle.steps.specs.Starts.{turn-none, turn-pick}
-use Rattle.steps.specs.Drops.{stays-fewer, stays-all, stays-once, stays-in}
-use Rattle.steps.specs.Moves.{packet-key, Ticked, ticked, tick-key}
-use Rattle.steps.specs.Stays.{kept-later, kept-packet, kept-tick, kept-start}
+use Rattle.steps.specs.ListsLaws.{map-each, all-weaken}
+use Rattle.steps.specs.FactsLaws.{stored-of}
+use Rattle.steps.specs.WholeLaws.{Row, key, in-holds, Kept, Held, Pairs, Monitors}
+use Rattle.steps.specs.Typed.{Sent}
+use Rattle.steps.specs.TypedLaws.{pick-both}
+use Rattle.steps.specs.StartsLaws.{turn-none, turn-pick}
+use Rattle.steps.specs.DropsLaws.{stays-fewer, stays-all, stays-once, stays-in}
+use Rattle.steps.specs.MovesLaws.{packet-key, Ticked, ticked, tick-key}
+use Rattle.steps.specs.StaysLaws.{kept-later, kept-packet, kept-tick, kept-start}
 use Rattle.model.specs.Layout.{mostMonitors}
 
 -- the run of a monitor that is held has ticks
@@ -123,17 +125,20 @@ turn-pairs k mons p h qs s t w = go (find mons h) refl
         let new : Held k mons (startPair n h p) =
         record { mon = n; live = e; kept = kept-start n k h p (live-run mons h n s e) t } in
         record {
-          room = rw (length-append l (startPair n h p ∷ [])) (omega (arith, stays-fewer (p .rssi) qs (w .room) (b .fit)));
+          room = rw (length-append l (startPair n h p ∷ []))
+              (omega (arith, stays-fewer (p .rssi) qs (w .room) (b .fit)));
           once = rw (map-append key l (startPair n h p ∷ []))
               (distinct-snoc (map key l) (key (startPair n h p)) (stays-once (p .rssi) qs (w .once))
               (λ i. b .new (stays-in (p .rssi) qs (key (startPair n h p)) i)));
-          held = all-append (Held k mons) l (startPair n h p ∷ []) (stays-all (Held k mons) (p .rssi) qs (w .held)) (new, tt);
+          held = all-append (Held k mons) l (startPair n h p ∷ []) (stays-all (Held k mons) (p .rssi) qs (w .held))
+              (new, tt);
         }
 
     go : (o : Option Monitor) → find mons h ≡ o → Pairs k mons (turn o p h qs)
     go none e = subst (Pairs k mons) (sym (turn-none p h qs)) w
     go (some n) e =
-        subst (Pairs k mons) (sym (turn-pick n p h qs)) (pick-both (Pairs k mons) (begins n p h qs) (l ++ (startPair n h p ∷ [])) qs
+        subst (Pairs k mons) (sym (turn-pick n p h qs))
+        (pick-both (Pairs k mons) (begins n p h qs) (l ++ (startPair n h p ∷ [])) qs
         (λ b. started n e (begins-tells n p h qs b)) (λ b. w))
 
 pub turns-pairs : (k : ℕ) (mons : List (ℕ × Monitor)) (p : Packet) (n : ℕ) (qs : List Pair) → Monitors mons → Sent p

@@ -1,5 +1,5 @@
--- Any number of failovers as firmware sees it: `test-day`, for every begin that returned 0 and every run of calls and failovers that kept their
--- contracts. Document 02, T-14. Assumes nothing.
+-- Any number of failovers as firmware sees it: `test-day`, for every begin that returned 0 and every run of calls and
+-- failovers that kept their contracts. Document 02, T-14. Assumes nothing.
 use Prim.Native.Nat.{ℕ, zero, suc, _+_, _≤_}
 use mathlib.Core.Path.{_≡_, refl, sym, ap, _∙_, subst}
 use mathlib.Core.Logic.{_⊎_, inl, inr}
@@ -10,12 +10,13 @@ use native.Mathlib.Omega.{arith}
 use lib.ListN.{length, take, drop}
 use lib.Seq.{drop-at}
 use Rattle.laws.specs.Tests.{pick}
-use Rattle.rule.specs.Base.{In, in-append}
+use Rattle.rule.specs.Base.{In}
+use Rattle.rule.specs.BaseLaws.{in-append}
 use Rattle.sessions.specs.Machine.{Line}
 use Rattle.sessions.specs.Session.{Entry, image}
-use Rattle.sessions.specs.Runs.{Run}
+use Rattle.sessions.specs.RunsLaws.{Run}
 use Rattle.sessions.specs.Additions.{Act, walkOn, traceOn, addedOn, answersOn}
-use Rattle.sessions.specs.Given.{fronted}
+use Rattle.sessions.specs.GivenLaws.{fronted}
 use Rattle.model.specs.Frames.{Body}
 use Rattle.model.specs.Sound.{soundSettings}
 use Rattle.model.specs.Radio.{radio, core}
@@ -24,10 +25,10 @@ use Rattle.editions.specs.Engine.{gateways}
 use Rattle.wholes.specs.Whole.{whole}
 use Rattle.wholes.specs.Engine.{engine, begin, blockIn}
 use Rattle.bournejade.specs.Gives.{Gave}
-use Rattle.failover.specs.Read.{reads}
+use Rattle.failover.specs.ReadLaws.{reads}
 use Rattle.failover.specs.Grows.{growing}
 use Rattle.failover.specs.Proved.{laws, fresh-gateway}
-use Rattle.failover.specs.Blocks.{begin-blocks}
+use Rattle.failover.specs.BlocksLaws.{begin-blocks}
 use Rattle.chains.specs.Chain.{Image}
 use Rattle.chains.specs.Told.{Told, Tells}
 use Rattle.chains.specs.Hear as hear
@@ -35,9 +36,9 @@ use Rattle.chains.specs.Failovers.{known, toldIn}
 use Rattle.chains.specs.Proof.{session-tells}
 use Rattle.delivery.specs.Firmware.{Step, gave, saved, added, blockAfter, Kept, Seen, Heard, heard, heardIn, accepted, acceptedIn, keptFrom, answersOf, Move, Moves, givenIn, TakenOver}
 use Rattle.delivery.specs.Added.{growingBlocks, onRecords, trace-on-blocks, added-on-blocks}
-use Rattle.delivery.specs.Timely.{editionsOf}
-use Rattle.delivery.specs.Seen.{actOf, heardOf, seen-heard, seen-added}
-use Rattle.delivery.specs.Linked.{taken-over}
+use Rattle.delivery.specs.TimelyLaws.{editionsOf}
+use Rattle.delivery.specs.SeenLaws.{actOf, heardOf, seen-heard, seen-added}
+use Rattle.delivery.specs.LinkedLaws.{taken-over}
 use Rattle.testdays.specs.Days.{Deed, calls, failover, Now, begun, savedBy, called, tookOver, ends, stepsOf, FailsOver, Saw, Gives, AllGive, toldOne, toldOf, TestDay}
 
 -- calls one after another, in two parts
@@ -51,13 +52,15 @@ seen-one s x k = (k, refl)
 heard-more : (xs ys : List Step) → heardIn (xs ++ ys) ≡ heardIn xs ++ heardIn ys
 unfolding heardIn
 heard-more [] ys = refl
-heard-more (x ∷ xs) ys = ap (λ (l : List Heard). heard x ++ l) (heard-more xs ys) ∙ sym (append-assoc (heard x) (heardIn xs) (heardIn ys))
+heard-more (x ∷ xs) ys =
+    ap (λ (l : List Heard). heard x ++ l) (heard-more xs ys) ∙ sym (append-assoc (heard x) (heardIn xs) (heardIn ys))
 
 accepted-more : (xs ys : List Step) → acceptedIn (xs ++ ys) ≡ acceptedIn xs ++ acceptedIn ys
 unfolding acceptedIn
 accepted-more [] ys = refl
 accepted-more (x ∷ xs) ys =
-    ap (λ (l : List Edition). accepted x ++ l) (accepted-more xs ys) ∙ sym (append-assoc (accepted x) (acceptedIn xs) (acceptedIn ys))
+    ap (λ (l : List Edition). accepted x ++ l) (accepted-more xs ys)
+    ∙ sym (append-assoc (accepted x) (acceptedIn xs) (acceptedIn ys))
 
 heard-one : (x : Step) → heardIn (x ∷ []) ≡ heard x
 unfolding heardIn
@@ -67,9 +70,11 @@ accepted-one : (x : Step) → acceptedIn (x ∷ []) ≡ accepted x
 unfolding acceptedIn
 accepted-one x = append-nil (accepted x)
 
-module _ (opcode : ℕ) (prefix fresh : List ℕ) (number : ℕ) (e : number ≡ pick (soundSettings opcode prefix) 0 9) (f : fresh ≡ begin opcode prefix)
+module _ (opcode : ℕ) (prefix fresh : List ℕ) (number : ℕ) (e : number ≡ pick (soundSettings opcode prefix) 0 9)
+    (f : fresh ≡ begin opcode prefix)
     (z : number ≡ 0) where
-  -- an image that firmware kept is one of the session: what came before its save, and what after, up to the block on duty
+  -- an image that firmware kept is one of the session: what came before its save, and what after, up to the block on
+  -- duty
   record Of (ss : List Step) (block : List ℕ) (x : Image) : Type 0 where
     before : List Step
     later : List Step
@@ -93,18 +98,23 @@ module _ (opcode : ℕ) (prefix fresh : List ℕ) (number : ℕ) (e : number ≡
 
     editions : acceptedIn ss ≡ acceptedIn (o .before) ++ acceptedIn (o .later)
     unfolding acceptedIn accepted
-    editions = ap acceptedIn (o .split) ∙ accepted-more (o .before) (saved (o .out) (o .left) (o .count) zero ∷ o .later)
+    editions = ap acceptedIn (o .split)
+        ∙ accepted-more (o .before) (saved (o .out) (o .left) (o .count) zero ∷ o .later)
 
     later-heard : drop (x .after) (heardIn ss) ≡ heardIn (o .later)
     later-heard = rw (parts) (drop-at (heardIn (o .before)) (heardIn (o .later)) (x .after) (sym (o .after)))
 
     later-accepted : drop (x .added) (acceptedIn ss) ≡ acceptedIn (o .later)
-    later-accepted = rw (editions) (drop-at (acceptedIn (o .before)) (acceptedIn (o .later)) (x .added) (sym (o .added)))
+    later-accepted =
+        rw (editions) (drop-at (acceptedIn (o .before)) (acceptedIn (o .later)) (x .added) (sym (o .added)))
 
-    over : TakenOver (heardIn (o .before)) (heardIn (o .later)) (acceptedIn (o .later)) (o .at) block (take (o .count) (o .left))
-    over = taken-over opcode prefix fresh number e f z (o .before) (o .later) (o .out) (o .left) (o .at) block (o .count) (o .seen) (o .gives) (o .then)
+    over : TakenOver (heardIn (o .before)) (heardIn (o .later)) (acceptedIn (o .later)) (o .at) block
+        (take (o .count) (o .left))
+    over = taken-over opcode prefix fresh number e f z (o .before) (o .later) (o .out) (o .left) (o .at) block
+        (o .count) (o .seen) (o .gives) (o .then)
 
-  of-more : (ss : List Step) (block : List ℕ) (x : Image) (y : Step) → Kept block y → Of ss block x → Of (ss ++ (y ∷ [])) (blockAfter block y) x
+  of-more : (ss : List Step) (block : List ℕ) (x : Image) (y : Step) → Kept block y → Of ss block x
+      → Of (ss ++ (y ∷ [])) (blockAfter block y) x
   of-more ss block x y k o =
       record {
         before = o .before;
@@ -113,7 +123,8 @@ module _ (opcode : ℕ) (prefix fresh : List ℕ) (number : ℕ) (e : number ≡
         out = o .out;
         left = o .left;
         count = o .count;
-        split = ap (λ (l : List Step). l ++ (y ∷ [])) (o .split) ∙ append-assoc (o .before) (saved (o .out) (o .left) (o .count) zero ∷ o .later) (y ∷ []);
+        split = ap (λ (l : List Step). l ++ (y ∷ [])) (o .split)
+            ∙ append-assoc (o .before) (saved (o .out) (o .left) (o .count) zero ∷ o .later) (y ∷ []);
         seen = o .seen;
         gives = o .gives;
         then = seen-more (o .at) block (blockAfter block y) (o .later) (y ∷ []) (o .then) (seen-one block y k);
@@ -134,7 +145,8 @@ module _ (opcode : ℕ) (prefix fresh : List ℕ) (number : ℕ) (e : number ≡
   begun-stands = record { seen = refl; kept = refl; editions = refl; images = λ x i. absurd i }
 
   -- a save
-  saved-image : (ss : List Step) (n : Now) (y : Step) → Stands ss n → Kept (n .block) y → (x : Image) → In x (savedBy n y)
+  saved-image : (ss : List Step) (n : Now) (y : Step) → Stands ss n → Kept (n .block) y → (x : Image)
+      → In x (savedBy n y)
       → Of (ss ++ (y ∷ [])) (blockAfter (n .block) y) x
   unfolding savedBy blockAfter
   saved-image ss n (gave w raw out t left k r) v c x i = absurd i
@@ -159,12 +171,14 @@ module _ (opcode : ℕ) (prefix fresh : List ℕ) (number : ℕ) (e : number ≡
       }
 
   -- a call
-  called-stands : (ss : List Step) (n : Now) (y : Step) → Stands ss n → Kept (n .block) y → Stands (ss ++ (y ∷ [])) (called n y)
+  called-stands : (ss : List Step) (n : Now) (y : Step) → Stands ss n → Kept (n .block) y
+      → Stands (ss ++ (y ∷ [])) (called n y)
   unfolding called
   called-stands ss n y v k =
       record {
         seen = seen-more fresh (n .block) (blockAfter (n .block) y) ss (y ∷ []) (v .seen) (seen-one (n .block) y k);
-        kept = ap (λ (l : List Heard). l ++ heard y) (v .kept) ∙ sym (heard-more ss (y ∷ []) ∙ ap (λ (l : List Heard). heardIn ss ++ l) (heard-one y));
+        kept = ap (λ (l : List Heard). l ++ heard y) (v .kept)
+            ∙ sym (heard-more ss (y ∷ []) ∙ ap (λ (l : List Heard). heardIn ss ++ l) (heard-one y));
         editions = ap (λ (l : List Edition). l ++ accepted y) (v .editions)
             ∙ sym (accepted-more ss (y ∷ []) ∙ ap (λ (l : List Edition). acceptedIn ss ++ l) (accepted-one y));
         images = λ x i. go x (in-append x (n .images) (savedBy n y) i);
@@ -175,7 +189,8 @@ module _ (opcode : ℕ) (prefix fresh : List ℕ) (number : ℕ) (e : number ≡
       go x (inr i) = saved-image ss n y v k x i
 
   -- a failover: what it gives
-  gives : (ss : List Step) (n : Now) (x : Image) (j : ℕ) (c : List ℕ) (r : ℕ) (xs : List Move) (b rest : List ℕ) → Stands ss n
+  gives : (ss : List Step) (n : Now) (x : Image) (j : ℕ) (c : List ℕ) (r : ℕ) (xs : List Move) (b rest : List ℕ)
+      → Stands ss n
       → FailsOver n x j c r xs b rest → Gives n x r xs b
   gives ss n x j c r xs b rest v g =
       let o : Of ss (n .block) x = v .images x (g .saved) in
@@ -188,8 +203,10 @@ module _ (opcode : ℕ) (prefix fresh : List ℕ) (number : ℕ) (e : number ≡
       subst (λ (s : List ℕ). Moves s (keptFrom j (heardIn (o .before) ++ heardIn (o .later))) xs b rest) (w .1)
       (subst (λ (l : List Heard). Moves c (keptFrom j l) xs b rest) (v .kept ∙ parts ss (n .block) x o) (g .moves)) in
       let more : acceptedIn (o .later) ≡ givenIn xs ++ [] =
-      sym (append-nil (givenIn xs) ∙ g .again ∙ ap (drop (x .added)) (v .editions) ∙ later-accepted ss (n .block) x o) in
-      let y = t .in-turns j (g .least) (subst (λ (k : ℕ). j ≤ k + 1) (o .after) (g .most)) xs b rest [] p (record { order = more; not-late = tt }) in
+      sym (append-nil (givenIn xs) ∙ g .again ∙ ap (drop (x .added)) (v .editions)
+      ∙ later-accepted ss (n .block) x o) in
+      let y = t .in-turns j (g .least) (subst (λ (k : ℕ). j ≤ k + 1) (o .after) (g .most)) xs b rest [] p
+      (record { order = more; not-late = tt }) in
       let q = y .1 (g .all) refl in
       record {
         number = w .0;
@@ -209,7 +226,8 @@ module _ (opcode : ℕ) (prefix fresh : List ℕ) (number : ℕ) (e : number ≡
       }
 
   -- all deeds
-  all-stand : (ss : List Step) (n : Now) (ds : List Deed) → Stands ss n → Saw n ds → Stands (ss ++ stepsOf ds) (ends n ds) × AllGive n ds
+  all-stand : (ss : List Step) (n : Now) (ds : List Deed) → Stands ss n → Saw n ds
+      → Stands (ss ++ stepsOf ds) (ends n ds) × AllGive n ds
   unfolding stepsOf ends
   all-stand ss n [] v s = (subst (λ (l : List Step). Stands l n) (sym (append-nil ss)) v, tt)
   all-stand ss n (calls y ∷ ds) v s =
@@ -227,8 +245,10 @@ module _ (opcode : ℕ) (prefix fresh : List ℕ) (number : ℕ) (e : number ≡
   told-kept ks s u [] told r = refl
   told-kept ks s u (y ∷ es) told r =
       let x = r .1 in
-      ap (λ (o : Option (Line Body)). toldOf ks (map heardOf es) (toldOne ks o (y .wrote) told)) (reads (x .form) (x .raw) (y .line) (x .given))
-      ∙ told-kept ks (r .0) u es ((core (y .line .body), hear.heard (prefixFor (y .line .num) ks) (y .wrote)) ∷ told) (r .2)
+      ap (λ (o : Option (Line Body)). toldOf ks (map heardOf es) (toldOne ks o (y .wrote) told))
+      (reads (x .form) (x .raw) (y .line) (x .given))
+      ∙ told-kept ks (r .0) u es ((core (y .line .body), hear.heard (prefixFor (y .line .num) ks) (y .wrote)) ∷ told)
+      (r .2)
 
   in-range : (b : Bool) → pick {A = ℕ} b 0 9 ≡ 0 → b ≡ true
   unfolding pick
@@ -254,7 +274,8 @@ module _ (opcode : ℕ) (prefix fresh : List ℕ) (number : ℕ) (e : number ≡
       let r = fronted gateways laws growing m cs in
       let ks : List Edition = record { from = 0; prefix = prefix } ∷ editionsOf (addedOn gateways growing m cs) in
       let k : toldOf ks (map heardOf (traceOn gateways growing m cs)) []
-      ≡ toldIn ks (map (λ y. y .line) (traceOn gateways growing m cs)) (map (λ y. y .wrote) (traceOn gateways growing m cs)) [] =
+      ≡ toldIn ks (map (λ y. y .line) (traceOn gateways growing m cs))
+      (map (λ y. y .wrote) (traceOn gateways growing m cs)) [] =
       told-kept ks (r .begins) (walkOn gateways growing m cs) (traceOn gateways growing m cs) [] (r .run) in
       rw (a, t, k) (session-tells opcode prefix cs)
 
@@ -266,5 +287,6 @@ module _ (opcode : ℕ) (prefix fresh : List ℕ) (number : ℕ) (e : number ≡
         unbroken = v .0 .seen;
         kept = v .0 .kept;
         gives = v .1;
-        events = rw (v .0 .kept, v .0 .editions) (session-kept (stepsOf ds) (ends (begun fresh) ds .block) (v .0 .seen));
+        events = rw (v .0 .kept, v .0 .editions)
+            (session-kept (stepsOf ds) (ends (begun fresh) ds .block) (v .0 .seen));
       }

@@ -1,4 +1,5 @@
-// Texts put together: words and numbers (`words`), addresses, types, times, levels. Each is put behind a text, as far as there is room.
+// Texts put together: words and numbers (`words`), addresses, types, times, levels. Each is put behind a text, as far
+// as there is room.
 ghost use Prim.Native.Nat.{_+_, _*_, _/_, _%_, _≤_, _<_};
 ghost use mathlib.Core.Path.{_≡_};
 ghost use mathlib.Core.List.{_++_};
@@ -61,7 +62,8 @@ fn colon_pair(t: Text, v: u64) -> Text
     pair(words::with(t, b":"), octet(v))
 }
 
-// The address of a device as people write it, the most significant octet first. A device is a number: its type and 256 times its address.
+// The address of a device as people write it, the most significant octet first. A device is a number: its type and
+// 256 times its address.
 pub fn address(t: Text, device: u64) -> Text
     ensures { λ r. ⌜ told r ≡ take room (told t ++ addressText device) ⌝ }
 {

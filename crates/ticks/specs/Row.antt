@@ -53,8 +53,9 @@ reportRow r =
     reportOctets (getD r eventAt 0) (take 7 (drop 1 r)) (take (getD r lengthAt 0) (drop dataAt r))
     (mean (little 8 r sumAt) (little 4 r packetsAt))
 
--- "if the filter is on and the window had matching packets", of a pair that stays, and the report filtering of its monitor lets the
--- latest packet through: it stands by handle, 0 where the filter is off; a row with more data than 31 octets says nothing
+-- "if the filter is on and the window had matching packets", of a pair that stays, and the report filtering of its
+-- monitor lets the latest packet through: it stands by handle, 0 where the filter is off; a row with more data than
+-- 31 octets says nothing
 unfoldable pub saysRow : Bool → ℕ → List ℕ → List ℕ → Bool
 saysRow on period filters r =
     on && (closesAt period (getD r ticksAt 0) && (leb 1 (little 4 r packetsAt)

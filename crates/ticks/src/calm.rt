@@ -1,5 +1,5 @@
-// Rows of which a tick tells nothing (document 01, Watching, by history): the watch goes on and no window closes. Most rows at most ticks are such ones,
-// and where every row before stayed they stand at their places already.
+// Rows of which a tick tells nothing (document 01, Watching, by history): the watch goes on and no window closes.
+// Most rows at most ticks are such ones, and where every row before stayed they stand at their places already.
 use state::Seconds;
 use state::State;
 use state::Ticks;
@@ -14,7 +14,8 @@ ghost use Rattle.model.specs.Layout.{mostMonitors, mostPairs, pairSize, pairsSi
 
 // A row one tick further whose window does not close.
 fn count_up(r: &mut [u8], period: u8)
-    requires { ⌜ (length (now r) ≡ pairSize) × (little 2 (now r) silentAt < 65535) × (closesAt period (getD (now r) ticksAt 0) ≡ false) ⌝ }
+    requires { ⌜ (length (now r) ≡ pairSize) × (little 2 (now r) silentAt < 65535)
+        × (closesAt period (getD (now r) ticksAt 0) ≡ false) ⌝ }
     ensures { λ _. ⌜ now (r .exit) ≡ tickedRow period (now (r .entry)) ⌝ }
 {
     let silent = octets::get16(r, State::SILENT_AT);
@@ -26,10 +27,13 @@ fn count_up(r: &mut [u8], period: u8)
     r[State::TICKS_AT] = ticks + 1;
 }
 
-// A row one tick further, where its watch goes on and no window closes. Answers whether it is such a row; any other is left as it is.
+// A row one tick further, where its watch goes on and no window closes. Answers whether it is such a row; any other
+// is left as it is.
 fn calm_row(r: &mut [u8], intervals: &[u8], periods: &[u8]) -> bool
-    requires { ⌜ (length (now r) ≡ pairSize) × (length (now intervals) ≡ mostMonitors) × (length (now periods) ≡ mostMonitors) ⌝ }
-    ensures { λ b. ⌜ (b ≡ false → now (r .exit) ≡ now (r .entry)) × (b ≡ true → CalmRow (now (intervals .entry)) (now (periods .entry)) (now (r .entry)) (now (r .exit))) ⌝ }
+    requires { ⌜ (length (now r) ≡ pairSize) × (length (now intervals) ≡ mostMonitors)
+        × (length (now periods) ≡ mostMonitors) ⌝ }
+    ensures { λ b. ⌜ (b ≡ false → now (r .exit) ≡ now (r .entry))
+        × (b ≡ true → CalmRow (now (intervals .entry)) (now (periods .entry)) (now (r .entry)) (now (r .exit))) ⌝ }
 {
     let handle = octets::wide(r[0]);
     if State::MONITORS <= handle {
@@ -56,8 +60,10 @@ pub(super) fn calm_rows(
     intervals: &[u8],
     periods: &[u8],
 ) -> usize
-    requires { ⌜ (from ≤ n) × (n ≤ mostPairs) × (length (now t) ≡ pairsSize) × (length (now intervals) ≡ mostMonitors) × (length (now periods) ≡ mostMonitors) ⌝ }
-    ensures { λ r. ⌜ (from ≤ r) × (r ≤ n) × CalmOn (now (intervals .entry)) (now (periods .entry)) (now (t .entry)) (now (t .exit)) from from r ⌝ }
+    requires { ⌜ (from ≤ n) × (n ≤ mostPairs) × (length (now t) ≡ pairsSize) × (length (now intervals) ≡ mostMonitors)
+        × (length (now periods) ≡ mostMonitors) ⌝ }
+    ensures { λ r. ⌜ (from ≤ r) × (r ≤ n)
+        × CalmOn (now (intervals .entry)) (now (periods .entry)) (now (t .entry)) (now (t .exit)) from from r ⌝ }
 {
     let mut i = from;
     while i < n {
@@ -80,8 +86,10 @@ pub(super) fn calm_behind(
     intervals: &[u8],
     periods: &[u8],
 ) -> usize
-    requires { ⌜ (from ≤ n) × (n ≤ mostPairs) × (length (now t) ≡ pairsSize) × (length (now intervals) ≡ mostMonitors) × (length (now periods) ≡ mostMonitors) ⌝ }
-    ensures { λ r. ⌜ (from ≤ r) × (r ≤ n) × CalmOn (now (intervals .entry)) (now (periods .entry)) (now (t .entry)) (now (t .exit)) from kept r ⌝ }
+    requires { ⌜ (from ≤ n) × (n ≤ mostPairs) × (length (now t) ≡ pairsSize) × (length (now intervals) ≡ mostMonitors)
+        × (length (now periods) ≡ mostMonitors) ⌝ }
+    ensures { λ r. ⌜ (from ≤ r) × (r ≤ n)
+        × CalmOn (now (intervals .entry)) (now (periods .entry)) (now (t .entry)) (now (t .exit)) from kept r ⌝ }
 {
     if kept != from {
         return from;

@@ -1,7 +1,8 @@
-// A tick (document 01, Watching, by history): one pass over the pairs held, in place. For each pair in start order: the ticks since a
-// good packet, the end of a watch with its stop event, the closing of a window with its report. Pairs that stay move down over those
-// that end, and the rows behind them are cleared.
+// A tick (document 01, Watching, by history): one pass over the pairs held, in place. For each pair in start order:
+// the ticks since a good packet, the end of a watch with its stop event, the closing of a window with its report.
+// Pairs that stay move down over those that end, and the rows behind them are cleared.
 mod calm;
+mod columns;
 mod tells;
 
 use state::Seconds;
@@ -11,7 +12,7 @@ ghost use Prim.Native.Nat.{ℕ, _+_, _*_, _≤_, _<_};
 ghost use mathlib.Core.List.{List};
 ghost use mathlib.Core.Path.{_≡_};
 ghost use mathlib.Core.Bool.{true, not};
-ghost use lib.ListN.{length, take};
+ghost use lib.ListN.{length};
 ghost use lib.Dec.{ltb};
 ghost use Rattle.laws.specs.Put.{put};
 ghost use Rattle.laws.specs.Rows.{row};
@@ -19,10 +20,10 @@ ghost use Rattle.octets.specs.Little.{little};
 ghost use Rattle.model.specs.Frames.{tick as aTick};
 ghost use Rattle.steps.specs.Stepped.{Steps, Within, Taken};
 ghost use Rattle.ticks.specs.Row.{emptiedRow, tickedRow, keptAt, toldAt};
-ghost use Rattle.ticks.specs.Table.{Turned, Passed, Cleared, columnBy, columnOf, filterBy, filterIn};
+ghost use Rattle.ticks.specs.Table.{Turned, Passed, Cleared};
 ghost use Rattle.model.specs.Layout.{reportMost};
 ghost use Rattle.sessions.specs.Machine.{answerRoom};
-ghost use Rattle.model.specs.Layout.{blockSize, headSize, monitorSize, mostMonitors, mostPairs, mostPrefix, pairSize, pairsSize, silentAt};
+ghost use Rattle.model.specs.Layout.{blockSize, mostMonitors, mostPairs, mostPrefix, pairSize, pairsSize, silentAt};
 
 // Whether a watch goes on: a tick more since a good packet is not yet the whole run.
 fn stays(silent: Ticks, run: Ticks) -> bool
@@ -76,8 +77,10 @@ fn move_row(t: &mut [u8], to: usize, from: usize)
 
 // A row that stays, one tick further, at its new place.
 fn keep_row(t: &mut [u8], to: usize, from: usize, period: u8)
-    requires { ⌜ (to ≤ from) × (from < mostPairs) × (length (now t) ≡ pairsSize) × (little 2 (row pairSize from (now t)) silentAt < 65535) ⌝ }
-    ensures { λ _. ⌜ now (t .exit) ≡ put (now (t .entry)) (pairSize * to) (tickedRow period (row pairSize from (now (t .entry)))) ⌝ }
+    requires { ⌜ (to ≤ from) × (from < mostPairs) × (length (now t) ≡ pairsSize)
+        × (little 2 (row pairSize from (now t)) silentAt < 65535) ⌝ }
+    ensures { λ _. ⌜ now (t .exit)
+        ≡ put (now (t .entry)) (pairSize * to) (tickedRow period (row pairSize from (now (t .entry)))) ⌝ }
 {
     move_row(t, to, from);
     let start = State::PAIR_ROW * to;
@@ -103,8 +106,12 @@ fn tick_row(
     filters: &[u8],
     prefix: &[u8],
 ) -> Turn
-    requires { ⌜ (i < mostPairs) × (kept ≤ i) × (length (now t) ≡ pairsSize) × (at + reportMost ≤ length (now out)) × (length (now prefix) ≤ mostPrefix) ⌝ }
-    ensures { λ r. ⌜ Turned (now (t .entry)) (now (t .exit)) (now (out .entry)) (now (out .exit)) kept at (r .kept) (r .wrote) (keptAt (now (intervals .entry)) (now (periods .entry)) (now (t .entry)) i) (toldAt (now (intervals .entry)) (now (periods .entry)) (now (filters .entry)) (now (prefix .entry)) (now (t .entry)) i) ⌝ }
+    requires { ⌜ (i < mostPairs) × (kept ≤ i) × (length (now t) ≡ pairsSize) × (at + reportMost ≤ length (now out))
+        × (length (now prefix) ≤ mostPrefix) ⌝ }
+    ensures { λ r. ⌜ Turned (now (t .entry)) (now (t .exit)) (now (out .entry)) (now (out .exit)) kept at (r .kept)
+        (r .wrote) (keptAt (now (intervals .entry)) (now (periods .entry)) (now (t .entry)) i)
+        (toldAt (now (intervals .entry)) (now (periods .entry)) (now (filters .entry)) (now (prefix .entry))
+        (now (t .entry)) i) ⌝ }
 {
     let start = State::PAIR_ROW * i;
     let end = start + State::PAIR_ROW;
@@ -122,8 +129,8 @@ fn tick_row(
     Turn { kept, wrote }
 }
 
-// The turns of the rows from an index on, in order, where every row before stayed at its place and nothing was told. Behind each turn, rows that are
-// calm are passed at once.
+// The turns of the rows from an index on, in order, where every row before stayed at its place and nothing was told.
+// Behind each turn, rows that are calm are passed at once.
 fn tick_rest(
     t: &mut [u8],
     from: usize,
@@ -134,8 +141,17 @@ fn tick_rest(
     filters: &[u8],
     prefix: &[u8],
 ) -> Turn
-    requires { ⌜ (from ≤ n) × (n ≤ mostPairs) × (length (now t) ≡ pairsSize) × (answerRoom ≤ length (now out)) × (length (now prefix) ≤ mostPrefix) × (length (now intervals) ≡ mostMonitors) × (length (now periods) ≡ mostMonitors) ⌝ }
-    ensures { λ r. ⌜ (r .kept ≤ n) × (r .wrote ≤ reportMost * n) × ((t₀ : List ℕ) → Passed t₀ (now (t .entry)) (now (out .entry)) (now (out .entry)) from 0 (keptAt (now (intervals .entry)) (now (periods .entry)) t₀) (toldAt (now (intervals .entry)) (now (periods .entry)) (now (filters .entry)) (now (prefix .entry)) t₀) from → Passed t₀ (now (t .exit)) (now (out .entry)) (now (out .exit)) (r .kept) (r .wrote) (keptAt (now (intervals .entry)) (now (periods .entry)) t₀) (toldAt (now (intervals .entry)) (now (periods .entry)) (now (filters .entry)) (now (prefix .entry)) t₀) n) ⌝ }
+    requires { ⌜ (from ≤ n) × (n ≤ mostPairs) × (length (now t) ≡ pairsSize) × (answerRoom ≤ length (now out))
+        × (length (now prefix) ≤ mostPrefix) × (length (now intervals) ≡ mostMonitors)
+        × (length (now periods) ≡ mostMonitors) ⌝ }
+    ensures { λ r. ⌜ (r .kept ≤ n) × (r .wrote ≤ reportMost * n)
+        × ((t₀ : List ℕ)
+        → Passed t₀ (now (t .entry)) (now (out .entry)) (now (out .entry)) from 0
+        (keptAt (now (intervals .entry)) (now (periods .entry)) t₀)
+        (toldAt (now (intervals .entry)) (now (periods .entry)) (now (filters .entry)) (now (prefix .entry)) t₀) from
+        → Passed t₀ (now (t .exit)) (now (out .entry)) (now (out .exit)) (r .kept) (r .wrote)
+        (keptAt (now (intervals .entry)) (now (periods .entry)) t₀)
+        (toldAt (now (intervals .entry)) (now (periods .entry)) (now (filters .entry)) (now (prefix .entry)) t₀) n) ⌝ }
 {
     let mut i = from;
     let mut kept = from;
@@ -161,8 +177,14 @@ fn tick_rows(
     filters: &[u8],
     prefix: &[u8],
 ) -> Turn
-    requires { ⌜ (n ≤ mostPairs) × (length (now t) ≡ pairsSize) × (answerRoom ≤ length (now out)) × (length (now prefix) ≤ mostPrefix) × (length (now intervals) ≡ mostMonitors) × (length (now periods) ≡ mostMonitors) ⌝ }
-    ensures { λ r. ⌜ (r .kept ≤ n) × (r .wrote ≤ reportMost * n) × Passed (now (t .entry)) (now (t .exit)) (now (out .entry)) (now (out .exit)) (r .kept) (r .wrote) (keptAt (now (intervals .entry)) (now (periods .entry)) (now (t .entry))) (toldAt (now (intervals .entry)) (now (periods .entry)) (now (filters .entry)) (now (prefix .entry)) (now (t .entry))) n ⌝ }
+    requires { ⌜ (n ≤ mostPairs) × (length (now t) ≡ pairsSize) × (answerRoom ≤ length (now out))
+        × (length (now prefix) ≤ mostPrefix) × (length (now intervals) ≡ mostMonitors)
+        × (length (now periods) ≡ mostMonitors) ⌝ }
+    ensures { λ r. ⌜ (r .kept ≤ n) × (r .wrote ≤ reportMost * n)
+        × Passed (now (t .entry)) (now (t .exit)) (now (out .entry)) (now (out .exit)) (r .kept) (r .wrote)
+        (keptAt (now (intervals .entry)) (now (periods .entry)) (now (t .entry)))
+        (toldAt (now (intervals .entry)) (now (periods .entry)) (now (filters .entry)) (now (prefix .entry))
+        (now (t .entry))) n ⌝ }
 {
     let from = calm::calm_rows(t, 0, n, intervals, periods);
     tick_rest(t, from, n, out, intervals, periods, filters, prefix)
@@ -178,8 +200,13 @@ fn tick_pairs(
     filters: &[u8],
     prefix: &[u8],
 ) -> Turn
-    requires { ⌜ (n ≤ mostPairs) × (length (now t) ≡ pairsSize) × (answerRoom ≤ length (now out)) × (length (now prefix) ≤ mostPrefix) × (length (now intervals) ≡ mostMonitors) × (length (now periods) ≡ mostMonitors) ⌝ }
-    ensures { λ r. ⌜ Cleared (now (t .entry)) (now (t .exit)) (now (out .entry)) (now (out .exit)) (r .kept) (r .wrote) (keptAt (now (intervals .entry)) (now (periods .entry)) (now (t .entry))) (toldAt (now (intervals .entry)) (now (periods .entry)) (now (filters .entry)) (now (prefix .entry)) (now (t .entry))) n ⌝ }
+    requires { ⌜ (n ≤ mostPairs) × (length (now t) ≡ pairsSize) × (answerRoom ≤ length (now out))
+        × (length (now prefix) ≤ mostPrefix) × (length (now intervals) ≡ mostMonitors)
+        × (length (now periods) ≡ mostMonitors) ⌝ }
+    ensures { λ r. ⌜ Cleared (now (t .entry)) (now (t .exit)) (now (out .entry)) (now (out .exit)) (r .kept)
+        (r .wrote) (keptAt (now (intervals .entry)) (now (periods .entry)) (now (t .entry)))
+        (toldAt (now (intervals .entry)) (now (periods .entry)) (now (filters .entry)) (now (prefix .entry))
+        (now (t .entry))) n ⌝ }
 {
     let turn = tick_rows(t, n, out, intervals, periods, filters, prefix);
     let kept = turn.kept;
@@ -187,69 +214,17 @@ fn tick_pairs(
     turn
 }
 
-// One octet of every monitor's row, by handle.
-fn column(s: &[u8], at: usize) -> [u8; State::MONITORS]
-    requires { ⌜ at + monitorSize * 15 < length (now s) ⌝ }
-    ensures { λ r. ⌜ r ≡ columnOf (now (s .entry)) at mostMonitors ⌝ }
-{
-    let mut r = [0u8; State::MONITORS];
-    let mut h = 0;
-    while h < State::MONITORS {
-        r[h] = s[at + State::MONITOR_ROW * h];
-        h += 1;
-    }
-    r
-}
-
-// The report filtering of a monitor by its row's octets, where the filter is on; else 0, which lets nothing through.
-fn filter_at(filter: u8, options: u8, filtering: u8) -> u8
-    ensures { λ r. ⌜ r ≡ filterBy filter options filtering ⌝ }
-{
-    if filter == 1 {
-        return state::filtering_of(options, filtering);
-    }
-    0
-}
-
-// The same of every handle.
-fn filters_of(s: &[u8], filter: u8) -> [u8; State::MONITORS]
-    requires { ⌜ length (now s) ≡ blockSize ⌝ }
-    ensures { λ r. ⌜ r ≡ columnBy (filterIn (now (s .entry)) filter) mostMonitors ⌝ }
-{
-    let mut r = [0u8; State::MONITORS];
-    let mut h = 0;
-    while h < State::MONITORS {
-        let at = State::MONITORS_AT + State::MONITOR_ROW * h;
-        r[h] = filter_at(
-            filter,
-            s[at + State::OPTIONS_AT],
-            s[at + State::FILTERING_AT],
-        );
-        h += 1;
-    }
-    r
-}
-
-// The head of the block: position, filter, opcode, prefix length, prefix.
-fn head_of(s: &[u8]) -> [u8; State::HEAD]
-    requires { ⌜ headSize ≤ length (now s) ⌝ }
-    ensures { λ r. ⌜ r ≡ take headSize (now (s .entry)) ⌝ }
-{
-    let mut r = [0u8; State::HEAD];
-    parts::copy(&mut r, 0, &s[0..State::HEAD]);
-    r
-}
-
 // A tick on a block of the right length.
 fn tick_in(s: &mut [u8], out: &mut [u8]) -> usize
     requires { ⌜ (length (now s) ≡ blockSize) × (answerRoom ≤ length (now out)) ⌝ }
-    ensures { λ r. ⌜ Steps aTick (now (s .entry)) (now (s .exit)) (now (out .entry)) (now (out .exit)) r × Within (now (out .entry)) (now (out .exit)) r ⌝ }
+    ensures { λ r. ⌜ Steps aTick (now (s .entry)) (now (s .exit)) (now (out .entry)) (now (out .exit)) r
+        × Within (now (out .entry)) (now (out .exit)) r ⌝ }
 {
-    let head = head_of(s);
-    let intervals = column(s, State::INTERVALS_AT);
-    let periods = column(s, State::PERIODS_AT);
+    let head = columns::head_of(s);
+    let intervals = columns::column(s, State::INTERVALS_AT);
+    let periods = columns::column(s, State::PERIODS_AT);
     let n = octets::at_most(s[State::COUNT_AT], State::PAIRS);
-    let filters = filters_of(s, head[State::FILTER_AT]);
+    let filters = columns::filters_of(s, head[State::FILTER_AT]);
     let end = State::PREFIX_AT + octets::at_most(head[State::PREFIX_LENGTH_AT], State::PREFIX);
     let turn = tick_pairs(
         &mut s[State::PAIRS_AT..State::COUNT_AT],
@@ -265,10 +240,10 @@ fn tick_in(s: &mut [u8], out: &mut [u8]) -> usize
     turn.wrote
 }
 
-// Takes one tick: changes the block, writes the answer at the output's start, and answers its length. A block that is not of 5,225
-// octets, an output under 2,880 octets, and a block at the last frame number are left as they are, and the answer is 0. Of a block
-// that is of no sound state the contents, what is written and how much are free; the lengths stay, the answer is at most the
-// output's length, and the octets past it are as they were.
+// Takes one tick: changes the block, writes the answer at the output's start, and answers its length. A block that is
+// not of 5,225 octets, an output under 2,880 octets, and a block at the last frame number are left as they are, and
+// the answer is 0. Of a block that is of no sound state the contents, what is written and how much are free; the
+// lengths stay, the answer is at most the output's length, and the octets past it are as they were.
 pub fn tick(s: &mut [u8], out: &mut [u8]) -> usize
     ensures { λ r. ⌜ Taken aTick true (now (s .entry)) (now (s .exit)) (now (out .entry)) (now (out .exit)) r ⌝ }
 {

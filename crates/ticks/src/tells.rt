@@ -1,4 +1,5 @@
-// What a tick writes for a pair: the report of a window that closes, the stop event of a watch that ends (document 01, Watching, by history).
+// What a tick writes for a pair: the report of a window that closes, the stop event of a watch that ends (document
+// 01, Watching, by history).
 use state::State;
 ghost use Prim.Native.Nat.{_+_, _*_, _≤_, _<_};
 ghost use mathlib.Core.Path.{_≡_};
@@ -51,7 +52,8 @@ pub(super) fn octet_at(xs: &[u8], i: usize) -> u8
     0
 }
 
-// Whether a pair that stays reports its window, with the report filtering by handle. Most ticks close none, so that is asked first.
+// Whether a pair that stays reports its window, with the report filtering by handle. Most ticks close none, so that
+// is asked first.
 fn says(r: &[u8], on: bool, period: u8, filters: &[u8]) -> bool
     requires { ⌜ length (now r) ≡ pairSize ⌝ }
     ensures { λ b. ⌜ b ≡ saysRow on period (now (filters .entry)) (now (r .entry)) ⌝ }
@@ -67,7 +69,8 @@ fn says(r: &[u8], on: bool, period: u8, filters: &[u8]) -> bool
 
 // Appends the report of a window.
 fn put_window(r: &[u8], out: &mut [u8], at: usize) -> usize
-    requires { ⌜ (length (now r) ≡ pairSize) × (1 ≤ little 4 (now r) packetsAt) × (getD (now r) lengthAt 0 ≤ mostData) × (at + reportMost ≤ length (now out)) ⌝ }
+    requires { ⌜ (length (now r) ≡ pairSize) × (1 ≤ little 4 (now r) packetsAt) × (getD (now r) lengthAt 0 ≤ mostData)
+        × (at + reportMost ≤ length (now out)) ⌝ }
     ensures { λ n. ⌜ Appended (now (out .entry)) (now (out .exit)) at n (reportRow (now (r .entry))) ⌝ }
 {
     let packets = octets::get32(r, State::PACKETS_AT) as u64;
@@ -86,7 +89,8 @@ fn put_window(r: &[u8], out: &mut [u8], at: usize) -> usize
 // Appends the report of a window where there is one.
 fn tell_window(r: &[u8], out: &mut [u8], at: usize, on: bool, period: u8, filters: &[u8]) -> usize
     requires { ⌜ (length (now r) ≡ pairSize) × (at + reportMost ≤ length (now out)) ⌝ }
-    ensures { λ n. ⌜ Appended (now (out .entry)) (now (out .exit)) at n (when (saysRow on period (now (filters .entry)) (now (r .entry))) (reportRow (now (r .entry)))) ⌝ }
+    ensures { λ n. ⌜ Appended (now (out .entry)) (now (out .exit)) at n
+        (when (saysRow on period (now (filters .entry)) (now (r .entry))) (reportRow (now (r .entry)))) ⌝ }
 {
     if says(r, on, period, filters) {
         return put_window(r, out, at);
@@ -96,8 +100,10 @@ fn tell_window(r: &[u8], out: &mut [u8], at: usize, on: bool, period: u8, filter
 
 // Appends the stop event of a watch that ends.
 fn tell_stop(r: &[u8], out: &mut [u8], at: usize, on: bool, prefix: &[u8]) -> usize
-    requires { ⌜ (length (now r) ≡ pairSize) × (length (now prefix) ≤ mostPrefix) × (at + length (when (not on) (eventOctets (now prefix) (now r) 0)) ≤ length (now out)) ⌝ }
-    ensures { λ n. ⌜ Appended (now (out .entry)) (now (out .exit)) at n (when (not on) (eventOctets (now (prefix .entry)) (now (r .entry)) 0)) ⌝ }
+    requires { ⌜ (length (now r) ≡ pairSize) × (length (now prefix) ≤ mostPrefix)
+        × (at + length (when (not on) (eventOctets (now prefix) (now r) 0)) ≤ length (now out)) ⌝ }
+    ensures { λ n. ⌜ Appended (now (out .entry)) (now (out .exit)) at n
+        (when (not on) (eventOctets (now (prefix .entry)) (now (r .entry)) 0)) ⌝ }
 {
     if on {
         return 0;
@@ -115,8 +121,10 @@ pub(super) fn tell(
     filters: &[u8],
     prefix: &[u8],
 ) -> usize
-    requires { ⌜ (length (now r) ≡ pairSize) × (length (now prefix) ≤ mostPrefix) × (at + reportMost ≤ length (now out)) ⌝ }
-    ensures { λ n. ⌜ Appended (now (out .entry)) (now (out .exit)) at n (toldOn on period (now (filters .entry)) (now (prefix .entry)) (now (r .entry))) ⌝ }
+    requires { ⌜ (length (now r) ≡ pairSize) × (length (now prefix) ≤ mostPrefix)
+        × (at + reportMost ≤ length (now out)) ⌝ }
+    ensures { λ n. ⌜ Appended (now (out .entry)) (now (out .exit)) at n
+        (toldOn on period (now (filters .entry)) (now (prefix .entry)) (now (r .entry))) ⌝ }
 {
     let report = tell_window(r, out, at, on, period, filters);
     let stop = tell_stop(r, out, at + report, on, prefix);

@@ -1,4 +1,5 @@
--- Sixteen gains by value, in a walk: their type, their machine values, and what whoever holds them knows and makes. Assumes `Given`.
+-- Sixteen gains by value, in a walk: their type, their machine values, and what whoever holds them knows and makes.
+-- Assumes `Given`.
 use mathlib.Core.Path.{_≡_, refl, sym, _∙_, ap, subst}
 use mathlib.Core.List.{List, [], _∷_, map}
 use Prim.Native.Nat.{ℕ}
@@ -55,19 +56,29 @@ module _ {M : Type 1} (𝓤 : URA M) (H : Heap 𝓤) (A : Atoms 𝓤) (W : Given
   makes-gains = array-makes 𝓤 H A W G.the-row (LL.makes G.the-type G′.the-plain 𝓤 H A) 16
 
   -- the array that was written whole is read by the element, and is whole again
-  pub apart : (gs : List Gain) (l : ℕ) → Is Gains gs (smalls gs ∷ []) → ent 𝓤 (sem 𝓤 H A (fat fullShare GainsTy l 0 (smalls gs))) (sem 𝓤 H A (row G.the-row fullShare gs l 0))
+  pub apart : (gs : List Gain) (l : ℕ) → Is Gains gs (smalls gs ∷ [])
+      → ent 𝓤 (sem 𝓤 H A (fat fullShare GainsTy l 0 (smalls gs))) (sem 𝓤 H A (row G.the-row fullShare gs l 0))
   unfolding partOf
   apart gs l is =
-      qed W (‵ (fat fullShare GainsTy l 0 (smalls gs)) ∷ []) ∵ use1 W (‵ (cellAt fullShare (Gains .mir) (smalls gs ∷ []) l 0)) (W .laws .at-raw fullShare GainsTy l 0 (smalls gs)) $
-      owned ! Gains (Is Gains) makes-gains gs (smalls gs ∷ []) is $ move ! (1 ∷ 0 ∷ []) $ fjoin ! $ fpack ! (List Val) (λ vs. fsep (cellAt fullShare (Gains .mir) vs l 0) (Gains .own gs vs)) (smalls gs ∷ []) $
-      use1 W (‵ (arr-parts (shares G.the-row) 16 .part fullShare gs l 0)) (array-apart 𝓤 H A W G.the-row fullShare tt 16 gs l 0) $ fsplit ! $ drop ! $ done !
+      qed W (‵ (fat fullShare GainsTy l 0 (smalls gs)) ∷ []) ∵ use1 W
+      (‵ (cellAt fullShare (Gains .mir) (smalls gs ∷ []) l 0)) (W .laws .at-raw fullShare GainsTy l 0 (smalls gs)) $
+      owned ! Gains (Is Gains) makes-gains gs (smalls gs ∷ []) is $ move ! (1 ∷ 0 ∷ []) $ fjoin ! $ fpack ! (List Val)
+      (λ vs. fsep (cellAt fullShare (Gains .mir) vs l 0) (Gains .own gs vs)) (smalls gs ∷ []) $
+      use1 W (‵ (arr-parts (shares G.the-row) 16 .part fullShare gs l 0))
+      (array-apart 𝓤 H A W G.the-row fullShare tt 16 gs l 0) $ fsplit ! $ drop ! $ done !
 
-  pub together : (gs : List Gain) (l : ℕ) → length gs ≡ 16 → ent 𝓤 (sem 𝓤 H A (row G.the-row fullShare gs l 0)) (guard 𝓤 (Is Gains gs (smalls gs ∷ [])) (sem 𝓤 H A (fat fullShare GainsTy l 0 (smalls gs))))
+  pub together : (gs : List Gain) (l : ℕ) → length gs ≡ 16
+      → ent 𝓤 (sem 𝓤 H A (row G.the-row fullShare gs l 0))
+      (guard 𝓤 (Is Gains gs (smalls gs ∷ [])) (sem 𝓤 H A (fat fullShare GainsTy l 0 (smalls gs))))
   unfolding partOf
   together gs l n =
-      qed W (‵ (row G.the-row fullShare gs l 0) ∷ []) ∵ feqI ! ℕ (length gs) 16 n $ fjoin ! $ use1 W (‵ (partAt Gains fullShare gs l 0)) (array-whole 𝓤 H A W G.the-row fullShare 16 gs l 0) $
-      fpick ! (λ vs. fsplit ! $ spelt ! Gains (Is Gains) (shows 𝓤 H A Gains) (λ xs. smalls xs ∷ []) tells-gains fullShare gs vs l 0 $
-      move ! (1 ∷ []) $ peeks ! Gains (Is Gains) (shows 𝓤 H A Gains) gs (smalls gs ∷ []) (λ is. drop ! $ use1 W (‵ (fat fullShare GainsTy l 0 (smalls gs))) (W .laws .raw-at fullShare GainsTy l 0 (smalls gs)) $ check ! is $ done !))
+      qed W (‵ (row G.the-row fullShare gs l 0) ∷ []) ∵ feqI ! ℕ (length gs) 16 n $ fjoin ! $ use1 W
+      (‵ (partAt Gains fullShare gs l 0)) (array-whole 𝓤 H A W G.the-row fullShare 16 gs l 0) $
+      fpick ! (λ vs. fsplit ! $ spelt ! Gains (Is Gains) (shows 𝓤 H A Gains) (λ xs. smalls xs ∷ []) tells-gains
+      fullShare gs vs l 0 $
+      move ! (1 ∷ []) $ peeks ! Gains (Is Gains) (shows 𝓤 H A Gains) gs (smalls gs ∷ [])
+      (λ is. drop ! $ use1 W (‵ (fat fullShare GainsTy l 0 (smalls gs)))
+      (W .laws .raw-at fullShare GainsTy l 0 (smalls gs)) $ check ! is $ done !))
 
 -- the row after a turn, of the struct that a turn gives
 pub row-after : (r : After) {vs : List Val} → Is N.the-row r vs → Is R (r .row) (mach (r .row) ∷ [])

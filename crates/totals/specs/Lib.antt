@@ -1,5 +1,10 @@
 pub mod Sums
+pub mod SumsLaws
 pub mod Two
+pub mod TwoLaws
 pub mod Table
+pub mod TableLaws
 pub mod Join
+pub mod JoinLaws
 pub mod Gains
+pub mod GainsLaws

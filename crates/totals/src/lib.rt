@@ -1,5 +1,6 @@
-// Rows of totals (document 02, T-09 and T-10): a row's totals added with every test of 64 bits, rows joined, and the lent table of sixteen
-// rows, changed in place. A walk by hand is needed of the one function whose signature has the table; the work is done on rows by value.
+// Rows of totals (document 02, T-09 and T-10): a row's totals added with every test of 64 bits, rows joined, and the
+// lent table of sixteen rows, changed in place. A walk by hand is needed of the one function whose signature has the
+// table; the work is done on rows by value.
 ghost use mathlib.Core.Path.{_≡_};
 ghost use mathlib.Core.Bool.{true, _&&_};
 ghost use Prim.Native.Nat.{_+_};
@@ -12,8 +13,8 @@ ghost use Rattle.totals.specs.Table.{empty, tableRows, rowFits, rowSum, 
 ghost use Rattle.totals.specs.Join.{joinOf};
 ghost use Rattle.totals.specs.Gains.{noGain, wideRow, keptRow, fitsIn, gainedIn};
 
-// The totals of a handle: matching packets, reports caused, ticks with a device under watch, the sum of the packets' RSSI. The mean is the
-// pair of the sum and the packets.
+// The totals of a handle: matching packets, reports caused, ticks with a device under watch, the sum of the packets'
+// RSSI. The mean is the pair of the sum and the packets.
 #[repr(C)]
 pub struct Row {
     pub packets: u64,
@@ -151,7 +152,8 @@ pub struct Added {
     pub rows: [Row; Row::TABLE],
 }
 
-// Sixteen rows and sixteen more; where one total would pass 64 bits, the first sixteen as they came, also those that would have fitted.
+// Sixteen rows and sixteen more; where one total would pass 64 bits, the first sixteen as they came, also those that
+// would have fitted.
 pub fn add_rows(t: [Row; Row::TABLE], d: [Row; Row::TABLE]) -> Added
     ensures { λ r. ⌜ (r .fits ≡ everyTwo rowFits t d) × (r .rows ≡ addedRows t d) ⌝ }
 {
@@ -168,7 +170,8 @@ pub fn add_rows(t: [Row; Row::TABLE], d: [Row; Row::TABLE]) -> Added
     }
 }
 
-// What a frame adds to a handle's row: its matching packets, the reports it causes, its ticks, and the sum of the RSSI more 128.
+// What a frame adds to a handle's row: its matching packets, the reports it causes, its ticks, and the sum of the
+// RSSI more 128.
 pub struct Gain {
     pub packets: u8,
     pub reports: u8,
@@ -265,8 +268,9 @@ fn turn(a: Row, gain: Gain, goes: bool, fitted: bool) -> After
     }
 }
 
-// Adds sixteen gains to the lent table of sixteen rows, in place, where they are to be added, and tells whether every total stays within 64
-// bits. A row whose totals do not is left as it is, and so is a table of another length, of which it tells that they do not.
+// Adds sixteen gains to the lent table of sixteen rows, in place, where they are to be added, and tells whether every
+// total stays within 64 bits. A row whose totals do not is left as it is, and so is a table of another length, of
+// which it tells that they do not.
 pub fn add_gains(rows: &mut [Row], d: [Gain; Row::TABLE], goes: bool) -> bool
     ensures { λ r. ⌜ (r ≡ fitsIn (now (rows .entry)) d) × (now (rows .exit) ≡ gainedIn goes (now (rows .entry)) d) ⌝ }
 {

@@ -1,5 +1,5 @@
--- Frames told by their numbers: the monitor that frame number a added, packet number r or none, the frames behind number k. Document 02, T-07.
--- Assumes nothing.
+-- Frames told by their numbers: the monitor that frame number a added, packet number r or none, the frames behind
+-- number k. Document 02, T-07. Assumes nothing.
 use Prim.Native.Nat.{ℕ, zero, suc, _-_, _≤_, _<_}
 use mathlib.Core.Path.{_≡_}
 use mathlib.Core.List.{List}
@@ -8,13 +8,11 @@ use lib.ListN.{length, drop}
 use Rattle.model.specs.Types.{Monitor, Packet}
 use Rattle.model.specs.Frames.{packetOf}
 use Rattle.model.specs.Monitors.{monitorOf}
-use Rattle.pasts.specs.Pair
 use Rattle.pasts.specs.Pair.{newest, sumOf, window}
 use Rattle.twins.specs.Twin.{mostKept}
 use Rattle.twin.specs.Table.{Commands, Sends, after, payloadAt}
 use Rattle.twin.specs.Heard.{Adds}
-use Rattle.twin.specs.Hears.{Formed, Start, startOf}
-use Rattle.twin.specs.Silent.{Looks}
+use Rattle.twin.specs.Hears.{Formed, startOf}
 
 -- frame number a added a monitor
 pub record Added (t : List ℕ) (a : ℕ) : Type 0 where
@@ -54,12 +52,3 @@ pub record Tells (t : List ℕ) (a k n packets sum last : ℕ) : Type 0 where
   pub sum-is : (h : ℕ) → sum ≡ sumOf (window (startOf t h a k) (after t k (n - k)))
   pub last-is : (h : ℕ) → numbered t last ≡ newest (window (startOf t h a k) (after t k (n - k)))
   pub number : Maybe t n last
-
-pub start-added : (t : List ℕ) (a k : ℕ) → Start t a k → Added t a
-start-added t a k s = record { monitor = s .monitor; commands = s .commands; adds = s .adds }
-
-pub start-sent : (t : List ℕ) (a k : ℕ) → Start t a k → Sent t k
-start-sent t a k s = record { number = s .packet; sends = s .sends }
-
-pub looks-follows : (t : List ℕ) (a k n : ℕ) → Looks t a k n → Follows t k n
-looks-follows t a k n l = record { order = l .order; few = l .few; formed = l .formed }

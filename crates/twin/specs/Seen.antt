@@ -1,5 +1,6 @@
--- What the code keeps while it reads the kept frames: the pairs under watch by their starts, the frame that
--- added each handle's monitor, the filter; and how that stands for what past frames say. Document 02, T-07. Definitions alone.
+-- What the code keeps while it reads the kept frames: the pairs under watch by their starts, the frame that added
+-- each handle's monitor, the filter; and how that stands for what past frames say. Document 02, T-07. Definitions
+-- alone.
 use Prim.Native.Nat.{ℕ, zero, suc, _+_, _-_, _≤_, _<_}
 use mathlib.Core.Path.{_≡_}
 use mathlib.Core.Logic.{_⊎_}
@@ -93,7 +94,8 @@ ofOther h b = not (eqb (b .handle) h)
 abbrev pub Cancels : List ℕ → Seen → Seen → Type 0
 Cancels l s r =
     ((cancelOf (isLive (s .live) (getD l 1 0)) l ≡ 0 → ⊥) × (r ≡ s))
-    ⊎ ((cancelOf (isLive (s .live) (getD l 1 0)) l ≡ 0) × Rest (withLive s (getD l 1 0) 0) (keep (ofOther (getD l 1 0)) (listOf s)) r)
+    ⊎ ((cancelOf (isLive (s .live) (getD l 1 0)) l ≡ 0)
+    × Rest (withLive s (getD l 1 0) 0) (keep (ofOther (getD l 1 0)) (listOf s)) r)
 
 -- the start that a kept one stands for, all of them, the monitor that an octet names
 unfoldable pub startAt : List ℕ → Begun → Pair.Start
@@ -163,7 +165,8 @@ goneBy t s g = when (ltb g mostPairs) (startAt t (begunAt s g) ∷ [])
 -- what the turn of handle h at packet i gives
 pub record Took (t : List ℕ) (i h : ℕ) (s : Seen) (r : Turn) : Type 0 where
   pub turns : Turns t i (h + 1) (r .seen)
-  pub started : r .started ≡ begins (pastAt t i) (packetOf (payloadAt t i)) (monitorAfter (pastAt t i) h) h (startsOf t s)
+  pub started : r .started
+      ≡ begins (pastAt t i) (packetOf (payloadAt t i)) (monitorAfter (pastAt t i) h) h (startsOf t s)
   pub gone : when (r .started) (goesFor (pastAt t i) (packetOf (payloadAt t i)) (startsOf t s)) ≡ goneBy t s (r .gone)
   pub within : r .gone < mostPairs → r .gone < s .count
 
@@ -173,7 +176,8 @@ pub record Least (f : ℕ → ℕ) (j w : ℕ) : Type 0 where
   pub before : (m : ℕ) → m < w → f w < f m
   pub all : (m : ℕ) → m < j → f w ≤ f m
 
--- the start b joins: behind the others where there is room; else, where the packet's RSSI is above the smallest kept, for the first that keeps it
+-- the start b joins: behind the others where there is room; else, where the packet's RSSI is above the smallest kept,
+-- for the first that keeps it
 pub record Room (b : Begun) (s : Seen) (r : Turn) : Type 0 where
   pub few : s .count < mostPairs
   pub started : r .started ≡ true

@@ -11,4 +11,5 @@ use Rattle.twin.specs.Table.{pastAt, payloadAt}
 -- whether a start of packet i is told, of the handles below n
 unfoldable pub tellsTo : List ℕ → ℕ → ℕ → Bool
 tellsTo t i n =
-    someOf (tellsStart [] (pastAt t i) (packetOf (payloadAt t i))) (turnsBy (pastAt t i) (packetOf (payloadAt t i)) (watch (pastAt t i)) n .starts)
+    someOf (tellsStart [] (pastAt t i) (packetOf (payloadAt t i)))
+    (turnsBy (pastAt t i) (packetOf (payloadAt t i)) (watch (pastAt t i)) n .starts)

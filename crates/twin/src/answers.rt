@@ -6,8 +6,9 @@ use super::replies;
 use super::watch;
 use super::watch::Seen;
 use super::watch::Turn;
+use super::writes;
 use state::State;
-ghost use Prim.Native.Nat.{ℕ, _+_, _-_, _*_, _≤_, _<_};
+ghost use Prim.Native.Nat.{ℕ, _+_, _-_, _≤_, _<_};
 ghost use mathlib.Core.Path.{_≡_};
 ghost use mathlib.Core.Bool.{true, false, _&&_};
 ghost use mathlib.Core.List.{[]};
@@ -16,10 +17,8 @@ ghost use Rattle.laws.specs.Loops.{some as someOf};
 ghost use Rattle.sessions.specs.Machine.{answerRoom};
 ghost use Rattle.model.specs.Level.{mean};
 ghost use Rattle.model.specs.Frames.{packetOf};
-ghost use Rattle.model.specs.Events.{packetReport, packetReports, scanReport};
 ghost use Rattle.model.specs.Monitors.{allows, sifts};
 ghost use Rattle.model.specs.Layout.{blockSize, eventMost, mostMonitors, mostPairs, reportMost, turnMost, turnsMost};
-ghost use Rattle.marks.specs.Fields.{Framed};
 ghost use Rattle.commands.specs.Replies.{prefixIn};
 ghost use Rattle.packets.specs.Writes.{Wrote};
 ghost use Rattle.pasts.specs.Past.{monitorAfter, watch as watchedIn};
@@ -30,72 +29,16 @@ ghost use Rattle.twin.specs.Silent.{Looks};
 ghost use Rattle.twin.specs.Numbered.{monAt};
 ghost use Rattle.twin.specs.Seen.{Agrees, Comes, Frames, Shows, Took, Turns, begunAt, goneBy, startAt, startsOf};
 ghost use Rattle.twin.specs.Answers.{saysAt};
-ghost use Rattle.twin.specs.Events.{eventOf, goneSays, windowSays};
+ghost use Rattle.twin.specs.Events.{goneSays, windowSays};
 ghost use Rattle.twin.specs.Told.{tellsTo};
 
-// The octet of the mean: the greatest whole number not above sum / packets.
-fn mean_of(sum: u64, packets: u64) -> u8
-    requires { ⌜ 1 ≤ packets ⌝ }
-    ensures { λ r. ⌜ r ≡ mean sum packets ⌝ }
-{
-    if sum < 9223372036854775808 {
-        return (sum / packets % 256) as u8;
-    }
-    let below = (18446744073709551615 - sum) / packets;
-    (255 - below % 256) as u8
-}
-
-// An event of a handle and the device of a packet, told by its payload: a start (1) or a stop (0).
-fn put_event(head: &[u8], p: &[u8], h: u8, state: u8, out: &mut [u8], at: usize) -> usize
-    requires { ⌜ (length (now head) ≡ blockSize) × Framed (now p) × (at + eventMost ≤ length (now out)) ⌝ }
-    ensures { λ r. ⌜ (r ≤ eventMost) × Wrote (now (out .entry)) at (eventOf (prefixIn (now (head .entry))) h (packetOf (now (p .entry))) state) (now (out .exit)) r ⌝ }
-{
-    let mut row = [0u8; State::KEY];
-    row[0] = h;
-    parts::copy(&mut row, 1, &p[1..8]);
-    let n = octets::at_most(head[State::PREFIX_LENGTH_AT], State::PREFIX);
-    let end = State::PREFIX_AT + n;
-    events::put_event(out, at, &head[State::PREFIX_AT..end], &row, state)
-}
-
-// The report of a packet's advertisement.
-fn put_adv(p: &[u8], out: &mut [u8], at: usize) -> usize
-    requires { ⌜ Framed (now p) × (at + reportMost ≤ length (now out)) ⌝ }
-    ensures { λ r. ⌜ (r ≤ reportMost) × Wrote (now (out .entry)) at (packetReport (packetOf (now (p .entry)))) (now (out .exit)) r ⌝ }
-{
-    let end = 9 + octets::wide(p[8]);
-    let last = p.len() - 1;
-    events::put_report(out, at, p[0], &p[1..8], &p[9..end], p[last])
-}
-
-// The report of its scan response, where it has one: event type 4.
-fn put_scan(p: &[u8], out: &mut [u8], at: usize) -> usize
-    requires { ⌜ Framed (now p) × (at + reportMost ≤ length (now out)) ⌝ }
-    ensures { λ r. ⌜ (r ≤ reportMost) × Wrote (now (out .entry)) at (scanReport (packetOf (now (p .entry))) (packetOf (now (p .entry)) .scan)) (now (out .exit)) r ⌝ }
-{
-    let from = 10 + octets::wide(p[8]);
-    let n = p.len();
-    if n <= from {
-        return 0;
-    }
-    let last = n - 1;
-    events::put_report(out, at, 4, &p[1..8], &p[from..last], p[last])
-}
-
-// The reports of a packet.
-fn put_reports(p: &[u8], out: &mut [u8], at: usize) -> usize
-    requires { ⌜ Framed (now p) × (at + 2 * reportMost ≤ length (now out)) ⌝ }
-    ensures { λ r. ⌜ (r ≤ 2 * reportMost) × Wrote (now (out .entry)) at (packetReports (packetOf (now (p .entry)))) (now (out .exit)) r ⌝ }
-{
-    let n = put_adv(p, out, at);
-    let m = put_scan(p, out, at + n);
-    n + m
-}
-
-// Whether packet i is a reason for a report by the start at packet number k of the monitor of frame number a, under watch before it.
+// Whether packet i is a reason for a report by the start at packet number k of the monitor of frame number a, under
+// watch before it.
 fn is_reason(t: &[u8], i: usize, a: usize, k: usize) -> bool
     requires { ⌜ Looks (now t) a k i × Comes (now t) i × Formed (now t) i ⌝ }
-    ensures { λ r. ⌜ ((h : ℕ) → r ≡ reasonBy [] (pastAt (now (t .entry)) i) (packetOf (payloadAt (now (t .entry)) i)) (startOf (now (t .entry)) h a k)) ⌝ }
+    ensures { λ r. ⌜
+        ((h : ℕ) → r ≡ reasonBy [] (pastAt (now (t .entry)) i) (packetOf (payloadAt (now (t .entry)) i))
+        (startOf (now (t .entry)) h a k)) ⌝ }
 {
     if heard::params_of(t, a)[4] != 0 {
         return false;
@@ -112,7 +55,9 @@ fn is_reason(t: &[u8], i: usize, a: usize, k: usize) -> bool
 // Whether it is one for some pair under watch.
 fn is_told(t: &[u8], i: usize, seen: Seen) -> bool
     requires { ⌜ Frames (now t) (i + 1) × Comes (now t) i × Agrees (now t) i seen ⌝ }
-    ensures { λ r. ⌜ r ≡ someOf (reasonBy [] (pastAt (now (t .entry)) i) (packetOf (payloadAt (now (t .entry)) i))) (watchedIn (pastAt (now (t .entry)) i)) ⌝ }
+    ensures { λ r. ⌜ r
+        ≡ someOf (reasonBy [] (pastAt (now (t .entry)) i) (packetOf (payloadAt (now (t .entry)) i)))
+        (watchedIn (pastAt (now (t .entry)) i)) ⌝ }
 {
     let mut j = 0;
     while j < seen.count {
@@ -126,8 +71,11 @@ fn is_told(t: &[u8], i: usize, seen: Seen) -> bool
 
 // Whether the turn of handle h, if it gives a start, lets packet i through.
 fn turn_tells(t: &[u8], i: usize, h: u8, seen: Seen, started: bool) -> bool
-    requires { ⌜ Comes (now t) i × (h < mostMonitors) × Shows (now t) (i + 1) (pastAt (now t) i) seen × (started ≡ true → 1 ≤ getD (seen .live) h 0) ⌝ }
-    ensures { λ r. ⌜ r ≡ (started && allows (monAt (now (t .entry)) (getD (seen .live) h 0)) (packetOf (payloadAt (now (t .entry)) i) .event)) ⌝ }
+    requires { ⌜ Comes (now t) i × (h < mostMonitors) × Shows (now t) (i + 1) (pastAt (now t) i) seen
+        × (started ≡ true → 1 ≤ getD (seen .live) h 0) ⌝ }
+    ensures { λ r. ⌜ r
+        ≡ (started && allows (monAt (now (t .entry)) (getD (seen .live) h 0))
+        (packetOf (payloadAt (now (t .entry)) i) .event)) ⌝ }
 {
     if !started {
         return false;
@@ -171,14 +119,18 @@ fn is_reported(t: &[u8], i: usize, seen: Seen) -> bool
 
 // The stop event of the start at an index that goes for another; none at 64.
 fn put_gone(head: &[u8], t: &[u8], gone: usize, seen: Seen, out: &mut [u8], at: usize) -> usize
-    requires { ⌜ (length (now head) ≡ blockSize) × (gone < mostPairs → Start (now t) (begunAt seen gone .monitor) (begunAt seen gone .packet)) × (at + eventMost ≤ length (now out)) ⌝ }
-    ensures { λ r. ⌜ (r ≤ eventMost) × Wrote (now (out .entry)) at (goneSays (prefixIn (now (head .entry))) (goneBy (now (t .entry)) seen gone)) (now (out .exit)) r ⌝ }
+    requires { ⌜ (length (now head) ≡ blockSize)
+        × (gone < mostPairs → Start (now t) (begunAt seen gone .monitor) (begunAt seen gone .packet))
+        × (at + eventMost ≤ length (now out)) ⌝ }
+    ensures { λ r. ⌜ (r ≤ eventMost)
+        × Wrote (now (out .entry)) at (goneSays (prefixIn (now (head .entry))) (goneBy (now (t .entry)) seen gone))
+        (now (out .exit)) r ⌝ }
 {
     if State::PAIRS <= gone {
         return 0;
     }
     let p = kept::payload_at(t, watch::packet_of(seen, gone) - 1);
-    put_event(head, p, watch::handle_of(seen, gone), 0, out, at)
+    writes::put_event(head, p, watch::handle_of(seen, gone), 0, out, at)
 }
 
 // What the turn of handle h at packet i writes.
@@ -192,21 +144,29 @@ fn put_turn(
     out: &mut [u8],
     at: usize,
 ) -> usize
-    requires { ⌜ (length (now head) ≡ blockSize) × Comes (now t) i × (h < mostMonitors) × Turns (now t) i h seen × Took (now t) i h seen turned × (at + turnMost ≤ length (now out)) ⌝ }
-    ensures { λ r. ⌜ (r ≤ turnMost) × Wrote (now (out .entry)) at (turnSays (prefixIn (now (head .entry))) (pastAt (now (t .entry)) i) (packetOf (payloadAt (now (t .entry)) i)) (monitorAfter (pastAt (now (t .entry)) i) h) h (startsOf (now (t .entry)) seen)) (now (out .exit)) r ⌝ }
+    requires { ⌜ (length (now head) ≡ blockSize) × Comes (now t) i × (h < mostMonitors) × Turns (now t) i h seen
+        × Took (now t) i h seen turned × (at + turnMost ≤ length (now out)) ⌝ }
+    ensures { λ r. ⌜ (r ≤ turnMost)
+        × Wrote (now (out .entry)) at
+        (turnSays (prefixIn (now (head .entry))) (pastAt (now (t .entry)) i) (packetOf (payloadAt (now (t .entry)) i))
+        (monitorAfter (pastAt (now (t .entry)) i) h) h (startsOf (now (t .entry)) seen)) (now (out .exit)) r ⌝ }
 {
     if !turned.started {
         return 0;
     }
     let n = put_gone(head, t, turned.gone, seen, out, at);
-    let m = put_event(head, kept::payload_at(t, i), h, 1, out, at + n);
+    let m = writes::put_event(head, kept::payload_at(t, i), h, 1, out, at + n);
     n + m
 }
 
 // What the turns of packet i write.
 fn put_turns(head: &[u8], t: &[u8], i: usize, seen: Seen, out: &mut [u8]) -> usize
-    requires { ⌜ (length (now head) ≡ blockSize) × Frames (now t) (i + 1) × Comes (now t) i × Agrees (now t) i seen × (answerRoom ≤ length (now out)) ⌝ }
-    ensures { λ r. ⌜ (r ≤ turnsMost) × Wrote (now (out .entry)) 0 (turnsSay (prefixIn (now (head .entry))) (pastAt (now (t .entry)) i) (packetOf (payloadAt (now (t .entry)) i)) mostMonitors) (now (out .exit)) r ⌝ }
+    requires { ⌜ (length (now head) ≡ blockSize) × Frames (now t) (i + 1) × Comes (now t) i × Agrees (now t) i seen
+        × (answerRoom ≤ length (now out)) ⌝ }
+    ensures { λ r. ⌜ (r ≤ turnsMost)
+        × Wrote (now (out .entry)) 0
+        (turnsSay (prefixIn (now (head .entry))) (pastAt (now (t .entry)) i) (packetOf (payloadAt (now (t .entry)) i))
+        mostMonitors) (now (out .exit)) r ⌝ }
 {
     let mut next = seen;
     let mut at = 0;
@@ -222,21 +182,26 @@ fn put_turns(head: &[u8], t: &[u8], i: usize, seen: Seen, out: &mut [u8]) -> usi
 
 // The answer to packet i.
 fn packet(head: &[u8], t: &[u8], i: usize, out: &mut [u8]) -> usize
-    requires { ⌜ (length (now head) ≡ blockSize) × Frames (now t) (i + 1) × Comes (now t) i × (answerRoom ≤ length (now out)) ⌝ }
-    ensures { λ r. ⌜ Wrote (now (out .entry)) 0 (packetSays (prefixIn (now (head .entry))) (pastAt (now (t .entry)) i) (packetOf (payloadAt (now (t .entry)) i))) (now (out .exit)) r ⌝ }
+    requires { ⌜ (length (now head) ≡ blockSize) × Frames (now t) (i + 1) × Comes (now t) i
+        × (answerRoom ≤ length (now out)) ⌝ }
+    ensures { λ r. ⌜ Wrote (now (out .entry)) 0
+        (packetSays (prefixIn (now (head .entry))) (pastAt (now (t .entry)) i)
+        (packetOf (payloadAt (now (t .entry)) i))) (now (out .exit)) r ⌝ }
 {
     let seen = watch::after_all(t, i);
     let at = put_turns(head, t, i, seen, out);
     if !is_reported(t, i, seen) {
         return at;
     }
-    at + put_reports(kept::payload_at(t, i), out, at)
+    at + writes::put_reports(kept::payload_at(t, i), out, at)
 }
 
 // The report of a window that tick i closes, where it had packets and report filtering lets the latest of them through.
 fn put_window(t: &[u8], i: usize, a: usize, k: usize, out: &mut [u8], at: usize) -> usize
     requires { ⌜ Looks (now t) a k i × (sifts (monAt (now t) a) ≡ false) × (at + reportMost ≤ length (now out)) ⌝ }
-    ensures { λ r. ⌜ (r ≤ reportMost) × ((h : ℕ) → Wrote (now (out .entry)) at (windowSays (startOf (now (t .entry)) h a k) (after (now (t .entry)) k (i - k))) (now (out .exit)) r) ⌝ }
+    ensures { λ r. ⌜ (r ≤ reportMost)
+        × ((h : ℕ) → Wrote (now (out .entry)) at
+        (windowSays (startOf (now (t .entry)) h a k) (after (now (t .entry)) k (i - k))) (now (out .exit)) r) ⌝ }
 {
     let w = pairs::window_of(t, a, k, i);
     if w.packets == 0 {
@@ -246,7 +211,7 @@ fn put_window(t: &[u8], i: usize, a: usize, k: usize, out: &mut [u8], at: usize)
     if !pairs::allows(t, a, last) {
         return 0;
     }
-    let mean = mean_of(w.sum, w.packets as u64);
+    let mean = writes::mean_of(w.sum, w.packets as u64);
     let d = kept::payload_at(t, k - 1);
     events::put_report(
         out,
@@ -258,7 +223,8 @@ fn put_window(t: &[u8], i: usize, a: usize, k: usize, out: &mut [u8], at: usize)
     )
 }
 
-// What tick i writes for the start at an index: the stop event of a watch that ends, or the report of a window that closes.
+// What tick i writes for the start at an index: the stop event of a watch that ends, or the report of a window that
+// closes.
 fn put_tick(
     head: &[u8],
     t: &[u8],
@@ -268,13 +234,17 @@ fn put_tick(
     out: &mut [u8],
     at: usize,
 ) -> usize
-    requires { ⌜ (length (now head) ≡ blockSize) × Frames (now t) (i + 1) × (kindAt (now t) i ≡ 3) × Agrees (now t) i seen × (j < seen .count) × (at + reportMost ≤ length (now out)) ⌝ }
-    ensures { λ r. ⌜ (r ≤ reportMost) × Wrote (now (out .entry)) at (tickSaysOf (prefixIn (now (head .entry))) (pastAt (now (t .entry)) i) (startAt (now (t .entry)) (begunAt seen j))) (now (out .exit)) r ⌝ }
+    requires { ⌜ (length (now head) ≡ blockSize) × Frames (now t) (i + 1) × (kindAt (now t) i ≡ 3)
+        × Agrees (now t) i seen × (j < seen .count) × (at + reportMost ≤ length (now out)) ⌝ }
+    ensures { λ r. ⌜ (r ≤ reportMost)
+        × Wrote (now (out .entry)) at
+        (tickSaysOf (prefixIn (now (head .entry))) (pastAt (now (t .entry)) i)
+        (startAt (now (t .entry)) (begunAt seen j))) (now (out .exit)) r ⌝ }
 {
     let a = watch::monitor_of(seen, j);
     let k = watch::packet_of(seen, j);
     if !watch::goes_on(t, i + 1, seen, j) {
-        return put_event(
+        return writes::put_event(
             head,
             kept::payload_at(t, k - 1),
             watch::handle_of(seen, j),
@@ -297,8 +267,10 @@ fn put_tick(
 
 // The answer to tick i, pairs in the order they started.
 fn tick(head: &[u8], t: &[u8], i: usize, out: &mut [u8]) -> usize
-    requires { ⌜ (length (now head) ≡ blockSize) × Frames (now t) (i + 1) × (kindAt (now t) i ≡ 3) × (answerRoom ≤ length (now out)) ⌝ }
-    ensures { λ r. ⌜ Wrote (now (out .entry)) 0 (tickSays (prefixIn (now (head .entry))) (pastAt (now (t .entry)) i)) (now (out .exit)) r ⌝ }
+    requires { ⌜ (length (now head) ≡ blockSize) × Frames (now t) (i + 1) × (kindAt (now t) i ≡ 3)
+        × (answerRoom ≤ length (now out)) ⌝ }
+    ensures { λ r. ⌜ Wrote (now (out .entry)) 0 (tickSays (prefixIn (now (head .entry))) (pastAt (now (t .entry)) i))
+        (now (out .exit)) r ⌝ }
 {
     let seen = watch::after_all(t, i);
     let mut at = 0;

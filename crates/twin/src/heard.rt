@@ -1,4 +1,5 @@
-// Which packets a pair hears. A start is told by three frame numbers: that of the command that added its monitor, its own packet's, and the handle.
+// Which packets a pair hears. A start is told by three frame numbers: that of the command that added its monitor, its
+// own packet's, and the handle.
 use super::kept;
 ghost use Prim.Native.Nat.{_+_, _-_, _≤_};
 ghost use mathlib.Core.Path.{_≡_};

@@ -30,7 +30,8 @@ ghost use Rattle.twin.specs.PairRows.{latestBy, numbersOf, pairAt, place
 
 // Writes a monitor's settings and condition into a row.
 fn put_settings(row: &mut [u8], h: u8, params: &[u8])
-    requires { ⌜ (length (now row) ≡ monitorSize) × Adds (now params) × (length (now params) ≤ typeIn (now params) + 1 + mostCondition) ⌝ }
+    requires { ⌜ (length (now row) ≡ monitorSize) × Adds (now params)
+        × (length (now params) ≤ typeIn (now params) + 1 + mostCondition) ⌝ }
     ensures { λ _. ⌜ now (row .exit) ≡ put (now (row .entry)) 0 (monitorRow (h, monitorOf (now (params .entry)))) ⌝ }
 {
     let at = statuses::type_at(params[0]);
@@ -45,7 +46,8 @@ fn put_settings(row: &mut [u8], h: u8, params: &[u8])
 // Writes what version 2 adds.
 fn put_added(row: &mut [u8], params: &[u8])
     requires { ⌜ (length (now row) ≡ monitorSize) × Adds (now params) ⌝ }
-    ensures { λ _. ⌜ now (row .exit) ≡ put (now (row .entry)) extraAt (extraText (monitorOf (now (params .entry)) .extra)) ⌝ }
+    ensures { λ _. ⌜ now (row .exit)
+        ≡ put (now (row .entry)) extraAt (extraText (monitorOf (now (params .entry)) .extra)) ⌝ }
 {
     let at = statuses::type_at(params[0]);
     parts::copy(row, State::OPTIONS_AT, &params[5..at]);
@@ -68,8 +70,11 @@ fn monitor_row(t: &[u8], h: u8, a: usize) -> [u8; State::MONITOR_ROW]
 
 // Writes the rows of the monitors, each named by the number of the frame that added it.
 fn put_monitors(b: &mut [u8], t: &[u8], live: &[u8; State::MONITORS])
-    requires { ⌜ (blockSize ≤ length (now b)) × ((h : ℕ) → 1 ≤ getD (now live) h 0 → Names (now t) (getD (now live) h 0)) ⌝ }
-    ensures { λ _. ⌜ (now (b .exit) ≡ put (now (b .entry)) monitorsAt (placesOf (now (t .entry)) (now (live .entry)) mostMonitors)) × (length (placesOf (now (t .entry)) (now (live .entry)) mostMonitors) ≡ monitorSize * mostMonitors) ⌝ }
+    requires { ⌜ (blockSize ≤ length (now b))
+        × ((h : ℕ) → 1 ≤ getD (now live) h 0 → Names (now t) (getD (now live) h 0)) ⌝ }
+    ensures { λ _. ⌜
+        (now (b .exit) ≡ put (now (b .entry)) monitorsAt (placesOf (now (t .entry)) (now (live .entry)) mostMonitors))
+        × (length (placesOf (now (t .entry)) (now (live .entry)) mostMonitors) ≡ monitorSize * mostMonitors) ⌝ }
 {
     let mut h = 0;
     while h < State::MONITORS {
@@ -79,10 +84,12 @@ fn put_monitors(b: &mut [u8], t: &[u8], live: &[u8; State::MONITORS])
     }
 }
 
-// Writes the numbers of a pair into its row: ticks since a good packet, ticks, packets and sum of the window, the kept RSSI.
+// Writes the numbers of a pair into its row: ticks since a good packet, ticks, packets and sum of the window, the
+// kept RSSI.
 fn put_numbers(row: &mut [u8], t: &[u8], n: usize, a: usize, k: usize)
     requires { ⌜ (length (now row) ≡ pairSize) × Looks (now t) a k n ⌝ }
-    ensures { λ _. ⌜ ((h : ℕ) → now (row .exit) ≡ put (now (row .entry)) silentAt (numbersOf (pairAt (now (t .entry)) n h a k))) ⌝ }
+    ensures { λ _. ⌜
+        ((h : ℕ) → now (row .exit) ≡ put (now (row .entry)) silentAt (numbersOf (pairAt (now (t .entry)) n h a k))) ⌝ }
 {
     let w = pairs::window_of(t, a, k, n);
     octets::put16(row, State::SILENT_AT, pairs::silent(t, a, k, n));
@@ -92,11 +99,13 @@ fn put_numbers(row: &mut [u8], t: &[u8], n: usize, a: usize, k: usize)
     row[State::RSSI_AT] = pairs::kept_rssi(t, a, k, n);
 }
 
-// The number of the packet that the last fields tell of, 0 where there is none: the last reason for a report where the monitor filters duplicates, else
-// the latest in the window.
+// The number of the packet that the last fields tell of, 0 where there is none: the last reason for a report where
+// the monitor filters duplicates, else the latest in the window.
 fn last_of(t: &[u8], a: usize, k: usize, n: usize) -> usize
     requires { ⌜ Looks (now t) a k n ⌝ }
-    ensures { λ r. ⌜ Maybe (now (t .entry)) n r × ((h : ℕ) → numbered (now (t .entry)) r ≡ Pair.lastOf (startOf (now (t .entry)) h a k) (after (now (t .entry)) k (n - k))) ⌝ }
+    ensures { λ r. ⌜ Maybe (now (t .entry)) n r
+        × ((h : ℕ) → numbered (now (t .entry)) r
+        ≡ Pair.lastOf (startOf (now (t .entry)) h a k) (after (now (t .entry)) k (n - k))) ⌝ }
 {
     if pairs::is_sifting(t, a) {
         return pairs::last_reason(t, a, k, n);
@@ -149,7 +158,8 @@ fn pair_row(t: &[u8], n: usize, h: u8, a: usize, k: usize) -> [u8; State::PAIR_R
 // Writes the rows of the pairs under watch after n frames.
 fn put_pairs(b: &mut [u8], t: &[u8], n: usize, seen: Seen)
     requires { ⌜ (blockSize ≤ length (now b)) × Frames (now t) n × Held seen × All (Marked (now t) n) (listOf seen) ⌝ }
-    ensures { λ _. ⌜ (now (b .exit) ≡ put (now (b .entry)) pairsAt (rowsOf (now (t .entry)) n (listOf seen))) × (length (rowsOf (now (t .entry)) n (listOf seen)) ≡ pairSize * seen .count) ⌝ }
+    ensures { λ _. ⌜ (now (b .exit) ≡ put (now (b .entry)) pairsAt (rowsOf (now (t .entry)) n (listOf seen)))
+        × (length (rowsOf (now (t .entry)) n (listOf seen)) ≡ pairSize * seen .count) ⌝ }
 {
     let mut j = 0;
     while j < seen.count {
@@ -168,7 +178,9 @@ fn put_pairs(b: &mut [u8], t: &[u8], n: usize, seen: Seen)
 // The state after n kept frames, into a block of settings and editions.
 pub(super) fn fill(b: &mut [u8], t: &[u8], n: usize)
     requires { ⌜ (blockSize ≤ length (now b)) × Frames (now t) n ⌝ }
-    ensures { λ _. ⌜ ((opcode : ℕ) (prefix x : List ℕ) → length prefix ≤ mostPrefix → now (b .entry) ≡ padded (fresh opcode prefix) ++ x → now (b .exit) ≡ padded (stateAfter opcode prefix (pastAt (now (t .entry)) n)) ++ x) ⌝ }
+    ensures { λ _. ⌜
+        ((opcode : ℕ) (prefix x : List ℕ) → length prefix ≤ mostPrefix → now (b .entry) ≡ padded (fresh opcode prefix)
+        ++ x → now (b .exit) ≡ padded (stateAfter opcode prefix (pastAt (now (t .entry)) n)) ++ x) ⌝ }
 {
     let seen = watch::after_all(t, n);
     let live = seen.live;

@@ -1,4 +1,5 @@
-// What the kept frames say of one pair under watch: the start is packet number k, its monitor was added by frame number a, and n frames are looked at.
+// What the kept frames say of one pair under watch: the start is packet number k, its monitor was added by frame
+// number a, and n frames are looked at.
 use super::heard;
 use super::kept;
 ghost use Prim.Native.Nat.{ℕ, _+_, _-_, _≤_, _<_};
@@ -100,7 +101,8 @@ pub(super) fn windowed(t: &[u8], a: usize) -> bool
 // The ticks in the window: each P-th tick since the start closes one.
 pub(super) fn phase(t: &[u8], a: usize, k: usize, n: usize) -> usize
     requires { ⌜ Looks (now t) a k n ⌝ }
-    ensures { λ r. ⌜ ((h : ℕ) → r ≡ windowTicks (startOf (now (t .entry)) h a k) (after (now (t .entry)) k (n - k))) × (r < 254) ⌝ }
+    ensures { λ r. ⌜ ((h : ℕ) → r ≡ windowTicks (startOf (now (t .entry)) h a k) (after (now (t .entry)) k (n - k)))
+        × (r < 254) ⌝ }
 {
     if !windowed(t, a) {
         return 0;
@@ -111,7 +113,8 @@ pub(super) fn phase(t: &[u8], a: usize, k: usize, n: usize) -> usize
 // Where the last frames begin that have so many ticks: behind the tick before them.
 fn behind_tick(t: &[u8], k: usize, n: usize, last: usize) -> usize
     requires { ⌜ Follows (now t) k n ⌝ }
-    ensures { λ r. ⌜ (k ≤ r) × (r ≤ n) × (after (now (t .entry)) r (n - r) ≡ stretch last (after (now (t .entry)) k (n - k))) ⌝ }
+    ensures { λ r. ⌜ (k ≤ r) × (r ≤ n)
+        × (after (now (t .entry)) r (n - r) ≡ stretch last (after (now (t .entry)) k (n - k))) ⌝ }
 {
     let mut left = last;
     let mut i = n;
@@ -130,7 +133,9 @@ fn behind_tick(t: &[u8], k: usize, n: usize, last: usize) -> usize
 // Where the window begins; at the end where there are no windows.
 fn window_from(t: &[u8], a: usize, k: usize, n: usize) -> usize
     requires { ⌜ Looks (now t) a k n ⌝ }
-    ensures { λ r. ⌜ (k ≤ r) × (r ≤ n) × ((h : ℕ) → heard (startOf (now (t .entry)) h a k) (after (now (t .entry)) r (n - r)) ≡ window (startOf (now (t .entry)) h a k) (after (now (t .entry)) k (n - k))) ⌝ }
+    ensures { λ r. ⌜ (k ≤ r) × (r ≤ n)
+        × ((h : ℕ) → heard (startOf (now (t .entry)) h a k) (after (now (t .entry)) r (n - r))
+        ≡ window (startOf (now (t .entry)) h a k) (after (now (t .entry)) k (n - k))) ⌝ }
 {
     if !windowed(t, a) {
         return n;
@@ -230,7 +235,9 @@ pub(super) fn is_sifting(t: &[u8], a: usize) -> bool
 // Whether packet number q is a duplicate of packet number r, 0 being none.
 pub(super) fn duplicates(t: &[u8], a: usize, r: usize, q: usize) -> bool
     requires { ⌜ Added (now t) a × (1 ≤ r → Sent (now t) r) × Sent (now t) q ⌝ }
-    ensures { λ b. ⌜ b ≡ (sifts (monAt (now (t .entry)) a) && Pair.alike (packetAt (now (t .entry)) q) (numbered (now (t .entry)) r)) ⌝ }
+    ensures { λ b. ⌜ b
+        ≡ (sifts (monAt (now (t .entry)) a) && Pair.alike (packetAt (now (t .entry)) q) (numbered (now (t .entry)) r))
+        ⌝ }
 {
     if !is_sifting(t, a) {
         return false;
@@ -277,7 +284,10 @@ fn reason_after(t: &[u8], a: usize, k: usize, r: usize, i: usize) -> usize
 // The number of the last packet that was a reason for a report, 0 where there is none.
 pub(super) fn last_reason(t: &[u8], a: usize, k: usize, n: usize) -> usize
     requires { ⌜ Looks (now t) a k n ⌝ }
-    ensures { λ r. ⌜ Maybe (now (t .entry)) n r × ((h : ℕ) → numbered (now (t .entry)) r ≡ lastReason (startOf (now (t .entry)) h a k) (heard (startOf (now (t .entry)) h a k) (after (now (t .entry)) k (n - k)))) ⌝ }
+    ensures { λ r. ⌜ Maybe (now (t .entry)) n r
+        × ((h : ℕ) → numbered (now (t .entry)) r
+        ≡ lastReason (startOf (now (t .entry)) h a k)
+        (heard (startOf (now (t .entry)) h a k) (after (now (t .entry)) k (n - k)))) ⌝ }
 {
     let mut r = start_reason(t, a, k);
     let mut i = k;

@@ -61,7 +61,8 @@ const FEATURES: [u8; 10] = [0x00, 0x00, 0x0C, 0x04, 0, 0, 0, 0, 0, 0];
 // The features, and the prefix with its length.
 fn features(head: &[u8], out: &mut [u8], opcode: u16) -> usize
     requires { ⌜ (length (now head) ≡ blockSize) × (answerRoom ≤ length (now out)) ⌝ }
-    ensures { λ r. ⌜ Replied (now (out .entry)) (now (out .exit)) r (complete opcode (featuresOf (prefixIn (now (head .entry))))) ⌝ }
+    ensures { λ r. ⌜ Replied (now (out .entry)) (now (out .exit)) r
+        (complete opcode (featuresOf (prefixIn (now (head .entry))))) ⌝ }
 {
     let k = octets::at_most(head[State::PREFIX_LENGTH_AT], State::PREFIX);
     let n = k as u8;
@@ -76,7 +77,8 @@ fn features(head: &[u8], out: &mut [u8], opcode: u16) -> usize
 // The status of a command with these parameters, behind what was seen before it.
 fn status_of(t: &[u8], i: usize, params: &[u8], seen: Seen) -> u8
     requires { ⌜ Agrees (now t) i seen × (1 ≤ length (now params)) ⌝ }
-    ensures { λ r. ⌜ ((o : ℕ) (p : List ℕ) → r ≡ status (Past.stateAfter o p (pastAt (now (t .entry)) i)) (now (params .entry))) ⌝ }
+    ensures { λ r. ⌜
+        ((o : ℕ) (p : List ℕ) → r ≡ status (Past.stateAfter o p (pastAt (now (t .entry)) i)) (now (params .entry))) ⌝ }
 {
     let sub = params[0];
     let live = seen.live;
@@ -110,7 +112,8 @@ fn handle_of(seen: Seen, status: u8) -> u8
 
 // The answer to the command that is frame i, behind what was seen before it.
 pub(super) fn reply(head: &[u8], t: &[u8], i: usize, seen: Seen, out: &mut [u8]) -> usize
-    requires { ⌜ (length (now head) ≡ blockSize) × Formed (now t) i × (kindAt (now t) i ≡ 1) × Agrees (now t) i seen × (answerRoom ≤ length (now out)) ⌝ }
+    requires { ⌜ (length (now head) ≡ blockSize) × Formed (now t) i × (kindAt (now t) i ≡ 1) × Agrees (now t) i seen
+        × (answerRoom ≤ length (now out)) ⌝ }
     ensures { λ r. ⌜ Replied (now (out .entry)) (now (out .exit)) r (saysAt (now (head .entry)) (now (t .entry)) i) ⌝ }
 {
     let params = heard::params_of(t, i + 1);

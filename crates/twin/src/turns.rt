@@ -62,8 +62,11 @@ fn level_at(t: &[u8], i: usize, seen: Seen, j: usize) -> u8
 
 // Of starts v and w the one that keeps less, v where they keep the same.
 fn lower(t: &[u8], i: usize, seen: Seen, v: usize, w: usize) -> usize
-    requires { ⌜ Frames (now t) (i + 1) × (v < mostPairs) × (w < mostPairs) × Marked (now t) (i + 1) (begunAt seen v) × Marked (now t) (i + 1) (begunAt seen w) ⌝ }
-    ensures { λ r. ⌜ r ≡ pick (ltb (levelIn (now (t .entry)) (i + 1) (begunAt seen w)) (levelIn (now (t .entry)) (i + 1) (begunAt seen v))) w v ⌝ }
+    requires { ⌜ Frames (now t) (i + 1) × (v < mostPairs) × (w < mostPairs) × Marked (now t) (i + 1) (begunAt seen v)
+        × Marked (now t) (i + 1) (begunAt seen w) ⌝ }
+    ensures { λ r. ⌜ r
+        ≡ pick (ltb (levelIn (now (t .entry)) (i + 1) (begunAt seen w))
+        (levelIn (now (t .entry)) (i + 1) (begunAt seen v))) w v ⌝ }
 {
     if level_at(t, i, seen, w) < level_at(t, i, seen, v) {
         return w;
@@ -98,7 +101,10 @@ pub(super) fn no_turn(seen: Seen) -> Turn
 // Whether packet i would start a pair of handle h, room apart.
 pub(super) fn wants(t: &[u8], i: usize, h: u8, a: usize, seen: Seen) -> bool
     requires { ⌜ Comes (now t) i × Added (now t) a × Held seen × All (Marked (now t) (i + 1)) (listOf seen) ⌝ }
-    ensures { λ r. ⌜ r ≡ (matches (monAt (now (t .entry)) a) (packetOf (payloadAt (now (t .entry)) i)) && (strong (monAt (now (t .entry)) a) (packetOf (payloadAt (now (t .entry)) i)) && not (some (pairIn (now (t .entry)) i h) (listOf seen)))) ⌝ }
+    ensures { λ r. ⌜ r
+        ≡ (matches (monAt (now (t .entry)) a) (packetOf (payloadAt (now (t .entry)) i))
+        && (strong (monAt (now (t .entry)) a) (packetOf (payloadAt (now (t .entry)) i))
+        && not (some (pairIn (now (t .entry)) i h) (listOf seen)))) ⌝ }
 {
     let params = heard::params_of(t, a);
     if !heard::is_match(params, kept::payload_at(t, i)) {
@@ -110,7 +116,8 @@ pub(super) fn wants(t: &[u8], i: usize, h: u8, a: usize, seen: Seen) -> bool
     !holds(t, i, h, seen)
 }
 
-// A start at packet i: behind the others where there is room; else, where its RSSI is above the smallest kept, the first that keeps it goes.
+// A start at packet i: behind the others where there is room; else, where its RSSI is above the smallest kept, the
+// first that keeps it goes.
 pub(super) fn join(t: &[u8], i: usize, b: Begun, seen: Seen) -> Turn
     requires { ⌜ Frames (now t) (i + 1) × Comes (now t) i × Held seen × All (Marked (now t) (i + 1)) (listOf seen) ⌝ }
     ensures { λ r. ⌜ Joins (now (t .entry)) i b seen r ⌝ }

@@ -1,5 +1,5 @@
--- What it means that two engines answer alike, call by call: the answers to a list of calls, refusals among them, without the states. Document 02, T-07.
--- Definitions alone; the theorem is `same` of Proved.
+-- What it means that two engines answer alike, call by call: the answers to a list of calls, refusals among them,
+-- without the states. Document 02, T-07. Definitions alone; the theorem is `same` of Proved.
 use Prim.Native.Nat.{ℕ}
 use mathlib.Core.List.{List, [], _∷_}
 use Rattle.sessions.specs.Machine.{Outcome, refused, done}
@@ -9,7 +9,8 @@ use Rattle.editions.specs.Engine.{gateways}
 use Rattle.failover.specs.Grows.{growing}
 use Rattle.twins.specs.Twin.{Twin, addTwin, twins}
 
--- what a call gives to the one who made it: a refusal's number, or the octets that it writes, of an answer or of an image
+-- what a call gives to the one who made it: a refusal's number, or the octets that it writes, of an answer or of an
+-- image
 pub data Told : Type 0 where
   refusedBy : ℕ → Told
   wrote : List ℕ → Told

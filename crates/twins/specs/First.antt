@@ -1,5 +1,5 @@
--- The first engine, which the twin is compared with (document 02, T-07): what a call answers over whole blocks, and what a
--- start gives.
+-- The first engine, which the twin is compared with (document 02, T-07): what a call answers over whole blocks, and
+-- what a start gives.
 use Prim.Native.Nat.{ℕ}
 use mathlib.Core.List.{List}
 use Rattle.laws.specs.Tests.{pick}

@@ -1,6 +1,6 @@
--- The theorem of T-07: for every list of calls, the same given to both with the same settings, of which the first engine executes at most 128 frames, the
--- twin and the first engine give equal answers, refusals and images, call by call. Over records, and over the whole block that the calls' contracts cite.
--- Assumes nothing.
+-- The theorem of T-07: for every list of calls, the same given to both with the same settings, of which the first
+-- engine executes at most 128 frames, the twin and the first engine give equal answers, refusals and images, call by
+-- call. Over records, and over the whole block that the calls' contracts cite. Assumes nothing.
 use Prim.Native.Nat.{ℕ, _+_, _≤_}
 use mathlib.Core.Path.{_≡_, refl, sym, ap, _∙_, subst}
 use mathlib.Core.Bool.{Bool, true, false, _&&_}
@@ -8,7 +8,8 @@ use mathlib.Core.List.{List, [], _∷_, _++_}
 use native.Mathlib.Omega.{arith}
 use lib.Dec.{leb}
 use lib.ListN.{length, length-append}
-use Rattle.laws.specs.Tests.{pick, and-left, and-right}
+use Rattle.laws.specs.Tests.{pick}
+use Rattle.laws.specs.TestsLaws.{and-left, and-right}
 use Rattle.laws.specs.Loops.{every, keep}
 use Rattle.sessions.specs.Machine.{Outcome, refused, done}
 use Rattle.sessions.specs.Session.{after, give, refuseIf, reply, save, stateAfter}
@@ -19,9 +20,9 @@ use Rattle.model.specs.Layout.{mostPrefix}
 use Rattle.editions.specs.Editions.{Gateway, addEdition, freshOn, inForce, prefixFor, soundGateway}
 use Rattle.wholes.specs.Whole.{whole}
 use Rattle.wholes.specs.Engine.{addWhole, begin, blankOn, engine, onWholes}
-use Rattle.wholes.specs.Laid.{held-whole, sound-whole}
-use Rattle.failover.specs.Laid.{onto}
-use Rattle.failover.specs.Blocks.{answer-blocks, call-sound, image-blocks, onto-wholes}
+use Rattle.wholes.specs.LaidLaws.{held-whole, sound-whole}
+use Rattle.failover.specs.LaidLaws.{onto}
+use Rattle.failover.specs.BlocksLaws.{answer-blocks, call-sound, image-blocks, onto-wholes}
 use Rattle.editions.specs.Engine.{gateways}
 use Rattle.failover.specs.Grows.{growing}
 use Rattle.twins.specs.First.{beganOn, wholeBy}
@@ -29,8 +30,8 @@ use Rattle.failover.specs.Proved.{fresh-editions, fresh-gateway}
 use Rattle.pasts.specs.Past
 use Rattle.twins.specs.Twin.{Twin, beginTwin, freshTwin, gatewayOf, mostKept, pastFrom, pastOf, runAll}
 use Rattle.twins.specs.Claim.{tells, told, twinBy}
-use Rattle.twins.specs.Same.{Both, Matched, sound-holds}
-use Rattle.twins.specs.Calls.{called}
+use Rattle.twins.specs.SameLaws.{Both, Matched, sound-holds}
+use Rattle.twins.specs.CallsLaws.{called}
 
 from-both : (t : Twin) → Both t → (cs : List (Act gateways growing))
     → length (t .frames) + length (traceOn gateways growing (gatewayOf t) cs) ≤ mostKept
@@ -47,12 +48,14 @@ from-both t b (c ∷ cs) h =
     let u : Twin = stateAfter t (twinBy t c) in
     let n : length (u .frames) ≡ length (t .frames) + k = m .kept in
     let i : length (u .frames) + length (traceOn gateways growing (gatewayOf u) cs) ≤ mostKept =
-    subst (λ (q : Gateway). length (u .frames) + length (traceOn gateways growing q cs) ≤ mostKept) (m .state) (omega arith) in
+    subst (λ (q : Gateway). length (u .frames) + length (traceOn gateways growing q cs) ≤ mostKept) (m .state)
+    (omega arith) in
     rw (m .said, from-both u (m .both) cs i, m .state)
 
 -- the fresh states
 fresh-is : (opcode : ℕ) (prefix : List ℕ) → gatewayOf (freshTwin opcode prefix) ≡ freshOn opcode prefix
-unfolding gatewayOf freshTwin freshOn fresh pastOf pastFrom Past.stateAfter Past.filterAfter Past.monitorsAfter Past.listed Past.named Past.monitorAfter
+unfolding gatewayOf freshTwin freshOn fresh pastOf pastFrom Past.stateAfter Past.filterAfter Past.monitorsAfter
+    Past.listed Past.named Past.monitorAfter
     Past.watch Past.watchBy Past.deeds prefixFor inForce pick keep
 fresh-is opcode prefix = refl
 
@@ -71,7 +74,8 @@ fresh-both opcode prefix ok =
         room = omega arith;
         run = refl;
       });
-      first = subst (λ (g : Gateway). soundGateway g ≡ true) (sym (fresh-is opcode prefix)) (fresh-gateway opcode prefix ok);
+      first = subst (λ (g : Gateway). soundGateway g ≡ true) (sym (fresh-is opcode prefix))
+          (fresh-gateway opcode prefix ok);
     }
 
 none-kept : (opcode : ℕ) (prefix : List ℕ) → length (freshTwin opcode prefix .frames) ≡ 0
@@ -86,9 +90,12 @@ unfolding framesOn
 same opcode prefix ok calls h =
     let e : gatewayOf (freshTwin opcode prefix) ≡ freshOn opcode prefix = fresh-is opcode prefix in
     let k : length (freshTwin opcode prefix .frames) ≡ 0 = none-kept opcode prefix in
-    let i : length (freshTwin opcode prefix .frames) + length (traceOn gateways growing (gatewayOf (freshTwin opcode prefix)) calls) ≤ mostKept =
-    subst (λ (g : Gateway). length (freshTwin opcode prefix .frames) + length (traceOn gateways growing g calls) ≤ mostKept) (sym e) (omega arith) in
-    from-both (freshTwin opcode prefix) (fresh-both opcode prefix ok) calls i ∙ ap (λ (g : Gateway). tells (replyTo gateways growing) g calls) e
+    let i : length (freshTwin opcode prefix .frames) + length
+    (traceOn gateways growing (gatewayOf (freshTwin opcode prefix)) calls) ≤ mostKept =
+    subst (λ (g : Gateway). length (freshTwin opcode prefix .frames) + length (traceOn gateways growing g calls) ≤
+    mostKept) (sym e) (omega arith) in
+    from-both (freshTwin opcode prefix) (fresh-both opcode prefix ok) calls i
+    ∙ ap (λ (g : Gateway). tells (replyTo gateways growing) g calls) e
 
 told-onto : (o : Outcome Gateway) → told (onto whole o) ≡ told o
 unfolding told onto
@@ -100,14 +107,18 @@ unfolding stateAfter onto
 after-onto g (refused n) = refl
 after-onto g (done t w) = refl
 
-by-blocks : (g : Gateway) → soundGateway g ≡ true → (c : Act gateways growing) → wholeBy (whole g) c ≡ onto whole (replyTo gateways growing g c)
+by-blocks : (g : Gateway) → soundGateway g ≡ true → (c : Act gateways growing)
+    → wholeBy (whole g) c ≡ onto whole (replyTo gateways growing g c)
 unfolding wholeBy replyTo addWhole reply refuseIf
 by-blocks g s (call (give lent w r)) = answer-blocks g s lent w r
 by-blocks g s (call (save lent)) = image-blocks g s lent
 by-blocks g s (adds a) =
-    rw (sound-whole g s) (ap (λ (k : Gateway). onWholes (addEdition k (a .edition))) (held-whole g s) ∙ onto-wholes (addEdition g (a .edition)))
+    rw (sound-whole g s)
+    (ap (λ (k : Gateway). onWholes (addEdition k (a .edition))) (held-whole g s)
+    ∙ onto-wholes (addEdition g (a .edition)))
 
-after-sound : (g : Gateway) → soundGateway g ≡ true → (c : Act gateways growing) → soundGateway (stateAfter g (replyTo gateways growing g c)) ≡ true
+after-sound : (g : Gateway) → soundGateway g ≡ true → (c : Act gateways growing)
+    → soundGateway (stateAfter g (replyTo gateways growing g c)) ≡ true
 unfolding replyTo after stateAfter
 after-sound g s (call c) = call-sound g s c
 after-sound g s (adds a) = go (addEdition g (a .edition)) refl
@@ -129,12 +140,17 @@ unfolding soundSettings octetsUpTo every
 blank-sound = refl
 
 -- T-07's theorem, over blocks, whatever the settings are
-pub same-blocks : (opcode : ℕ) (prefix : List ℕ) (calls : List (Act gateways growing)) → framesOn gateways growing (beganOn opcode prefix) calls ≤ mostKept
+pub same-blocks : (opcode : ℕ) (prefix : List ℕ) (calls : List (Act gateways growing))
+    → framesOn gateways growing (beganOn opcode prefix) calls ≤ mostKept
     → tells twinBy (beginTwin opcode prefix) calls ≡ tells wholeBy (begin opcode prefix) calls
 unfolding begin beginTwin beganOn blankOn pick
 same-blocks opcode prefix calls = go (soundSettings opcode prefix) refl
   where
-    go : (b : Bool) → soundSettings opcode prefix ≡ b → framesOn gateways growing (pick b (freshOn opcode prefix) blankOn) calls ≤ mostKept
-        → tells twinBy (pick b (freshTwin opcode prefix) (freshTwin 0xFC00 [])) calls ≡ tells wholeBy (pick b (whole (freshOn opcode prefix)) (whole blankOn)) calls
-    go true e h = same opcode prefix e calls h ∙ sym (tells-blocks (freshOn opcode prefix) (fresh-gateway opcode prefix e) calls)
-    go false e h = same 0xFC00 [] blank-sound calls h ∙ sym (tells-blocks (freshOn 0xFC00 []) (fresh-gateway 0xFC00 [] blank-sound) calls)
+    go : (b : Bool) → soundSettings opcode prefix ≡ b
+        → framesOn gateways growing (pick b (freshOn opcode prefix) blankOn) calls ≤ mostKept
+        → tells twinBy (pick b (freshTwin opcode prefix) (freshTwin 0xFC00 [])) calls
+        ≡ tells wholeBy (pick b (whole (freshOn opcode prefix)) (whole blankOn)) calls
+    go true e h = same opcode prefix e calls h
+        ∙ sym (tells-blocks (freshOn opcode prefix) (fresh-gateway opcode prefix e) calls)
+    go false e h = same 0xFC00 [] blank-sound calls h
+        ∙ sym (tells-blocks (freshOn 0xFC00 []) (fresh-gateway 0xFC00 [] blank-sound) calls)

@@ -1,4 +1,4 @@
 -- Images of earlier formats, and what they become.
 pub mod Formats
-pub mod Kept
-pub mod Written
+pub mod KeptLaws
+pub mod WrittenLaws

@@ -1,2 +1,3 @@
 -- The book of visits.
 pub mod Book
+pub mod BookLaws

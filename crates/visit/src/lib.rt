@@ -1,14 +1,14 @@
-// The visits of devices, by the start and stop events of answers (document 01, Watching, by history): a book of the visits that are open,
-// and what an event, a cancelled monitor, a packet and the journal's end do to it. A visit's key is a number of 8 octets as they stand in an
-// event: address type, address, handle. By value: no row is lent.
+// The visits of devices, by the start and stop events of answers (document 01, Watching, by history): a book of the
+// visits that are open, and what an event, a cancelled monitor, a packet and the journal's end do to it. A visit's
+// key is a number of 8 octets as they stand in an event: address type, address, handle. By value: no row is lent.
 use state::State;
 ghost use Prim.Native.Nat.{ℕ, _+_, _*_, _/_, _%_, _≤_, _<_};
 ghost use mathlib.Core.Path.{_≡_};
 ghost use lib.ListN.{length, replicate};
 ghost use Rattle.visit.specs.Book.{nobody, isIn, placeIn, freeIn, toldOf, startedIn, rowsWithout, isFound, visitOut, heardBy, heardIn, changeRows, changeIs, changeVisit, meanOf};
 
-// A visit: whether it is open, its key, the frame and the tick of its start (frame 0: before the journal), the packets of the device heard
-// since, and the sum of their levels.
+// A visit: whether it is open, its key, the frame and the tick of its start (frame 0: before the journal), the
+// packets of the device heard since, and the sum of their levels.
 pub struct Visit {
     pub here: bool,
     pub key: u64,
@@ -32,7 +32,8 @@ pub struct Change {
     pub visit: Visit,
 }
 
-// The octet that opens an event of a pair, the octets of the shortest, and of what it has behind its prefix's end from the key on.
+// The octet that opens an event of a pair, the octets of the shortest, and of what it has behind its prefix's end
+// from the key on.
 const EVENT: u8 = 0xFF;
 
 const SHORTEST: usize = 12;
@@ -140,7 +141,8 @@ pub fn start(rows: [Visit; State::PAIRS], key: u64, frame: u32, tick: u32) -> [V
 
 // The first open visit with a key from one number to another, closed.
 pub fn close(rows: [Visit; State::PAIRS], low: u64, high: u64) -> Change
-    ensures { λ r. ⌜ (r .rows ≡ rowsWithout low high rows) × (r .closed ≡ isFound low high rows) × (r .visit ≡ visitOut low high rows) ⌝ }
+    ensures { λ r. ⌜ (r .rows ≡ rowsWithout low high rows) × (r .closed ≡ isFound low high rows)
+        × (r .visit ≡ visitOut low high rows) ⌝ }
 {
     let i = place(rows, low, high);
     let mut all = rows;
@@ -195,7 +197,9 @@ pub fn hear(rows: [Visit; State::PAIRS], device: u64, level: u8) -> [Visit; Stat
 
 // The book after an event of an answer to a frame at a tick.
 pub fn follow(rows: [Visit; State::PAIRS], event: &[u8], frame: u32, tick: u32) -> Change
-    ensures { λ r. ⌜ (r .rows ≡ changeRows (toldOf (now (event .entry))) rows frame tick) × (r .closed ≡ changeIs (toldOf (now (event .entry))) rows) × (r .visit ≡ changeVisit (toldOf (now (event .entry))) rows) ⌝ }
+    ensures { λ r. ⌜ (r .rows ≡ changeRows (toldOf (now (event .entry))) rows frame tick)
+        × (r .closed ≡ changeIs (toldOf (now (event .entry))) rows)
+        × (r .visit ≡ changeVisit (toldOf (now (event .entry))) rows) ⌝ }
 {
     let t = told(event);
     match t {

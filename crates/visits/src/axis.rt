@@ -6,7 +6,8 @@ use stays::Clock;
 use texts::Text;
 use texts::words;
 
-// Marks at most; ticks of a minute and a day; characters of a time's tenths, and of its seconds and tenths; how far above the lanes times are.
+// Marks at most; ticks of a minute and a day; characters of a time's tenths, and of its seconds and tenths; how far
+// above the lanes times are.
 const MARKS: u64 = 14;
 
 const MINUTE: u64 = 600;

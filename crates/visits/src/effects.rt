@@ -88,7 +88,8 @@ fn closed(
     }
 }
 
-// How a visit ended whose stop event is in the answer to a frame of a kind: at a tick by silence, at a packet by a full table.
+// How a visit ended whose stop event is in the answer to a frame of a kind: at a tick by silence, at a packet by a
+// full table.
 fn how_of(kind: u8) -> u8 {
     if kind == TICK {
         return stays::SILENCE;

@@ -1,6 +1,6 @@
-// The program `visits [--csv|--json|--svg] [--from TIME] IMAGE JOURNAL`: restores the image, replays the journal and writes the service record, a row
-// for each visit of a device (man/visits.1). What a visit is, is the crate visit's, and its row the crate stays'; here are files and words
-// of the command.
+// The program `visits [--csv|--json|--svg] [--from TIME] IMAGE JOURNAL`: restores the image, replays the journal and
+// writes the service record, a row for each visit of a device (man/visits.1). What a visit is, is the crate visit's,
+// and its row the crate stays'; here are files and words of the command.
 mod axis;
 mod drawing;
 mod effects;
@@ -12,7 +12,8 @@ mod rows;
 use libc::STDERR_FILENO;
 use stays::Clock;
 
-// What the options ask: words on how far it is, how rows are written, the clock; whether they are good; the place of the first name.
+// What the options ask: words on how far it is, how rows are written, the clock; whether they are good; the place of
+// the first name.
 struct Asked {
     progress: bool,
     style: u8,

@@ -1,4 +1,5 @@
-// The service record as a picture (--svg): the kept rows as bars, machines as rows of it, a lane for each monitor that watched one.
+// The service record as a picture (--svg): the kept rows as bars, machines as rows of it, a lane for each monitor
+// that watched one.
 use crate::axis;
 use crate::drawing;
 use crate::drawing::Pen;
@@ -8,7 +9,8 @@ use stays::Clock;
 use stays::Row;
 use texts::words;
 
-// Where labels begin; where a lane's label, its bar and the strip under the bar are; what stands below the lanes; ticks of a second.
+// Where labels begin; where a lane's label, its bar and the strip under the bar are; what stands below the lanes;
+// ticks of a second.
 const MARGIN: u64 = 8;
 
 const LABEL: u64 = 12;

@@ -1,7 +1,7 @@
-// The program of the service desk: `watchers IMAGE ADDRESS [TYPE]` restores the image and says how many monitors watch the device and the lowest
-// handle, or that there is none (document 02, T-02). The address is as people write it, the type `public`, which is taken where none is
-// given, or `random`. A refused image gives the refusal's number. What is asked and said is the crate desk's; here are files and
-// arguments.
+// The program of the service desk: `watchers IMAGE ADDRESS [TYPE]` restores the image and says how many monitors
+// watch the device and the lowest handle, or that there is none (document 02, T-02). The address is as people write
+// it, the type `public`, which is taken where none is given, or `random`. A refused image gives the refusal's number.
+// What is asked and said is the crate desk's; here are files and arguments.
 use engine::Loaded;
 use index::Watch;
 use index::Whole;

@@ -1,6 +1,6 @@
--- The engine over whole blocks, as a machine of the crate sessions: what the calls' contracts cite. It differs from the one over records
--- (crate editions, Engine) by the index alone: a frame, an addition, a start and a restore leave the whole block of the state, and a block
--- with another index is not sound. Document 02, T-02, T-12.
+-- The engine over whole blocks, as a machine of the crate sessions: what the calls' contracts cite. It differs from
+-- the one over records (crate editions, Engine) by the index alone: a frame, an addition, a start and a restore leave
+-- the whole block of the state, and a block with another index is not sound. Document 02, T-02, T-12.
 use Prim.Native.Nat.{ℕ}
 use mathlib.Core.Bool.{Bool, true, false, not}
 use mathlib.Core.List.{List, []}

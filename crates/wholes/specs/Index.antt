@@ -1,6 +1,6 @@
--- The index by device. Document 02, T-02: "Keep beside the pairs an index by device: address type, address and a 16-bit mask of the handles
--- that have it under watch"; "the index is the one worked out afresh from the pairs, devices in the order of their first held pair". And what
--- asking reads of it. Definitions alone.
+-- The index by device. Document 02, T-02: "Keep beside the pairs an index by device: address type, address and a
+-- 16-bit mask of the handles that have it under watch"; "the index is the one worked out afresh from the pairs,
+-- devices in the order of their first held pair". And what asking reads of it. Definitions alone.
 use Prim.Native.Nat.{ℕ, zero, suc, _+_, _-_, _*_, _/_, _%_, _^_}
 use mathlib.Core.Bool.{Bool, true, false}
 use mathlib.Core.List.{List, [], _∷_, _++_, map}

@@ -1,5 +1,6 @@
--- What stands behind the core of a block: the places of the index by device (document 02, T-02) and of the editions of the prefix (T-12).
--- `Whole` in the crate index has the same numbers for the code. All of these unfold everywhere: arithmetic sees the numbers.
+-- What stands behind the core of a block: the places of the index by device (document 02, T-02) and of the editions
+-- of the prefix (T-12). `Whole` in the crate index has the same numbers for the code. All of these unfold everywhere:
+-- arithmetic sees the numbers.
 use Prim.Native.Nat.{ℕ, _+_, _*_}
 use Rattle.model.specs.Layout.{blockSize, addressSize, mostPairs}
 use Rattle.editions.specs.Block.{editionCountAt, editionsSize}

@@ -1,5 +1,5 @@
--- The whole block of a state, and when a block is sound. Document 02, T-02: "A sound state has that index. It is not in the image."; T-12: the
--- editions of the prefix stand behind the index.
+-- The whole block of a state, and when a block is sound. Document 02, T-02: "A sound state has that index. It is not
+-- in the image."; T-12: the editions of the prefix stand behind the index.
 use Prim.Native.Nat.{ℕ}
 use mathlib.Core.Bool.{Bool, _&&_}
 use mathlib.Core.List.{List, _++_}

@@ -1,5 +1,5 @@
-// Words put into an output, each behind what it has, as far as there is room; the answer is the end then. The pieces of a line in words: numbers,
-// levels, addresses, UUIDs, names of numbers.
+// Words put into an output, each behind what it has, as far as there is room; the answer is the end then. The pieces
+// of a line in words: numbers, levels, addresses, UUIDs, names of numbers.
 ghost use Prim.Native.Nat.{_+_, _-_, _≤_, _<_, min};
 ghost use mathlib.Core.Path.{_≡_};
 ghost use mathlib.Core.List.{_++_};
@@ -92,14 +92,16 @@ pub fn said(out: &mut [u8; ROOM], at: usize, words: &[u8], n: u64) -> usize
 
 // Words and the number of an octet.
 pub fn octet(out: &mut [u8; ROOM], at: usize, words: &[u8], s: &[u8], i: usize) -> usize
-    ensures { λ r. ⌜ Says (now (out .entry)) at (now (words .entry) ++ decimal (numberAt 1 (now (s .entry)) i)) (now (out .exit)) r ⌝ }
+    ensures { λ r. ⌜ Says (now (out .entry)) at (now (words .entry) ++ decimal (numberAt 1 (now (s .entry)) i))
+        (now (out .exit)) r ⌝ }
 {
     said(out, at, words, octets::get8(s, i) as u64)
 }
 
 // Words and the number of 4 octets.
 pub fn long(out: &mut [u8; ROOM], at: usize, words: &[u8], s: &[u8], i: usize) -> usize
-    ensures { λ r. ⌜ Says (now (out .entry)) at (now (words .entry) ++ decimal (numberAt 4 (now (s .entry)) i)) (now (out .exit)) r ⌝ }
+    ensures { λ r. ⌜ Says (now (out .entry)) at (now (words .entry) ++ decimal (numberAt 4 (now (s .entry)) i))
+        (now (out .exit)) r ⌝ }
 {
     said(out, at, words, octets::get32(s, i) as u64)
 }
@@ -127,7 +129,8 @@ pub fn hex(out: &mut [u8; ROOM], at: usize, words: &[u8], s: &[u8]) -> usize
 
 // Words and a number in hexadecimal whose least significant octet comes first, the most significant first.
 pub fn number(out: &mut [u8; ROOM], at: usize, words: &[u8], s: &[u8]) -> usize
-    ensures { λ r. ⌜ Says (now (out .entry)) at (now (words .entry) ++ numberText (now (s .entry))) (now (out .exit)) r ⌝ }
+    ensures { λ r. ⌜ Says (now (out .entry)) at (now (words .entry) ++ numberText (now (s .entry))) (now (out .exit))
+        r ⌝ }
 {
     let mut end = put(out, at, words);
     let mut left = s.len();
@@ -140,7 +143,8 @@ pub fn number(out: &mut [u8; ROOM], at: usize, words: &[u8], s: &[u8]) -> usize
 
 // Words and a level in dBm, two's complement, at an index.
 pub fn level(out: &mut [u8; ROOM], at: usize, words: &[u8], s: &[u8], i: usize) -> usize
-    ensures { λ r. ⌜ Says (now (out .entry)) at (now (words .entry) ++ dbm (numberAt 1 (now (s .entry)) i)) (now (out .exit)) r ⌝ }
+    ensures { λ r. ⌜ Says (now (out .entry)) at (now (words .entry) ++ dbm (numberAt 1 (now (s .entry)) i))
+        (now (out .exit)) r ⌝ }
 {
     let a = put(out, at, words);
     let x = state::level_of(octets::get8(s, i));
@@ -192,7 +196,8 @@ fn groups(out: &mut [u8; ROOM], at: usize, s: &[u8]) -> usize
 
 // Words and the number of a UUID: 2 or 4 octets as a number, 16 in five groups, any other length as octets.
 fn uuid_number(out: &mut [u8; ROOM], at: usize, words: &[u8], s: &[u8]) -> usize
-    ensures { λ r. ⌜ Says (now (out .entry)) at (now (words .entry) ++ uuidNumber (now (s .entry))) (now (out .exit)) r ⌝ }
+    ensures { λ r. ⌜ Says (now (out .entry)) at (now (words .entry) ++ uuidNumber (now (s .entry))) (now (out .exit))
+        r ⌝ }
 {
     let n = s.len();
     let a = put(out, at, words);
@@ -207,7 +212,8 @@ fn uuid_number(out: &mut [u8; ROOM], at: usize, words: &[u8], s: &[u8]) -> usize
 
 // Words and a UUID: its number, and its name where it has one.
 pub fn uuid(out: &mut [u8; ROOM], at: usize, words: &[u8], s: &[u8]) -> usize
-    ensures { λ r. ⌜ Says (now (out .entry)) at (now (words .entry) ++ uuidText (now (s .entry))) (now (out .exit)) r ⌝ }
+    ensures { λ r. ⌜ Says (now (out .entry)) at (now (words .entry) ++ uuidText (now (s .entry))) (now (out .exit)) r
+        ⌝ }
 {
     let a = uuid_number(out, at, words, s);
     uuids::name(out, a, s)
@@ -215,7 +221,8 @@ pub fn uuid(out: &mut [u8; ROOM], at: usize, words: &[u8], s: &[u8]) -> usize
 
 // A number by its name in a table, or other words and the number in hexadecimal.
 pub fn name(out: &mut [u8; ROOM], at: usize, table: &[u8], words: &[u8], x: u8) -> usize
-    ensures { λ r. ⌜ Says (now (out .entry)) at (nameOr (now (table .entry)) (now (words .entry)) x) (now (out .exit)) r ⌝ }
+    ensures { λ r. ⌜ Says (now (out .entry)) at (nameOr (now (table .entry)) (now (words .entry)) x) (now (out .exit))
+        r ⌝ }
 {
     let known = names::find(table, x);
     if known.len() == 0 {

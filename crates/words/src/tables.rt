@@ -1,4 +1,5 @@
-// The tables of the names of 16-bit UUIDs (names/Uuids): one for each more significant octet that has any, its rows by the less significant one.
+// The tables of the names of 16-bit UUIDs (names/Uuids): one for each more significant octet that has any, its rows
+// by the less significant one.
 
 // Services that are adopted: 0x18.
 pub(super) const SERVICES: [u8; 1364] = *b"\x00\x0EGeneric Access\

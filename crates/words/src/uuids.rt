@@ -1,4 +1,5 @@
-// The name of a UUID in brackets, where it has one: 16-bit UUIDs by their two octets, and those of 4 or 16 octets that are one of them widened.
+// The name of a UUID in brackets, where it has one: 16-bit UUIDs by their two octets, and those of 4 or 16 octets
+// that are one of them widened.
 ghost use mathlib.Core.Path.{_≡_};
 ghost use Rattle.names.specs.Names.{named, nameIn};
 ghost use Rattle.names.specs.Uuids.{serviceRows, memberRowsFC, memberRowsFD, memberRowsFE, standardRows, uuidName};

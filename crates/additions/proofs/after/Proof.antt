@@ -8,24 +8,20 @@ use Rattle.additions.proofs.after.Reads as reads
 use Rattle.additions.proofs.after.Lts as lts
 use Rattle.additions.proofs.next.Reads as next-reads
 
--- src/lib.rt:127:20
 enum-told : tie.Need-enum-told
 enum-told c = search needs
 
--- src/lib.rt:127:20
 next-requires : tie.Need-next-requires
 next-requires c κs = search needs
 
--- src/lib.rt:130:24
 enum-known-r : tie.Need-enum-known-r
 enum-known-r c = search needs
 
--- src/lib.rt:121:1
 returns : tie.Need-returns
 unfolding courseAfter
-returns c = ap (λ n. record { held = 0; lines = n; stop = End }) (c .next .ensures) ∙ sym (ap (courseAfter (c .before .before .before .args .lines)) (c .before .enum-told .given .1))
+returns c = ap (λ n. record { held = 0; lines = n; stop = End }) (c .next .ensures)
+    ∙ sym (ap (courseAfter (c .before .before .before .args .lines)) (c .before .enum-told .given .1))
 
--- src/lib.rt:121:1
 returns-2 : tie.Need-returns-2
 unfolding courseAfter
 returns-2 c = sym (ap (courseAfter (c .before .before .before .args .lines)) (c .before .r .given .1))

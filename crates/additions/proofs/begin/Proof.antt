@@ -5,7 +5,6 @@ use Rattle.additions.proofs.begin.Tie as tie
 use Rattle.additions.proofs.begin.Reads as reads
 use Rattle.additions.proofs.begin.Lts as lts
 
--- src/lib.rt:100:1
 returns : tie.Need-returns
 unfolding begun
 returns c = refl

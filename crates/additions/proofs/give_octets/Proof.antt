@@ -1,7 +1,7 @@
 use borrow.Author.Tests.{not-true, not-false}
 use mathlib.Core.Path.{sym, _∙_}
 use native.Mathlib.Omega.{arith}
-use Rattle.additions.specs.Answers.{octets-other, octets-added, form-long}
+use Rattle.additions.specs.AnswersTurns.{octets-other, octets-added, form-long}
 use borrow.Author.Needs.{needs}
 use Rattle.additions.proofs.give_octets.Statement.{statement}
 use Rattle.additions.proofs.give_octets.Tie as tie
@@ -11,37 +11,34 @@ use Rattle.additions.proofs.is_addition.Reads as is-addition-reads
 use Rattle.engine.proofs.add.Reads as add-reads
 use Rattle.octets.proofs.get32.Reads as get32-reads
 
--- src/lib.rt:78:9
 is-addition-requires : tie.Need-is-addition-requires
 is-addition-requires c κs = search needs
 
--- src/lib.rt:79:9
 returns : tie.Need-returns
 returns c = octets-other _ _ (sym (c .before .is-addition .ensures) ∙ not-true _ (c .if1 .taken))
 
--- src/lib.rt:81:9
 get32-requires : tie.Need-get32-requires
 get32-requires c κs = search needs
 
--- src/lib.rt:82:28
 sub-add : tie.Need-sub-add
-sub-add c = form-long _ (sym (c .before .before .before .is-addition .ensures) ∙ not-false _ (c .before .before .if1 .left))
+sub-add c = form-long _
+    (sym (c .before .before .before .is-addition .ensures) ∙ not-false _ (c .before .before .if1 .left))
 
--- src/lib.rt:82:28
 part-add-start : tie.Need-part-add-start
-part-add-start c = form-long _ (sym (c .before .before .before .is-addition .ensures) ∙ not-false _ (c .before .before .if1 .left))
+part-add-start c =
+    form-long _ (sym (c .before .before .before .is-addition .ensures) ∙ not-false _ (c .before .before .if1 .left))
 
--- src/lib.rt:82:28
 part-add-end : tie.Need-part-add-end
 part-add-end c = search needs
 
--- src/lib.rt:82:5
 add-requires : tie.Need-add-requires
 add-requires c κs = search needs
 
--- src/lib.rt:74:1
 returns-2 : tie.Need-returns-2
-returns-2 c = octets-added _ _ (c .before .before .before .get32 .result) _ _ (sym (c .before .before .before .before .before .is-addition .ensures) ∙ not-false _ (c .before .before .before .before .if1 .left)) (c .before .before .before .get32 .ensures) (c .add .ensures)
+returns-2 c = octets-added _ _ (c .before .before .before .get32 .result) _ _
+    (sym (c .before .before .before .before .before .is-addition .ensures)
+    ∙ not-false _ (c .before .before .before .before .if1 .left)) (c .before .before .before .get32 .ensures)
+    (c .add .ensures)
 
 pub give-octets-spec : {M : Type 1} → statement M
 give-octets-spec =

@@ -1,5 +1,5 @@
 use native.Mathlib.Omega.{arith}
-use Rattle.additions.specs.Answers.{form-short, form-other, form-whole}
+use Rattle.additions.specs.AnswersTurns.{form-short, form-other, form-whole}
 use borrow.Author.Needs.{needs}
 use Rattle.additions.proofs.is_addition.Statement.{statement}
 use Rattle.additions.proofs.is_addition.Tie as tie
@@ -7,31 +7,24 @@ use Rattle.additions.proofs.is_addition.Reads as reads
 use Rattle.additions.proofs.is_addition.Lts as lts
 use Rattle.octets.proofs.wide.Reads as wide-reads
 
--- src/lib.rt:65:9
 returns : tie.Need-returns
 returns c = form-short _ (omega arith)
 
--- src/lib.rt:67:8
 shared-slice-read-if2 : tie.Need-shared-slice-read-if2
 shared-slice-read-if2 c = search needs
 
--- src/lib.rt:68:9
 returns-2 : tie.Need-returns-2
 returns-2 c = form-other _ (λ z. c .if2 .taken z)
 
--- src/lib.rt:70:35
 shared-slice-read-wide : tie.Need-shared-slice-read-wide
 shared-slice-read-wide c = search needs
 
--- src/lib.rt:70:22
 wide-requires : tie.Need-wide-requires
 wide-requires c κs = search needs
 
--- src/lib.rt:70:10
 add-result : tie.Need-add-result
 add-result c = search needs
 
--- src/lib.rt:60:1
 returns-3 : tie.Need-returns-3
 returns-3 c = form-whole _ (c .wide .result) (omega arith) (c .before .before .if2 .left) (c .wide .ensures .0)
 

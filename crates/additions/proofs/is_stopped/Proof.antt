@@ -6,20 +6,16 @@ use Rattle.additions.proofs.is_stopped.Tie as tie
 use Rattle.additions.proofs.is_stopped.Reads as reads
 use Rattle.additions.proofs.is_stopped.Lts as lts
 
--- src/lib.rt:115:22
 enum-told : tie.Need-enum-told
 enum-told c = search needs
 
--- src/lib.rt:116:29
 enum-told-2 : tie.Need-enum-told-2
 enum-told-2 c = search needs
 
--- src/lib.rt:111:1
 returns : tie.Need-returns
 unfolding isStopped
 returns c = sym (ap isStopped (c .enum-told .given .1))
 
--- src/lib.rt:111:1
 returns-2 : tie.Need-returns-2
 unfolding isStopped
 returns-2 c = sym (ap isStopped (c .enum-told2 .given .1))

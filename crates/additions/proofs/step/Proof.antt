@@ -2,7 +2,7 @@ use lib.ListN.{length-set}
 use lib.Seq.{length-take-le}
 use native.Mathlib.Omega.{arith}
 use mathlib.Core.Path.{refl, sym, ap, _∙_}
-use Rattle.additions.specs.Answers.{step-stopped, step-ended, step-longer}
+use Rattle.additions.specs.AnswersTurns.{step-stopped, step-ended, step-longer}
 use borrow.Author.Needs.{needs}
 use Rattle.additions.proofs.step.Statement.{statement}
 use Rattle.additions.proofs.step.Tie as tie
@@ -13,61 +13,60 @@ use Rattle.additions.proofs.give.Reads as give-reads
 use Rattle.additions.proofs.is_stopped.Reads as is-stopped-reads
 use Rattle.additions.proofs.least.Reads as least-reads
 
--- src/lib.rt:145:8
 is-stopped-requires : tie.Need-is-stopped-requires
 is-stopped-requires c κs = search needs
 
--- src/lib.rt:146:9
 returns : tie.Need-returns
 returns c = step-stopped _ _ _ _ (sym (c .before .is-stopped .ensures) ∙ c .if1 .taken)
 
--- src/lib.rt:148:9
 least-requires : tie.Need-least-requires
 least-requires c κs = search needs
 
--- src/lib.rt:149:5
 slice-write-line : tie.Need-slice-write-line
 slice-write-line c = search needs
 
--- src/lib.rt:150:15
 add-end : tie.Need-add-end
 add-end c = search needs
 
--- src/lib.rt:152:44
 slice-reshare-prefix-give : tie.Need-slice-reshare-prefix-give
 slice-reshare-prefix-give c = simp length-set (omega (arith, c .before .before .least .ensures))
 
--- src/lib.rt:152:44
 slice-aggregate-give : tie.Need-slice-aggregate-give
-slice-aggregate-give c = sym (length-take-le _ _ (simp length-set (omega (arith, c .before .before .before .least .ensures))))
+slice-aggregate-give c =
+    sym (length-take-le _ _ (simp length-set (omega (arith, c .before .before .before .least .ensures))))
 
--- src/lib.rt:152:36
 give-requires : tie.Need-give-requires
 give-requires c κs = search needs
 
--- src/lib.rt:152:9
 after-requires : tie.Need-after-requires
 after-requires c κs = search needs
 
--- src/lib.rt:152:9
 same-length : tie.Need-same-length
 same-length c = search needs
 
--- src/lib.rt:152:9
 returns-2 : tie.Need-returns-2
-returns-2 c = let a = c .before .before .before .before .before .before .before .before .before .args in step-ended (a .s .now) (a .line .now) (a .course) (a .c) (sym (c .before .before .before .before .before .before .before .is-stopped .ensures) ∙ c .before .before .before .before .before .before .if1 .left) (c .before .before .before .before .before .least .result) (c .before .before .before .before .before .least .ensures) (c .before .before .before .before .if2 .taken) (c .before .give .result) (c .before .give .last .0) (c .after .result) (c .before .give .ensures) (c .after .ensures)
+returns-2 c = let a =
+    c .before .before .before .before .before .before .before .before .before .args in step-ended (a .s .now)
+    (a .line .now) (a .course) (a .c)
+    (sym (c .before .before .before .before .before .before .before .is-stopped .ensures)
+    ∙ c .before .before .before .before .before .before .if1 .left)
+    (c .before .before .before .before .before .least .result)
+    (c .before .before .before .before .before .least .ensures) (c .before .before .before .before .if2 .taken)
+    (c .before .give .result) (c .before .give .last .0) (c .after .result) (c .before .give .ensures)
+    (c .after .ensures)
 
--- src/lib.rt:155:15
 least-requires-2 : tie.Need-least-requires-2
 least-requires-2 c κs = search needs
 
--- src/lib.rt:139:1
 same-length-2 : tie.Need-same-length-2
 same-length-2 c = search needs
 
--- src/lib.rt:139:1
 returns-3 : tie.Need-returns-3
-returns-3 c = let a = c .before .before .before .before .before .before .args in step-longer (a .s .now) (a .line .now) (a .course) (a .c) (sym (c .before .before .before .before .is-stopped .ensures) ∙ c .before .before .before .if1 .left) (c .before .before .least .result) (c .before .before .least .ensures) (λ z. c .before .if2 .left z) (c .least2 .result) (c .least2 .ensures)
+returns-3 c = let a =
+    c .before .before .before .before .before .before .args in step-longer (a .s .now) (a .line .now) (a .course)
+    (a .c) (sym (c .before .before .before .before .is-stopped .ensures) ∙ c .before .before .before .if1 .left)
+    (c .before .before .least .result) (c .before .before .least .ensures) (λ z. c .before .if2 .left z)
+    (c .least2 .result) (c .least2 .ensures)
 
 pub step-spec : {M : Type 1} → statement M
 step-spec =

@@ -1,7 +1,7 @@
 use mathlib.Core.Path.{sym}
 use native.Mathlib.Omega.{arith}
 use borrow.Author.Needs.{needs}
-use Rattle.advert.specs.Address.{address-none, address-form}
+use Rattle.advert.specs.AddressLaws.{address-none, address-form}
 use Rattle.advert.proofs.address_form.Statement.{statement}
 use Rattle.advert.proofs.address_form.Tie as tie
 

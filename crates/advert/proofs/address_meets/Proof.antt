@@ -1,4 +1,4 @@
-use Rattle.advert.specs.Address.{address-other, address-meets}
+use Rattle.advert.specs.AddressLaws.{address-other, address-meets}
 use mathlib.Core.Path.{sym}
 use native.Mathlib.Omega.{arith}
 use borrow.Author.Needs.{needs}
@@ -25,7 +25,8 @@ compare-requires c κs = search needs
 
 returns-3 : tie.Need-returns-3
 returns-3 c = let a = c .before .before .before .before .before .before .before .args in
-    rw (c .before .compare .ensures .0) (sym (address-meets (a .condition .now) (a .address-type) (a .address .now) (omega arith)))
+    rw (c .before .compare .ensures .0)
+    (sym (address-meets (a .condition .now) (a .address-type) (a .address .now) (omega arith)))
 
 pub address-meets-spec : {M : Type 1} → statement M
 address-meets-spec =

@@ -1,4 +1,4 @@
-use Rattle.advert.specs.Irk.{irk-public, irk-random}
+use Rattle.advert.specs.IrkLaws.{irk-public, irk-random}
 use borrow.Author.Needs.{needs}
 use Rattle.advert.proofs.irk_meets.Statement.{statement}
 use Rattle.advert.proofs.irk_meets.Tie as tie

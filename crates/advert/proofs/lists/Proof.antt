@@ -3,7 +3,8 @@ use mathlib.Core.Path.{_≡_, refl, sym, _∙_}
 use native.Mathlib.Omega.{arith}
 use borrow.Author.Needs.{needs}
 use lib.ListN.{length, drop}
-use Rattle.advert.specs.Uuid.{listed, listed-end, listed-hit, listed-miss}
+use Rattle.advert.specs.Uuid.{listed}
+use Rattle.advert.specs.UuidLaws.{listed-end, listed-hit, listed-miss}
 use Rattle.advert.proofs.lists.Statement.{statement}
 use Rattle.advert.proofs.lists.Tie as tie
 use Rattle.advert.proofs.lists.Reads as reads
@@ -26,7 +27,8 @@ compare-requires : tie.Need-compare-requires Inv-loop μ-loop
 compare-requires c κs = search needs
 
 returns : tie.Need-returns Inv-loop μ-loop
-returns c = listed-hit _ _ (c .before .before .before .loop .i) _ (c .before .before .before .loop .inv .1) (omega arith) (omega arith) (sym (c .before .compare .ensures .0) ∙ c .if1 .taken)
+returns c = listed-hit _ _ (c .before .before .before .loop .i) _ (c .before .before .before .loop .inv .1)
+    (omega arith) (omega arith) (sym (c .before .compare .ensures .0) ∙ c .if1 .taken)
 
 add-i : tie.Need-add-i Inv-loop μ-loop
 add-i c = omega arith
@@ -37,7 +39,8 @@ loop-less c = omega arith
 loop-again : tie.Need-loop-again Inv-loop μ-loop
 loop-again c = let l = c .before .before .before .loop in (
   omega arith,
-  listed-miss _ _ (l .i) _ (l .inv .1) (omega arith) (omega arith) (sym (c .before .compare .ensures .0) ∙ c .if1 .left),
+  listed-miss _ _ (l .i) _ (l .inv .1) (omega arith) (omega arith)
+      (sym (c .before .compare .ensures .0) ∙ c .if1 .left),
 )
 
 returns-2 : tie.Need-returns-2 Inv-loop μ-loop

@@ -4,9 +4,12 @@ use native.Mathlib.Omega.{arith}
 use borrow.Author.Needs.{needs}
 use lib.ListN.{length, drop}
 use Rattle.laws.specs.Loops.{some}
-use Rattle.advert.specs.Parts.{parts, part-least}
-use Rattle.advert.specs.Pattern.{patternsMeet, patterns, patternMeets, asked-end, asked-none, asked-hit, asked-miss}
-use Rattle.advert.specs.Cost.{Counted, wrapped, counted-none, counted-end, counted-last, counted-hit, counted-miss}
+use Rattle.advert.specs.Parts.{parts}
+use Rattle.advert.specs.PartsLaws.{part-least}
+use Rattle.advert.specs.Pattern.{patternsMeet, patterns, patternMeets}
+use Rattle.advert.specs.PatternLaws.{asked-end, asked-none, asked-hit, asked-miss}
+use Rattle.advert.specs.Cost.{wrapped}
+use Rattle.advert.specs.CostLaws.{Counted, counted-none, counted-end, counted-last, counted-hit, counted-miss}
 use Rattle.advert.proofs.match_cost.Statement.{statement}
 use Rattle.advert.proofs.match_cost.Tie as tie
 use Rattle.advert.proofs.match_cost.Reads as reads
@@ -17,7 +20,8 @@ use Rattle.std.proofs.num.wrapping_add_usize.Reads as wrapping-add-usize-reads
 
 abbrev Inv-loop : tie.InvT-loop
 Inv-loop condition adv scan count₀ i₀ count i =
-    (patternsMeet condition adv scan ≡ some (patternMeets adv scan) (parts 3 (drop i condition))) × Counted condition adv scan i count
+    (patternsMeet condition adv scan ≡ some (patternMeets adv scan) (parts 3 (drop i condition)))
+    × Counted condition adv scan i count
 
 abbrev μ-loop : tie.MeasureT-loop
 μ-loop condition adv scan count₀ i₀ count i = length condition - i
@@ -55,7 +59,8 @@ wrapping-add-usize-requires c κs = search needs
 
 returns-2 : tie.Need-returns-2 Inv-loop μ-loop
 unfolding wrapped
-returns-2 c = let l = c .before .before .before .before .before .before .before .loop in let p = c .before .before .before .before .before .part-end .ensures in
+returns-2 c = let l = c .before .before .before .before .before .before .before .loop in let p =
+    c .before .before .before .before .before .part-end .ensures in
     let m = c .before .before .pattern-cost .ensures in let y = sym (m .0) ∙ c .if2 .taken in (
       asked-hit _ _ (l .i) _ (l .inv .0) _ p (omega arith) y,
       counted-hit _ _ _ (l .i) _ (l .inv .1) _ p (omega arith) (m .1) (c .before .wrapping-add-usize .ensures) y,
@@ -66,7 +71,8 @@ loop-less c = omega arith
 
 loop-again : tie.Need-loop-again Inv-loop μ-loop
 unfolding wrapped
-loop-again c = let l = c .before .before .before .before .before .before .before .loop in let p = c .before .before .before .before .before .part-end .ensures in
+loop-again c = let l = c .before .before .before .before .before .before .before .loop in let p =
+    c .before .before .before .before .before .part-end .ensures in
     let m = c .before .before .pattern-cost .ensures in let y = sym (m .0) ∙ c .if2 .left in (
       asked-miss _ _ (l .i) _ (l .inv .0) _ p (omega arith) y,
       counted-miss _ _ _ (l .i) _ (l .inv .1) _ p (omega arith) (m .1) (c .before .wrapping-add-usize .ensures) y,

@@ -36,13 +36,25 @@ address-meets-requires c κs = search needs
 returns-4 : tie.Need-returns-4
 unfolding meets pick
 returns-4 c = let k = c .before .before .before .before .before .before .before .before .before .args .kind in
-    rw (ne-eqb k 1 (λ z. omega arith), ne-eqb k 2 (λ z. omega arith), ne-eqb k 3 (λ z. omega arith), eq-eqb k 4 (omega arith))
+    rw (
+      ne-eqb k 1 (λ z. omega arith),
+      ne-eqb k 2 (λ z. omega arith),
+      ne-eqb k 3 (λ z. omega arith),
+      eq-eqb k 4
+          (omega arith),
+    )
     (c .address-meets .ensures)
 
 returns-5 : tie.Need-returns-5
 unfolding meets pick
 returns-5 c = let k = c .before .before .before .before .before .before .before .before .args .kind in
-    rw (ne-eqb k 1 (λ z. omega arith), ne-eqb k 2 (λ z. omega arith), ne-eqb k 3 (λ z. omega arith), ne-eqb k 4 (λ z. omega arith))
+    rw (
+      ne-eqb k 1 (λ z. omega arith),
+      ne-eqb k 2 (λ z. omega arith),
+      ne-eqb k 3 (λ z. omega arith),
+      ne-eqb k 4
+          (λ z. omega arith),
+    )
 
 pub match-packet-spec : {M : Type 1} → statement M
 match-packet-spec =

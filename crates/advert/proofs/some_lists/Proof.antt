@@ -1,4 +1,5 @@
-use Rattle.advert.specs.Either.{textOf, both, left, rest, left-all, tried-none, tried-hit, tried-miss, tried-done}
+use Rattle.advert.specs.Either.{textOf, both, left, rest}
+use Rattle.advert.specs.EitherLaws.{left-all, tried-none, tried-hit, tried-miss, tried-done}
 use Rattle.advert.specs.Uuid.{listed}
 use Rattle.laws.specs.Loops.{some}
 use borrow.Author.Needs.{needs}
@@ -29,7 +30,8 @@ next-section-requires : tie.Need-next-section-requires Inv-loop μ-loop
 next-section-requires c κs = c .before .before .before .loop .inv .0
 
 returns : tie.Need-returns Inv-loop μ-loop
-returns c = tried-none _ _ _ _ _ _ _ (c .before .before .before .before .before .loop .inv .1) (c .before .next-section .ensures) (c .if1 .taken)
+returns c = tried-none _ _ _ _ _ _ _ (c .before .before .before .before .before .loop .inv .1)
+    (c .before .next-section .ensures) (c .if1 .taken)
 
 sub-lists : tie.Need-sub-lists Inv-loop μ-loop
 sub-lists c = let h = c .if1 .left in omega arith
@@ -44,24 +46,36 @@ lists-requires : tie.Need-lists-requires Inv-loop μ-loop
 lists-requires c κs = search needs
 
 returns-2 : tie.Need-returns-2 Inv-loop μ-loop
-returns-2 c = tried-hit _ _ _ _ _ _ _ (c .before .before .before .before .before .before .before .before .loop .inv .1) (c .before .before .before .before .next-section .ensures) (c .before .before .before .if1 .left) (sym (c .before .lists .ensures) ∙ c .if2 .taken)
+returns-2 c = tried-hit _ _ _ _ _ _ _
+    (c .before .before .before .before .before .before .before .before .loop .inv .1)
+    (c .before .before .before .before .next-section .ensures) (c .before .before .before .if1 .left)
+    (sym (c .before .lists .ensures) ∙ c .if2 .taken)
 
 has-more-requires : tie.Need-has-more-requires Inv-loop μ-loop
 has-more-requires c κs = search needs
 
 returns-3 : tie.Need-returns-3 Inv-loop μ-loop
 returns-3 c = let y = sym (c .before .before .before .lists .ensures) ∙ c .before .before .if2 .left in
-    tried-done _ _ _ _ _ _ _ (tried-miss _ _ _ _ _ _ _ (c .before .before .before .before .before .before .before .before .before .before .loop .inv .1) (c .before .before .before .before .before .before .next-section .ensures) (c .before .before .before .before .before .if1 .left) y)
+    tried-done _ _ _ _ _ _ _
+    (tried-miss _ _ _ _ _ _ _
+    (c .before .before .before .before .before .before .before .before .before .before .loop .inv .1)
+    (c .before .before .before .before .before .before .next-section .ensures)
+    (c .before .before .before .before .before .if1 .left) y)
     (c .before .has-more .ensures (not-true _ (c .if3 .taken)))
 
 loop-less : tie.Need-loop-less Inv-loop μ-loop
-loop-less c = let w = c .before .before .before .before .before .before .next-section .ensures .less (c .before .before .before .before .before .if1 .left) in omega arith
+loop-less c = let w =
+    c .before .before .before .before .before .before .next-section .ensures .less
+    (c .before .before .before .before .before .if1 .left) in omega arith
 
 loop-again : tie.Need-loop-again Inv-loop μ-loop
-loop-again c = let s = c .before .before .before .before .before .before in let y = sym (c .before .before .before .lists .ensures) ∙ c .before .before .if2 .left in (
-  s .next-section .ensures .high,
-  tried-miss _ _ _ _ _ _ _ (c .before .before .before .before .before .before .before .before .before .before .loop .inv .1) (s .next-section .ensures) (c .before .before .before .before .before .if1 .left) y,
-)
+loop-again c = let s = c .before .before .before .before .before .before in let y =
+    sym (c .before .before .before .lists .ensures) ∙ c .before .before .if2 .left in (
+      s .next-section .ensures .high,
+      tried-miss _ _ _ _ _ _ _
+          (c .before .before .before .before .before .before .before .before .before .before .loop .inv .1)
+          (s .next-section .ensures) (c .before .before .before .before .before .if1 .left) y,
+    )
 
 pub some-lists-spec : {M : Type 1} → statement M
 some-lists-spec =

@@ -1,7 +1,8 @@
 use mathlib.Core.Path.{sym}
 use native.Mathlib.Omega.{arith}
 use borrow.Author.Needs.{needs}
-use Rattle.advert.specs.Uuid.{uuidSize, uuid-none, uuid-form}
+use Rattle.advert.specs.Uuid.{uuidSize}
+use Rattle.advert.specs.UuidLaws.{uuid-none, uuid-form}
 use Rattle.advert.proofs.uuid_form.Statement.{statement}
 use Rattle.advert.proofs.uuid_form.Tie as tie
 

@@ -5,8 +5,9 @@ use native.Mathlib.Omega.{arith}
 use borrow.Author.Needs.{needs}
 use borrow.Author.Tests.{not-true, not-false}
 use lib.ListN.{length, getD, length-drop}
-use Rattle.advert.specs.Parts.{rest-whole}
-use Rattle.advert.specs.Uuid.{uuidForm, uuid-bounds, uuid-bad, uuid-of}
+use Rattle.advert.specs.PartsLaws.{rest-whole}
+use Rattle.advert.specs.Uuid.{uuidForm}
+use Rattle.advert.specs.UuidLaws.{uuid-bounds, uuid-bad, uuid-of}
 use Rattle.advert.proofs.some_lists.Reads as some-lists-reads
 use Rattle.advert.proofs.uuid_form.Reads as uuid-form-reads
 use Rattle.advert.proofs.uuid_meets.Lts as lts

@@ -35,13 +35,25 @@ address-form-requires c κs = search needs
 returns-4 : tie.Need-returns-4
 unfolding wellFormed pick
 returns-4 c = let k = c .before .before .before .before .before .before .args .kind in
-    rw (ne-eqb k 1 (λ z. omega arith), ne-eqb k 2 (λ z. omega arith), ne-eqb k 3 (λ z. omega arith), eq-eqb k 4 (omega arith))
+    rw (
+      ne-eqb k 1 (λ z. omega arith),
+      ne-eqb k 2 (λ z. omega arith),
+      ne-eqb k 3 (λ z. omega arith),
+      eq-eqb k 4
+          (omega arith),
+    )
     (c .address-form .ensures)
 
 returns-5 : tie.Need-returns-5
 unfolding wellFormed pick
 returns-5 c = let k = c .before .before .before .before .before .args .kind in
-    rw (ne-eqb k 1 (λ z. omega arith), ne-eqb k 2 (λ z. omega arith), ne-eqb k 3 (λ z. omega arith), ne-eqb k 4 (λ z. omega arith))
+    rw (
+      ne-eqb k 1 (λ z. omega arith),
+      ne-eqb k 2 (λ z. omega arith),
+      ne-eqb k 3 (λ z. omega arith),
+      ne-eqb k 4
+          (λ z. omega arith),
+    )
 
 pub well-formed-spec : {M : Type 1} → statement M
 well-formed-spec =

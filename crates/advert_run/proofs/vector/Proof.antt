@@ -92,7 +92,9 @@ array-share-prefix-condition : tie.Need-array-share-prefix-condition
 array-share-prefix-condition c = search needs
 
 slice-aggregate-answer : tie.Need-slice-aggregate-answer
-slice-aggregate-answer c = let f = c .before .before .before .before .before .before .before .before .before .before .before .before .before .before .field2 in
+slice-aggregate-answer c = let f =
+    c .before .before .before .before .before .before .before .before .before .before .before .before .before .before
+    .field2 in
     sym (length-take-le (f .result) (f .last .1 .1 .0) (f .ensures .0))
 
 array-read-answer-2 : tie.Need-array-read-answer-2
@@ -102,7 +104,8 @@ array-share-prefix-address : tie.Need-array-share-prefix-address
 array-share-prefix-address c = search needs
 
 slice-aggregate-answer-2 : tie.Need-slice-aggregate-answer-2
-slice-aggregate-answer-2 c = let f = c .before .before .before .before .before .before .before .before .before .field4 in
+slice-aggregate-answer-2 c = let f =
+    c .before .before .before .before .before .before .before .before .before .field4 in
     sym (length-take-le (f .result) (f .last .1 .1 .0) (f .ensures .0))
 
 array-share-prefix-adv : tie.Need-array-share-prefix-adv

@@ -1,4 +1,4 @@
-use Rattle.fips197.specs.Words.{octets-word}
+use Rattle.fips197.specs.WordsLaws.{octets-word}
 use borrow.Author.Needs.{needs}
 use Rattle.aes.proofs.column.Statement.{statement}
 use Rattle.aes.proofs.column.Tie as tie

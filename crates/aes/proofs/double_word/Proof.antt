@@ -1,5 +1,5 @@
 use native.Mathlib.Omega.{arith}
-use Rattle.aes.specs.Mixed.{high-le, low-fits, top-fits, doubled}
+use Rattle.aes.specs.MixedLaws.{high-le, low-fits, top-fits, doubled}
 use Rattle.aes.proofs.double_word.Statement.{statement}
 use Rattle.aes.proofs.double_word.Tie as tie
 

@@ -1,4 +1,4 @@
-use Rattle.aes.specs.Mixed.{mixed}
+use Rattle.aes.specs.MixedLaws.{mixed}
 use borrow.Author.Needs.{needs}
 use Rattle.aes.proofs.mix_column.Statement.{statement}
 use Rattle.aes.proofs.mix_column.Tie as tie
@@ -29,8 +29,16 @@ sum-requires-4 c κs = search needs
 
 returns : tie.Need-returns
 returns c =
-    mixed (c .before .before .before .before .before .before .before .before .args .w) (c .before .before .before .before .before .before .before .double-word .result) (c .before .before .before .before .before .before .sum .result) (c .before .before .before .before .before .turn1 .result) (c .before .before .before .before .sum2 .result) (c .before .before .before .turn2 .result) (c .before .before .sum3 .result) (c .before .turn3 .result) (c .sum4 .result)
-    (c .before .before .before .before .before .before .before .double-word .ensures) (c .before .before .before .before .before .before .sum .ensures) (c .before .before .before .before .before .turn1 .ensures) (c .before .before .before .before .sum2 .ensures) (c .before .before .before .turn2 .ensures)
+    mixed (c .before .before .before .before .before .before .before .before .args .w)
+    (c .before .before .before .before .before .before .before .double-word .result)
+    (c .before .before .before .before .before .before .sum .result)
+    (c .before .before .before .before .before .turn1 .result) (c .before .before .before .before .sum2 .result)
+    (c .before .before .before .turn2 .result) (c .before .before .sum3 .result) (c .before .turn3 .result)
+    (c .sum4 .result)
+    (c .before .before .before .before .before .before .before .double-word .ensures)
+    (c .before .before .before .before .before .before .sum .ensures)
+    (c .before .before .before .before .before .turn1 .ensures) (c .before .before .before .before .sum2 .ensures)
+    (c .before .before .before .turn2 .ensures)
     (c .before .before .sum3 .ensures) (c .before .turn3 .ensures) (c .sum4 .ensures)
 
 pub mix-column-spec : {M : Type 1} → statement M

@@ -1,7 +1,7 @@
 use mathlib.Core.Path.{_∙_}
 use Rattle.fips197.specs.Words.{octet}
 use Rattle.fips197.specs.Field.{substitute}
-use Rattle.aes.specs.Mixed.{mixed-of}
+use Rattle.aes.specs.MixedLaws.{mixed-of}
 use borrow.Author.Needs.{needs}
 use Rattle.aes.proofs.mix_word.Statement.{statement}
 use Rattle.aes.proofs.mix_word.Tie as tie
@@ -16,7 +16,8 @@ returns : tie.Need-returns
 returns c =
     let a = c .before .before .args in
     c .mix-column .ensures
-    ∙ mixed-of (c .before .sub-word .result) (substitute (octet 0 (a .a))) (substitute (octet 1 (a .b))) (substitute (octet 2 (a .c)))
+    ∙ mixed-of (c .before .sub-word .result) (substitute (octet 0 (a .a))) (substitute (octet 1 (a .b)))
+    (substitute (octet 2 (a .c)))
     (substitute (octet 3 (a .d))) (c .before .sub-word .ensures)
 
 pub mix-word-spec : {M : Type 1} → statement M

@@ -1,5 +1,5 @@
 use native.Mathlib.Omega.{arith}
-use Rattle.aes.specs.Blocks.{key-columns}
+use Rattle.aes.specs.BlocksLaws.{key-columns}
 use borrow.Author.Needs.{needs}
 use Rattle.aes.proofs.next_key.Statement.{statement}
 use Rattle.aes.proofs.next_key.Tie as tie

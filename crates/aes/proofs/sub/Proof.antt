@@ -1,4 +1,4 @@
-use Rattle.fips197.specs.Tables.{table-at}
+use Rattle.fips197.specs.TablesLaws.{table-at}
 use borrow.Author.Needs.{needs}
 use Rattle.aes.proofs.sub.Statement.{statement}
 use Rattle.aes.proofs.sub.Tie as tie

@@ -1,24 +1,20 @@
 use native.Mathlib.Omega.{arith}
-use Rattle.bars.specs.Axis.{across-end, across-in}
+use Rattle.bars.specs.AxisLaws.{across-end, across-in}
 use borrow.Author.Needs.{needs}
 use Rattle.bars.proofs.across.Statement.{statement}
 use Rattle.bars.proofs.across.Tie as tie
 use Rattle.bars.proofs.across.Reads as reads
 use Rattle.bars.proofs.across.Lts as lts
 
--- src/lib.rt:54:9
 returns : tie.Need-returns
 returns c = across-end (c .before .args .tick) (c .before .args .span) (omega arith)
 
--- src/lib.rt:56:5
 mul-result : tie.Need-mul-result
 mul-result c = search needs
 
--- src/lib.rt:56:5
 div-result : tie.Need-div-result
 div-result c = search needs
 
--- src/lib.rt:50:1
 returns-2 : tie.Need-returns-2
 returns-2 c = across-in (c .before .args .tick) (c .before .args .span) (omega arith)
 

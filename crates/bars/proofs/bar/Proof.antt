@@ -1,5 +1,5 @@
 use native.Mathlib.Omega.{arith}
-use Rattle.bars.specs.Axis.{bar-so}
+use Rattle.bars.specs.AxisLaws.{bar-so}
 use borrow.Author.Needs.{needs}
 use Rattle.bars.proofs.bar.Statement.{statement}
 use Rattle.bars.proofs.bar.Tie as tie
@@ -8,23 +8,18 @@ use Rattle.bars.proofs.bar.Lts as lts
 use Rattle.bars.proofs.across.Reads as across-reads
 use Rattle.bars.proofs.wide.Reads as wide-reads
 
--- src/lib.rt:77:9
 across-requires : tie.Need-across-requires
 across-requires c κs = search needs
 
--- src/lib.rt:78:9
 across-requires-2 : tie.Need-across-requires-2
 across-requires-2 c κs = search needs
 
--- src/lib.rt:80:12
 add-t6 : tie.Need-add-t6
 add-t6 c = search needs
 
--- src/lib.rt:81:16
 wide-requires : tie.Need-wide-requires
 wide-requires c κs = search needs
 
--- src/lib.rt:73:1
 returns : tie.Need-returns
 returns c = bar-so _ _ (c .before .before .across .ensures .0) (c .before .across2 .ensures .0) (c .wide .ensures)
 

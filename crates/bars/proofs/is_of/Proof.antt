@@ -7,7 +7,6 @@ use Rattle.bars.proofs.is_of.Tie as tie
 use Rattle.bars.proofs.is_of.Reads as reads
 use Rattle.bars.proofs.is_of.Lts as lts
 
--- src/lib.rt:199:1
 returns : tie.Need-returns
 unfolding isOf
 returns c = refl

@@ -1,4 +1,4 @@
-use Rattle.bars.specs.Kept.{four-so}
+use Rattle.bars.specs.KeptLaws.{four-so}
 use borrow.Author.Needs.{needs}
 use Rattle.bars.proofs.put_four.Statement.{statement}
 use Rattle.bars.proofs.put_four.Tie as tie
@@ -6,49 +6,54 @@ use Rattle.bars.proofs.put_four.Reads as reads
 use Rattle.bars.proofs.put_four.Lts as lts
 use Rattle.bars.proofs.put_word.Reads as put-word-reads
 
--- src/lib.rt:149:5
 put-word-requires : tie.Need-put-word-requires
 put-word-requires c κs = search needs
 
--- src/lib.rt:150:21
 add-put-word : tie.Need-add-put-word
 add-put-word c = search needs
 
--- src/lib.rt:150:5
 put-word-requires-2 : tie.Need-put-word-requires-2
 put-word-requires-2 c κs = search needs
 
--- src/lib.rt:151:26
 mul-put-word : tie.Need-mul-put-word
 mul-put-word c = search needs
 
--- src/lib.rt:151:21
 add-put-word-2 : tie.Need-add-put-word-2
 add-put-word-2 c = search needs
 
--- src/lib.rt:151:5
 put-word-requires-3 : tie.Need-put-word-requires-3
 put-word-requires-3 c κs = search needs
 
--- src/lib.rt:152:26
 mul-put-word-2 : tie.Need-mul-put-word-2
 mul-put-word-2 c = search needs
 
--- src/lib.rt:152:21
 add-put-word-3 : tie.Need-add-put-word-3
 add-put-word-3 c = search needs
 
--- src/lib.rt:152:5
 put-word-requires-4 : tie.Need-put-word-requires-4
 put-word-requires-4 c κs = search needs
 
--- src/lib.rt:145:1
 same-length : tie.Need-same-length
 same-length c = search needs
 
--- src/lib.rt:145:1
 returns : tie.Need-returns
-returns c = four-so (c .before .before .before .before .before .before .before .before .before .before .before .before .before .before .before .before .before .args .block .now) (c .before .before .before .before .before .before .before .before .before .before .before .before .before .before .before .before .before .args .at) (c .before .before .before .before .before .before .before .before .before .before .before .before .before .before .before .before .before .args .a) (c .before .before .before .before .before .before .before .before .before .before .before .before .before .before .before .before .before .args .b) (c .before .before .before .before .before .before .before .before .before .before .before .before .before .before .before .before .before .args .c) (c .before .before .before .before .before .before .before .before .before .before .before .before .before .before .before .before .before .args .d) (c .before .before .before .before .before .before .before .before .before .before .before .before .before .before .put-word .ensures) (c .before .before .before .before .before .before .before .before .before .before .put-word2 .ensures) (c .before .before .before .before .before .before .put-word3 .ensures) (c .before .before .put-word4 .ensures)
+returns c = four-so
+    (c .before .before .before .before .before .before .before .before .before .before .before .before .before .before
+    .before .before .before .args .block .now)
+    (c .before .before .before .before .before .before .before .before .before .before .before .before .before .before
+    .before .before .before .args .at)
+    (c .before .before .before .before .before .before .before .before .before .before .before .before .before .before
+    .before .before .before .args .a)
+    (c .before .before .before .before .before .before .before .before .before .before .before .before .before .before
+    .before .before .before .args .b)
+    (c .before .before .before .before .before .before .before .before .before .before .before .before .before .before
+    .before .before .before .args .c)
+    (c .before .before .before .before .before .before .before .before .before .before .before .before .before .before
+    .before .before .before .args .d)
+    (c .before .before .before .before .before .before .before .before .before .before .before .before .before .before
+    .put-word .ensures)
+    (c .before .before .before .before .before .before .before .before .before .before .put-word2 .ensures)
+    (c .before .before .before .before .before .before .put-word3 .ensures) (c .before .before .put-word4 .ensures)
 
 pub put-four-spec : {M : Type 1} → statement M
 put-four-spec =

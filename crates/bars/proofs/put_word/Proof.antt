@@ -1,5 +1,5 @@
 use native.Mathlib.Omega.{arith}
-use Rattle.bars.specs.Kept.{word-so}
+use Rattle.bars.specs.KeptLaws.{word-so}
 use borrow.Author.Needs.{needs}
 use Rattle.bars.proofs.put_word.Statement.{statement}
 use Rattle.bars.proofs.put_word.Tie as tie
@@ -7,17 +7,16 @@ use Rattle.bars.proofs.put_word.Reads as reads
 use Rattle.bars.proofs.put_word.Lts as lts
 use Rattle.octets.proofs.put64.Reads as put64-reads
 
--- src/lib.rt:141:5
 put64-requires : tie.Need-put64-requires
 put64-requires c κs = search needs
 
--- src/lib.rt:138:1
 same-length : tie.Need-same-length
 same-length c = search needs
 
--- src/lib.rt:138:1
 returns : tie.Need-returns
-returns c = word-so (c .before .before .before .before .before .args .block .now) (c .before .before .before .before .before .args .at) (c .before .before .before .before .before .args .v) (c .before .before .put64 .ensures .0) (c .before .before .put64 .ensures .1)
+returns c = word-so (c .before .before .before .before .before .args .block .now)
+    (c .before .before .before .before .before .args .at) (c .before .before .before .before .before .args .v)
+    (c .before .before .put64 .ensures .0) (c .before .before .put64 .ensures .1)
 
 pub put-word-spec : {M : Type 1} → statement M
 put-word-spec = tie.close (tie.spec put64-requires same-length returns)

@@ -1,5 +1,5 @@
 use native.Mathlib.Omega.{arith}
-use Rattle.bars.specs.Kept.{row-so}
+use Rattle.bars.specs.KeptLaws.{row-so}
 use borrow.Author.Needs.{needs}
 use Rattle.bars.proofs.row_at.Statement.{statement}
 use Rattle.bars.proofs.row_at.Tie as tie
@@ -9,97 +9,80 @@ use Rattle.octets.proofs.get32.Reads as get32-reads
 use Rattle.octets.proofs.get64.Reads as get64-reads
 use Rattle.octets.proofs.get8.Reads as get8-reads
 
--- src/lib.rt:181:14
 mul-at : tie.Need-mul-at
 mul-at c = search needs
 
--- src/lib.rt:184:14
 get64-requires : tie.Need-get64-requires
 get64-requires c κs = search needs
 
--- src/lib.rt:185:42
 mul-get32 : tie.Need-mul-get32
 mul-get32 c = search needs
 
--- src/lib.rt:185:37
 add-get32 : tie.Need-add-get32
 add-get32 c = search needs
 
--- src/lib.rt:185:16
 get32-requires : tie.Need-get32-requires
 get32-requires c κs = search needs
 
--- src/lib.rt:186:41
 mul-get32-2 : tie.Need-mul-get32-2
 mul-get32-2 c = search needs
 
--- src/lib.rt:186:36
 add-get32-2 : tie.Need-add-get32-2
 add-get32-2 c = search needs
 
--- src/lib.rt:186:15
 get32-requires-2 : tie.Need-get32-requires-2
 get32-requires-2 c κs = search needs
 
--- src/lib.rt:187:44
 add-get64 : tie.Need-add-get64
 add-get64 c = search needs
 
--- src/lib.rt:187:18
 get64-requires-2 : tie.Need-get64-requires-2
 get64-requires-2 c κs = search needs
 
--- src/lib.rt:188:40
 mul-get64 : tie.Need-mul-get64
 mul-get64 c = search needs
 
--- src/lib.rt:188:35
 add-get64-2 : tie.Need-add-get64-2
 add-get64-2 c = search needs
 
--- src/lib.rt:188:14
 get64-requires-3 : tie.Need-get64-requires-3
 get64-requires-3 c κs = search needs
 
--- src/lib.rt:192:42
 mul-get32-3 : tie.Need-mul-get32-3
 mul-get32-3 c = search needs
 
--- src/lib.rt:192:37
 add-get32-3 : tie.Need-add-get32-3
 add-get32-3 c = search needs
 
--- src/lib.rt:192:16
 get32-requires-3 : tie.Need-get32-requires-3
 get32-requires-3 c κs = search needs
 
--- src/lib.rt:193:41
 mul-get32-4 : tie.Need-mul-get32-4
 mul-get32-4 c = search needs
 
--- src/lib.rt:193:36
 add-get32-4 : tie.Need-add-get32-4
 add-get32-4 c = search needs
 
--- src/lib.rt:193:15
 get32-requires-4 : tie.Need-get32-requires-4
 get32-requires-4 c κs = search needs
 
--- src/lib.rt:194:39
 mul-get8 : tie.Need-mul-get8
 mul-get8 c = search needs
 
--- src/lib.rt:194:34
 add-get8 : tie.Need-add-get8
 add-get8 c = search needs
 
--- src/lib.rt:194:14
 get8-requires : tie.Need-get8-requires
 get8-requires c κs = search needs
 
--- src/lib.rt:178:1
 returns : tie.Need-returns
-returns c = row-so (c .before .before .before .before .before .before .before .before .before .args .block .now) (c .before .before .before .before .before .before .before .before .before .args .i) (c .before .before .before .before .before .before .before .get64 .ensures) (c .before .before .before .before .before .before .get32 .ensures) (c .before .before .before .before .before .get322 .ensures) (c .before .before .before .before .get642 .ensures) (c .before .before .before .get643 .ensures) (c .before .before .get323 .ensures) (c .before .get324 .ensures) (c .get8 .ensures)
+returns c = row-so (c .before .before .before .before .before .before .before .before .before .args .block .now)
+    (c .before .before .before .before .before .before .before .before .before .args .i)
+    (c .before .before .before .before .before .before .before .get64 .ensures)
+    (c .before .before .before .before .before .before .get32 .ensures)
+    (c .before .before .before .before .before .get322 .ensures) (c .before .before .before .before .get642 .ensures)
+    (c .before .before .before .get643 .ensures) (c .before .before .get323 .ensures) (c .before .get324 .ensures)
+    (c .get8 .ensures)
 
 pub row-at-spec : {M : Type 1} → statement M
 row-at-spec =

@@ -1,5 +1,5 @@
 use native.Mathlib.Omega.{arith}
-use Rattle.bars.specs.Axis.{step-so}
+use Rattle.bars.specs.AxisLaws.{step-so}
 use borrow.Author.Needs.{needs}
 use Rattle.bars.proofs.step.Statement.{statement}
 use Rattle.bars.proofs.step.Tie as tie
@@ -7,33 +7,27 @@ use Rattle.bars.proofs.step.Reads as reads
 use Rattle.bars.proofs.step.Lts as lts
 use Rattle.bars.proofs.fit.Reads as fit-reads
 
--- src/lib.rt:106:17
 add-days : tie.Need-add-days
 add-days c = search needs
 
--- src/lib.rt:106:16
 mul-days : tie.Need-mul-days
 mul-days c = search needs
 
--- src/lib.rt:107:9
 fit-requires : tie.Need-fit-requires
 fit-requires c κs = search needs
 
--- src/lib.rt:108:9
 fit-requires-2 : tie.Need-fit-requires-2
 fit-requires-2 c κs = search needs
 
--- src/lib.rt:109:9
 fit-requires-3 : tie.Need-fit-requires-3
 fit-requires-3 c κs = search needs
 
--- src/lib.rt:110:5
 fit-requires-4 : tie.Need-fit-requires-4
 fit-requires-4 c κs = search needs
 
--- src/lib.rt:103:1
 returns : tie.Need-returns
-returns c = step-so (c .before .before .before .before .args .span) (c .before .before .before .fit .ensures) (c .before .before .fit2 .ensures) (c .before .fit3 .ensures) (c .fit4 .ensures)
+returns c = step-so (c .before .before .before .before .args .span) (c .before .before .before .fit .ensures)
+    (c .before .before .fit2 .ensures) (c .before .fit3 .ensures) (c .fit4 .ensures)
 
 pub step-spec : {M : Type 1} → statement M
 step-spec =

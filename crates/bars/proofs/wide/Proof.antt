@@ -1,20 +1,17 @@
 use native.Mathlib.Omega.{arith}
 use borrow.Author.Needs.{needs}
-use Rattle.bars.specs.Axis.{wide-least, wide-more}
+use Rattle.bars.specs.AxisLaws.{wide-least, wide-more}
 use Rattle.bars.proofs.wide.Statement.{statement}
 use Rattle.bars.proofs.wide.Tie as tie
 use Rattle.bars.proofs.wide.Reads as reads
 use Rattle.bars.proofs.wide.Lts as lts
 
--- src/lib.rt:64:9
 returns : tie.Need-returns
 returns c = wide-least (c .before .args .from) (c .before .args .to) (omega arith)
 
--- src/lib.rt:67:9
 returns-2 : tie.Need-returns-2
 returns-2 c = wide-least (c .before .before .args .from) (c .before .before .args .to) (omega arith)
 
--- src/lib.rt:60:1
 returns-3 : tie.Need-returns-3
 returns-3 c = wide-more (c .before .before .args .from) (c .before .before .args .to) (omega arith)
 

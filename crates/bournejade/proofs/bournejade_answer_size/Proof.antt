@@ -5,7 +5,6 @@ use Rattle.bournejade.proofs.bournejade_answer_size.Tie as tie
 use Rattle.bournejade.proofs.bournejade_answer_size.Reads as reads
 use Rattle.bournejade.proofs.bournejade_answer_size.Lts as lts
 
--- src/lib.rt:89:1
 returns : tie.Need-returns
 returns c = refl
 

@@ -1,5 +1,5 @@
 use mathlib.Core.Path.{sym, _∙_}
-use Rattle.laws.specs.Tests.{pick-true, pick-false}
+use Rattle.laws.specs.TestsLaws.{pick-true, pick-false}
 use borrow.Author.Needs.{needs}
 use Rattle.bournejade.proofs.bournejade_match.Statement.{statement}
 use Rattle.bournejade.proofs.bournejade_match.Tie as tie

@@ -1,5 +1,5 @@
 use native.Mathlib.Omega.{arith}
-use Rattle.bournejade.specs.Gives.{position}
+use Rattle.bournejade.specs.GivesLaws.{position}
 use borrow.Author.Needs.{needs}
 use Rattle.bournejade.proofs.bournejade_position.Statement.{statement}
 use Rattle.bournejade.proofs.bournejade_position.Tie as tie
@@ -7,11 +7,9 @@ use Rattle.bournejade.proofs.bournejade_position.Reads as reads
 use Rattle.bournejade.proofs.bournejade_position.Lts as lts
 use Rattle.octets.proofs.get32.Reads as get32-reads
 
--- src/lib.rt:131:5
 get32-requires : tie.Need-get32-requires
 get32-requires c κs = search needs
 
--- src/lib.rt:127:1
 returns : tie.Need-returns
 returns c = position _ _ (c .get32 .ensures) (omega arith)
 

@@ -1,7 +1,7 @@
 use mathlib.Core.Path.{_≡_, refl, sym, ap, _∙_}
-use Rattle.bournejade.specs.Gives.{replayed}
+use Rattle.bournejade.specs.GivesLaws.{replayed}
 use lib.Dec.{ltb}
-use Rattle.bournejade.specs.Numbered.{known-replay}
+use Rattle.bournejade.specs.NumberedLaws.{known-replay}
 use borrow.Author.Needs.{needs}
 use Rattle.bournejade.proofs.bournejade_replay_to.Statement.{statement}
 use Rattle.bournejade.proofs.bournejade_replay_to.Tie as tie
@@ -10,21 +10,22 @@ use Rattle.bournejade.proofs.bournejade_replay_to.Lts as lts
 use Rattle.bournejade.proofs.numbers.read_told.Reads as read-told-reads
 use Rattle.engine.proofs.replay_to.Reads as replay-to-reads
 
--- src/lib.rt:192:9
 replay-to-requires : tie.Need-replay-to-requires
 replay-to-requires c κs = search needs
 
--- src/lib.rt:196:5
 read-told-requires : tie.Need-read-told-requires
 read-told-requires c κs = search needs
 
--- src/lib.rt:188:1
 same-length : tie.Need-same-length
 same-length c = search needs
 
--- src/lib.rt:188:1
 returns : tie.Need-returns
-returns c = let a = c .before .before .before .before .before .before .before .before .before .before .args in replayed _ (a .out .now) _ _ (c .before .before .before .before .before .replay-to .result) _ _ _ (known-replay (λ p. ltb p (a .last)) _ (a .state .now) (a .journal .now)) (c .before .before .before .before .before .replay-to .ensures) (c .read-told .ensures .1) (c .read-told .ensures .2) (c .read-told .ensures .0)
+returns c = let a =
+    c .before .before .before .before .before .before .before .before .before .before .args in replayed _
+    (a .out .now) _ _ (c .before .before .before .before .before .replay-to .result) _ _ _
+    (known-replay (λ p. ltb p (a .last)) _ (a .state .now) (a .journal .now))
+    (c .before .before .before .before .before .replay-to .ensures) (c .read-told .ensures .1)
+    (c .read-told .ensures .2) (c .read-told .ensures .0)
 
 pub bournejade-replay-to-spec : {M : Type 1} → statement M
 bournejade-replay-to-spec = tie.close (tie.spec replay-to-requires read-told-requires same-length returns)

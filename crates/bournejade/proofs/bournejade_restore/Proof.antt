@@ -1,6 +1,7 @@
 use mathlib.Core.Path.{ap, _∙_}
 use Rattle.editions.specs.Editions.{isImageOn}
-use Rattle.bournejade.specs.Gives.{loadNumber, number-loaded}
+use Rattle.bournejade.specs.Gives.{loadNumber}
+use Rattle.bournejade.specs.GivesLaws.{number-loaded}
 use borrow.Author.Needs.{needs}
 use Rattle.bournejade.proofs.bournejade_restore.Statement.{statement}
 use Rattle.bournejade.proofs.bournejade_restore.Tie as tie
@@ -9,17 +10,16 @@ use Rattle.bournejade.proofs.bournejade_restore.Lts as lts
 use Rattle.bournejade.proofs.numbers.load_number.Reads as load-number-reads
 use Rattle.engine.proofs.restore.Reads as restore-reads
 
--- src/lib.rt:188:9
 restore-requires : tie.Need-restore-requires
 restore-requires c κs = search needs
 
--- src/lib.rt:189:5
 load-number-requires : tie.Need-load-number-requires
 load-number-requires c κs = search needs
 
--- src/lib.rt:183:1
 returns : tie.Need-returns
-returns c = let a = c .before .before .before .before .args in let f = c .before .restore .ensures in (c .load-number .ensures ∙ ap loadNumber (f .0) ∙ number-loaded (isImageOn (a .image .now)), f .1)
+returns c = let a = c .before .before .before .before .args in let f =
+    c .before .restore
+    .ensures in (c .load-number .ensures ∙ ap loadNumber (f .0) ∙ number-loaded (isImageOn (a .image .now)), f .1)
 
 pub bournejade-restore-spec : {M : Type 1} → statement M
 bournejade-restore-spec = tie.close (tie.spec restore-requires load-number-requires returns)

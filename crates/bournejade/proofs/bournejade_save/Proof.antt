@@ -1,5 +1,5 @@
-use Rattle.bournejade.specs.Gives.{gave}
-use Rattle.bournejade.specs.Numbered.{known-image}
+use Rattle.bournejade.specs.GivesLaws.{gave}
+use Rattle.bournejade.specs.NumberedLaws.{known-image}
 use borrow.Author.Needs.{needs}
 use Rattle.bournejade.proofs.bournejade_save.Statement.{statement}
 use Rattle.bournejade.proofs.bournejade_save.Tie as tie
@@ -8,21 +8,19 @@ use Rattle.bournejade.proofs.bournejade_save.Lts as lts
 use Rattle.bournejade.proofs.numbers.told.Reads as told-reads
 use Rattle.engine.proofs.save.Reads as save-reads
 
--- src/lib.rt:168:9
 save-requires : tie.Need-save-requires
 save-requires c κs = search needs
 
--- src/lib.rt:169:5
 told-requires : tie.Need-told-requires
 told-requires c κs = search needs
 
--- src/lib.rt:164:1
 same-length : tie.Need-same-length
 same-length c = search needs
 
--- src/lib.rt:164:1
 returns : tie.Need-returns
-returns c = let a = c .before .before .before .before .before .before .before .args in gave _ (a .state .now) (a .out .now) _ _ _ _ _ (known-image _ (a .state .now)) (c .before .before .before .before .save .ensures) (c .told .ensures)
+returns c = let a =
+    c .before .before .before .before .before .before .before .args in gave _ (a .state .now) (a .out .now) _ _ _ _ _
+    (known-image _ (a .state .now)) (c .before .before .before .before .save .ensures) (c .told .ensures)
 
 pub bournejade-save-spec : {M : Type 1} → statement M
 bournejade-save-spec = tie.close (tie.spec save-requires told-requires same-length returns)

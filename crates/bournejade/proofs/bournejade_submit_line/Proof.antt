@@ -1,6 +1,6 @@
-use Rattle.bournejade.specs.Gives.{gave}
+use Rattle.bournejade.specs.GivesLaws.{gave}
 use Rattle.sessions.specs.Machine.{text}
-use Rattle.bournejade.specs.Numbered.{known-answer}
+use Rattle.bournejade.specs.NumberedLaws.{known-answer}
 use borrow.Author.Needs.{needs}
 use Rattle.bournejade.proofs.bournejade_submit_line.Statement.{statement}
 use Rattle.bournejade.proofs.bournejade_submit_line.Tie as tie
@@ -9,21 +9,20 @@ use Rattle.bournejade.proofs.bournejade_submit_line.Lts as lts
 use Rattle.bournejade.proofs.numbers.told.Reads as told-reads
 use Rattle.engine.proofs.submit_line.Reads as submit-line-reads
 
--- src/lib.rt:148:9
 submit-line-requires : tie.Need-submit-line-requires
 submit-line-requires c κs = search needs
 
--- src/lib.rt:149:5
 told-requires : tie.Need-told-requires
 told-requires c κs = search needs
 
--- src/lib.rt:144:1
 same-length : tie.Need-same-length
 same-length c = search needs
 
--- src/lib.rt:144:1
 returns : tie.Need-returns
-returns c = let a = c .before .before .before .before .before .before .before .before .before .args in gave _ (a .state .now) (a .out .now) _ _ _ _ _ (known-answer _ (a .state .now) text (a .line .now)) (c .before .before .before .before .submit-line .ensures) (c .told .ensures)
+returns c = let a =
+    c .before .before .before .before .before .before .before .before .before .args in gave _ (a .state .now)
+    (a .out .now) _ _ _ _ _ (known-answer _ (a .state .now) text (a .line .now))
+    (c .before .before .before .before .submit-line .ensures) (c .told .ensures)
 
 pub bournejade-submit-line-spec : {M : Type 1} → statement M
 bournejade-submit-line-spec =

@@ -8,17 +8,18 @@ use Rattle.bournejade.proofs.bournejade_watchers.Lts as lts
 use Rattle.bournejade.proofs.numbers.watch_told.Reads as watch-told-reads
 use Rattle.index.proofs.ask.Reads as ask-reads
 
--- src/lib.rt:300:9
 ask-requires : tie.Need-ask-requires
 ask-requires c κs = search needs
 
--- src/lib.rt:301:5
 watch-told-requires : tie.Need-watch-told-requires
 watch-told-requires c κs = search needs
 
--- src/lib.rt:290:1
 returns : tie.Need-returns
-returns c = (c .watch-told .ensures .0 ∙ ap countIn (c .before .before .ask .ensures), c .watch-told .ensures .1 ∙ ap lowestIn (c .before .before .ask .ensures))
+returns c = (
+  c .watch-told .ensures .0 ∙ ap countIn (c .before .before .ask .ensures),
+  c .watch-told .ensures .1
+      ∙ ap lowestIn (c .before .before .ask .ensures),
+)
 
 pub bournejade-watchers-spec : {M : Type 1} → statement M
 bournejade-watchers-spec = tie.close (tie.spec ask-requires watch-told-requires returns)

@@ -11,21 +11,27 @@ use Rattle.bournejade.proofs.bournejade_write_line.Lts as lts
 use Rattle.bournejade.proofs.numbers.told.Reads as told-reads
 use Rattle.lines.proofs.write_line.Reads as write-line-reads
 
--- src/lib.rt:159:9
 write-line-requires : tie.Need-write-line-requires
 write-line-requires c κs = search needs
 
--- src/lib.rt:160:5
 told-requires : tie.Need-told-requires
 told-requires c κs = search needs
 
--- src/lib.rt:153:1
 same-length : tie.Need-same-length
 same-length c = search needs
 
--- src/lib.rt:153:1
 returns : tie.Need-returns
-returns c = let a = c .before .before .before .before .before .before .before .before .args in let w = c .before .before .before .before .write-line .ensures in (c .told .ensures .0 ∙ ap numberIn (w .0), (c .told .ensures .1 ∙ ap countIn (w .0), w .1 ∙ ap (λ (r : Wrote). afterWrite r (a .out .now) (textOf (a .frame .now))) (w .0)))
+returns c = let a = c .before .before .before .before .before .before .before .before .args in let w =
+    c .before .before .before .before .write-line
+    .ensures in (
+      c .told .ensures .0
+          ∙ ap numberIn (w .0),
+      (
+        c .told .ensures .1 ∙ ap countIn (w .0),
+        w .1
+            ∙ ap (λ (r : Wrote). afterWrite r (a .out .now) (textOf (a .frame .now))) (w .0),
+      ),
+    )
 
 pub bournejade-write-line-spec : {M : Type 1} → statement M
 bournejade-write-line-spec =

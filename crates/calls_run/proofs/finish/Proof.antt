@@ -11,51 +11,39 @@ use Rattle.calls_run.proofs.seen.end.Reads as end-reads
 use Rattle.calls_run.proofs.show.Reads as show-reads
 use Rattle.parts.proofs.copy.Reads as copy-reads
 
--- src/main.rt:133:9
 end-requires : tie.Need-end-requires
 end-requires c κs = search needs
 
--- src/main.rt:133:9
 returns : tie.Need-returns
 returns c = search needs
 
--- src/main.rt:135:28
 slice-relend-prefix-save : tie.Need-slice-relend-prefix-save
 slice-relend-prefix-save c = search needs
 
--- src/main.rt:135:28
 slice-aggregate-save : tie.Need-slice-aggregate-save
 slice-aggregate-save c = simp length-take (omega arith)
 
--- src/main.rt:135:10
 save-requires : tie.Need-save-requires
 save-requires c κs = search needs
 
--- src/main.rt:135:5
 show-requires : tie.Need-show-requires
 show-requires c κs = search needs
 
--- src/main.rt:136:9
 blank-requires : tie.Need-blank-requires
 blank-requires c κs = search needs
 
--- src/main.rt:138:27
 slice-aggregate-copy : tie.Need-slice-aggregate-copy
 slice-aggregate-copy c = search needs
 
--- src/main.rt:138:5
 copy-requires : tie.Need-copy-requires
 copy-requires c κs = search needs
 
--- src/main.rt:139:5
 begin-requires : tie.Need-begin-requires
 begin-requires c κs = search needs
 
--- src/main.rt:131:1
 same-length : tie.Need-same-length
 same-length c = search needs
 
--- src/main.rt:131:1
 returns-2 : tie.Need-returns-2
 returns-2 c = search needs
 

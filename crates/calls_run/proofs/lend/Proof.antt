@@ -8,31 +8,24 @@ use Rattle.calls_run.proofs.lend.Lts as lts
 use Rattle.calls_run.proofs.lending.Reads as lending-reads
 use Rattle.calls_run.proofs.seen.end.Reads as end-reads
 
--- src/main.rt:96:9
 end-requires : tie.Need-end-requires
 end-requires c κs = search needs
 
--- src/main.rt:96:9
 returns : tie.Need-returns
 returns c = search needs
 
--- src/main.rt:98:34
 slice-relend-prefix-lending : tie.Need-slice-relend-prefix-lending
 slice-relend-prefix-lending c = search needs
 
--- src/main.rt:98:34
 slice-aggregate-lending : tie.Need-slice-aggregate-lending
 slice-aggregate-lending c = simp length-take (omega arith)
 
--- src/main.rt:98:5
 lending-requires : tie.Need-lending-requires
 lending-requires c κs = search needs
 
--- src/main.rt:87:1
 same-length : tie.Need-same-length
 same-length c = search needs
 
--- src/main.rt:87:1
 returns-2 : tie.Need-returns-2
 returns-2 c = search needs
 

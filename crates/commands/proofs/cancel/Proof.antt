@@ -1,5 +1,5 @@
 use native.Mathlib.Omega.{arith}
-use Rattle.commands.specs.Cancelled.{cancelled-block}
+use Rattle.commands.specs.CancelledLaws.{cancelled-block}
 use borrow.Author.Needs.{needs}
 use Rattle.commands.proofs.cancel.Statement.{statement}
 use Rattle.commands.proofs.cancel.Tie as tie

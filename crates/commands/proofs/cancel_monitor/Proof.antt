@@ -1,7 +1,7 @@
-use Rattle.commands.specs.Replies.{replied-within}
-use Rattle.commands.specs.Replies.{answer-cancel}
-use Rattle.commands.specs.Owed.{cancel-handle}
-use Rattle.commands.specs.Ran.{cancel-done, cancel-failed}
+use Rattle.commands.specs.RepliesLaws.{replied-within}
+use Rattle.commands.specs.RepliesLaws.{answer-cancel}
+use Rattle.commands.specs.OwedLaws.{cancel-handle}
+use Rattle.commands.specs.RanLaws.{cancel-done, cancel-failed}
 use mathlib.Core.Path.{refl}
 use native.Mathlib.Omega.{arith}
 use borrow.Author.Needs.{needs}
@@ -42,14 +42,16 @@ returns : tie.Need-returns
 returns c = let a = c .before .before .before .before .before .before .before .before .before .before .before .before
     .before .before .before .before .before .before .args in (
       (λ m e q. cancel-done m (a .s .now) (a .params .now) e q (a .out .now)
-          (c .before .before .before .before .before .before .before .before .before .before .before .before .before .get16
+          (c .before .before .before .before .before .before .before .before .before .before .before .before .before
+          .get16
           .ensures) (c .before .before .before .before .before .before .before .before .before .before .before .before
           .before .before .before .before .before .before .pre .2)
           (c .before .before .before .before .before .before .before .before .before .before .before .before .get8
           .ensures) (c .before .before .before .before .before .before .before .before .before .before .live .ensures)
           (c .before .before .before .before .before .before .before .before .before .cancel-status .ensures)
           (c .before .before .before .before .before .before .before .before .if1 .taken)
-          (c .before .before .before .before .before .before .cancel .ensures m e q) (c .before .before .reply-done .ensures)),
+          (c .before .before .before .before .before .before .cancel .ensures m e q)
+          (c .before .before .reply-done .ensures)),
       replied-within (a .out .now) (omega arith) (c .before .before .reply-done .ensures),
     )
 

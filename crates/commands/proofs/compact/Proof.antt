@@ -1,7 +1,8 @@
-use Rattle.commands.specs.Kept.{kept-most}
+use Rattle.commands.specs.KeptLaws.{kept-most}
 use native.Mathlib.Omega.{arith}
 use borrow.Author.Needs.{needs}
-use Rattle.commands.specs.Kept.{Holds, rowsOf, kept-none, kept-turn, kept-all}
+use Rattle.commands.specs.Kept.{Holds, rowsOf}
+use Rattle.commands.specs.KeptLaws.{kept-none, kept-turn, kept-all}
 use Rattle.model.specs.Commands.{ofOther}
 use Rattle.model.specs.Types.{Pair}
 use Rattle.laws.specs.Loops.{keep}

@@ -1,7 +1,7 @@
-use Rattle.commands.specs.Replies.{replied-within}
+use Rattle.commands.specs.RepliesLaws.{replied-within}
 use native.Mathlib.Omega.{arith}
-use Rattle.commands.specs.Replies.{answer-enable}
-use Rattle.commands.specs.Ran.{enable-done, enable-failed}
+use Rattle.commands.specs.RepliesLaws.{answer-enable}
+use Rattle.commands.specs.RanLaws.{enable-done, enable-failed}
 use mathlib.Core.Path.{refl}
 use borrow.Author.Needs.{needs}
 use Rattle.commands.proofs.enable_filter.Statement.{statement}
@@ -36,9 +36,11 @@ returns c = let a = c .before .before .before .before .before .before .before .b
     .before .args in (
       (λ m e q. enable-done m (a .s .now) (a .params .now) e q (a .out .now)
           (c .before .before .before .before .before .before .before .before .get16 .ensures)
-          (c .before .before .before .before .before .before .before .before .before .before .before .before .before .pre
+          (c .before .before .before .before .before .before .before .before .before .before .before .before .before
+          .pre
           .2) (c .before .before .before .before .before .before .enable-status .ensures)
-          (c .before .before .before .before .before .if1 .taken) (c .before .before .before .before .get8 .ensures) refl
+          (c .before .before .before .before .before .if1 .taken) (c .before .before .before .before .get8 .ensures)
+          refl
           (c .before .before .reply-done .ensures)),
       replied-within (a .out .now) (omega arith) (c .before .before .reply-done .ensures),
     )

@@ -1,4 +1,4 @@
-use Rattle.commands.specs.Cancelled.{forgotten}
+use Rattle.commands.specs.CancelledLaws.{forgotten}
 use native.Mathlib.Omega.{arith}
 use mathlib.Core.Path.{_∙_}
 use lib.ListN.{length-set}

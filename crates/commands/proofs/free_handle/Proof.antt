@@ -1,6 +1,7 @@
 use native.Mathlib.Omega.{arith}
 use borrow.Author.Needs.{needs}
-use Rattle.commands.specs.Handles.{lowest, lowest-taken, lowest-free, lowest-none}
+use Rattle.commands.specs.Handles.{lowest}
+use Rattle.commands.specs.HandlesLaws.{lowest-taken, lowest-free, lowest-none}
 use borrow.Author.Tests.{not-true, not-false}
 use mathlib.Core.Path.{_≡_, refl, sym, _∙_}
 use Prim.Native.Nat.{_≤_, _-_}

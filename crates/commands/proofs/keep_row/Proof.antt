@@ -1,4 +1,4 @@
-use Rattle.commands.specs.Kept.{kept-drop, kept-move}
+use Rattle.commands.specs.KeptLaws.{kept-drop, kept-move}
 use native.Mathlib.Omega.{arith}
 use borrow.Author.Needs.{needs}
 use Rattle.commands.proofs.keep_row.Statement.{statement}

@@ -1,7 +1,7 @@
 use mathlib.Core.Bool.{false}
 use mathlib.Core.Path.{sym, _∙_}
 use borrow.Author.Tests.{lt-ltb, le-ltb}
-use Rattle.laws.specs.Tests.{pick-true, pick-false}
+use Rattle.laws.specs.TestsLaws.{pick-true, pick-false}
 use Rattle.commands.specs.Handles.{liveAt}
 use borrow.Author.Needs.{needs}
 use Rattle.commands.proofs.live.Statement.{statement}

@@ -1,4 +1,4 @@
-use Rattle.commands.specs.Stored.{added-stored}
+use Rattle.commands.specs.StoredLaws.{added-stored}
 use native.Mathlib.Omega.{arith}
 use borrow.Author.Needs.{needs}
 use Rattle.commands.proofs.put_added.Statement.{statement}
@@ -32,7 +32,11 @@ same-length : tie.Need-same-length
 same-length c = search needs
 
 returns : tie.Need-returns
-returns c = let a = c .before .before .before .before .before .before .before .before .before .before .before .args in let p = c .before .before .before .before .before .before .before .before .before .before .before .pre in added-stored (a .s .now) (a .to) (a .at) (a .params .now) (p .1) (p .2) (p .3) (p .0) (c .before .before .before .before .before .before .copy .ensures) (c .before .before .fill .ensures)
+returns c = let a =
+    c .before .before .before .before .before .before .before .before .before .before .before .args in let p = c
+    .before .before .before .before .before .before .before .before .before .before .before .pre in added-stored
+    (a .s .now) (a .to) (a .at) (a .params .now) (p .1) (p .2) (p .3) (p .0)
+    (c .before .before .before .before .before .before .copy .ensures) (c .before .before .fill .ensures)
 
 pub put-added-spec : {M : Type 1} → statement M
 put-added-spec =

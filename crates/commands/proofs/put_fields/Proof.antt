@@ -1,4 +1,4 @@
-use Rattle.commands.specs.Stored.{fields-stored}
+use Rattle.commands.specs.StoredLaws.{fields-stored}
 use native.Mathlib.Omega.{arith}
 use mathlib.Core.Path.{_≡_, _∙_}
 use lib.ListN.{length, length-set}
@@ -37,7 +37,10 @@ add-s : tie.Need-add-s
 add-s c = search needs
 
 slice-write-s-2 : tie.Need-slice-write-s-2
-slice-write-s-2 c = let e : length (c .before .before .before .copy .last .0) ≡ length (c .before .before .before .before .before .before .before .before .args .s .now) = simp length-set at (c .before .before .s .given) in omega arith
+slice-write-s-2 c =
+    let e : length (c .before .before .before .copy .last .0)
+    ≡ length (c .before .before .before .before .before .before .before .before .args .s .now) = simp length-set at
+    (c .before .before .s .given) in omega arith
 
 cast-s : tie.Need-cast-s
 cast-s c = search needs
@@ -46,7 +49,10 @@ add-s-2 : tie.Need-add-s-2
 add-s-2 c = search needs
 
 slice-write-s-3 : tie.Need-slice-write-s-3
-slice-write-s-3 c = let e : length (c .before .before .before .copy .last .0) ≡ length (c .before .before .before .before .before .before .before .before .args .s .now) = simp length-set at (c .before .before .s .given) in simp length-set (omega arith)
+slice-write-s-3 c =
+    let e : length (c .before .before .before .copy .last .0)
+    ≡ length (c .before .before .before .before .before .before .before .before .args .s .now) = simp length-set at
+    (c .before .before .s .given) in simp length-set (omega arith)
 
 add-copy-2 : tie.Need-add-copy-2
 add-copy-2 c = search needs
@@ -79,10 +85,24 @@ fill-requires : tie.Need-fill-requires
 fill-requires c κs = search needs
 
 same-length : tie.Need-same-length
-same-length c = let e1 : length (c .before .before .before .before .before .before .before .before .before .before .before .before .copy .last .0) ≡ length (c .before .before .before .before .before .before .before .before .before .before .before .before .before .before .before .before .before .args .s .now) = simp length-set at (c .before .before .before .before .before .before .before .before .before .before .before .s .given) in let e2 : length (c .before .before .before .before .before .before .copy2 .last .0) ≡ length (c .before .before .before .before .before .before .before .before .before .before .before .before .copy .last .0) = simp length-set at (c .before .before .before .before .before .s2 .given) in c .before .s3 .given ∙ e2 ∙ e1
+same-length c = let e1 : length
+    (c .before .before .before .before .before .before .before .before .before .before .before .before .copy .last .0)
+    ≡ length (c .before .before .before .before .before .before .before .before .before .before .before .before
+    .before .before .before .before .before .args .s .now) = simp length-set at
+    (c .before .before .before .before .before .before .before .before .before .before .before .s .given) in let e2 :
+    length (c .before .before .before .before .before .before .copy2 .last .0)
+    ≡ length (c .before .before .before .before .before .before .before .before .before .before .before .before .copy
+    .last .0) = simp length-set at (c .before .before .before .before .before .s2 .given) in c .before .s3 .given ∙ e2
+    ∙ e1
 
 returns : tie.Need-returns
-returns c = let a = c .before .before .before .before .before .before .before .before .before .before .before .before .before .before .before .before .before .args in let p = c .before .before .before .before .before .before .before .before .before .before .before .before .before .before .before .before .before .pre in fields-stored (a .s .now) (a .row) (a .h) (a .at) (a .params .now) (p .1) (p .2) (p .3) (p .0) (c .before .before .before .before .before .before .before .before .before .before .before .before .copy .ensures) (c .before .before .before .before .before .before .copy2 .ensures) (c .before .before .fill .ensures)
+returns c = let a =
+    c .before .before .before .before .before .before .before .before .before .before .before .before .before .before
+    .before .before .before .args in let p = c .before .before .before .before .before .before .before .before .before
+    .before .before .before .before .before .before .before .before .pre in fields-stored (a .s .now) (a .row) (a .h)
+    (a .at) (a .params .now) (p .1) (p .2) (p .3) (p .0)
+    (c .before .before .before .before .before .before .before .before .before .before .before .before .copy .ensures)
+    (c .before .before .before .before .before .before .copy2 .ensures) (c .before .before .fill .ensures)
 
 pub put-fields-spec : {M : Type 1} → statement M
 put-fields-spec =

@@ -1,4 +1,4 @@
-use Rattle.commands.specs.Stored.{row-stored}
+use Rattle.commands.specs.StoredLaws.{row-stored}
 use native.Mathlib.Omega.{arith}
 use Prim.Native.Nat.{_+_, _*_}
 use Rattle.model.specs.Layout.{monitorSize, monitorsAt}
@@ -28,7 +28,16 @@ same-length : tie.Need-same-length
 same-length c = search needs
 
 returns : tie.Need-returns
-returns c = let a = c .before .before .before .before .before .before .before .before .before .before .args in row-stored (a .s .now) (monitorsAt + monitorSize * a .h) (a .h) (a .at) (a .params .now) (c .before .before .before .before .before .before .before .before .before .before .pre .2) (omega (arith, c .before .before .before .before .before .before .before .before .before .before .pre .0, c .before .before .before .before .before .before .before .before .before .before .pre .1)) (c .before .before .before .before .before .before .put-fields .ensures) (c .before .before .put-added .ensures)
+returns c = let a =
+    c .before .before .before .before .before .before .before .before .before .before .args in row-stored (a .s .now)
+    (monitorsAt + monitorSize * a .h) (a .h) (a .at) (a .params .now)
+    (c .before .before .before .before .before .before .before .before .before .before .pre .2)
+    (omega (
+      arith,
+      c .before .before .before .before .before .before .before .before .before .before .pre .0,
+      c .before .before .before .before .before .before .before .before .before .before .pre .1,
+    ))
+    (c .before .before .before .before .before .before .put-fields .ensures) (c .before .before .put-added .ensures)
 
 pub put-monitor-spec : {M : Type 1} → statement M
 put-monitor-spec =

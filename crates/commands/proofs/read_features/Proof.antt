@@ -1,6 +1,6 @@
-use Rattle.commands.specs.Replies.{replied-within}
+use Rattle.commands.specs.RepliesLaws.{replied-within}
 use native.Mathlib.Omega.{arith}
-use Rattle.commands.specs.Ran.{read-done, read-failed}
+use Rattle.commands.specs.RanLaws.{read-done, read-failed}
 use mathlib.Core.Path.{refl}
 use borrow.Author.Needs.{needs}
 use Rattle.commands.proofs.read_features.Statement.{statement}

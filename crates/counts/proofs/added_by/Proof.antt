@@ -1,5 +1,5 @@
 use native.Mathlib.Omega.{arith}
-use Rattle.counts.specs.Frames.{wrong-size, adds-frame}
+use Rattle.counts.specs.FramesLaws.{wrong-size, adds-frame}
 use borrow.Author.Needs.{needs}
 use Rattle.counts.proofs.added_by.Statement.{statement}
 use Rattle.counts.proofs.added_by.Tie as tie
@@ -8,45 +8,38 @@ use Rattle.counts.proofs.added_by.Lts as lts
 use Rattle.counts.proofs.of_kind.Reads as of-kind-reads
 use Rattle.totals.proofs.no_gains.Reads as no-gains-reads
 
--- src/lib.rt:91:9
 no-gains-requires : tie.Need-no-gains-requires
 no-gains-requires c κs = search needs
 
--- src/lib.rt:91:9
 returns : tie.Need-returns
-returns c = let a = c .before .before .before .before .args in λ m e b h n. wrong-size (a .s .now) m (c .before .if1 .taken) e b
+returns c = let a =
+    c .before .before .before .before .args in λ m e b h n. wrong-size (a .s .now) m (c .before .if1 .taken) e b
 
--- src/lib.rt:94:9
 no-gains-requires-2 : tie.Need-no-gains-requires-2
 no-gains-requires-2 c κs = search needs
 
--- src/lib.rt:94:9
 returns-2 : tie.Need-returns-2
 returns-2 c = λ m e b h n. absurd (omega (arith, c .before .if2 .taken, n))
 
--- src/lib.rt:96:16
 shared-slice-read-of-kind : tie.Need-shared-slice-read-of-kind
 shared-slice-read-of-kind c = search needs
 
--- src/lib.rt:96:26
 sub-of-kind : tie.Need-sub-of-kind
 sub-of-kind c = search needs
 
--- src/lib.rt:96:26
 part-of-kind-start : tie.Need-part-of-kind-start
 part-of-kind-start c = search needs
 
--- src/lib.rt:96:26
 part-of-kind-end : tie.Need-part-of-kind-end
 part-of-kind-end c = search needs
 
--- src/lib.rt:96:5
 of-kind-requires : tie.Need-of-kind-requires
 of-kind-requires c κs = search needs
 
--- src/lib.rt:87:1
 returns-3 : tie.Need-returns-3
-returns-3 c = let a = c .before .before .before .before .before .before .before .args in λ m e b h n. adds-frame (a .frame .now) m (c .of-kind .ensures m e b h)
+returns-3 c = let a =
+    c .before .before .before .before .before .before .before .args in λ m e b h n. adds-frame (a .frame .now) m
+    (c .of-kind .ensures m e b h)
 
 pub added-by-spec : {M : Type 1} → statement M
 added-by-spec =

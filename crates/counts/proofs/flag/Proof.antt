@@ -1,15 +1,13 @@
 use native.Mathlib.Omega.{arith}
-use Rattle.counts.specs.Search.{one-true, one-false}
+use Rattle.counts.specs.SearchLaws.{one-true, one-false}
 use Rattle.counts.proofs.flag.Statement.{statement}
 use Rattle.counts.proofs.flag.Tie as tie
 use Rattle.counts.proofs.flag.Reads as reads
 use Rattle.counts.proofs.flag.Lts as lts
 
--- src/packet.rt:43:9
 returns : tie.Need-returns
 returns c = (one-true (c .if1 .taken), omega arith)
 
--- src/packet.rt:39:1
 returns-2 : tie.Need-returns-2
 returns-2 c = (one-false (c .if1 .left), omega arith)
 

@@ -1,5 +1,5 @@
-use Rattle.counts.specs.Frames.{adds-kind, adds-other}
-use Rattle.totals.specs.Gains.{no-gains-wide}
+use Rattle.counts.specs.FramesLaws.{adds-kind, adds-other}
+use Rattle.totals.specs.GainsLaws.{no-gains-wide}
 use borrow.Author.Needs.{needs}
 use Rattle.counts.proofs.of_kind.Statement.{statement}
 use Rattle.counts.proofs.of_kind.Tie as tie
@@ -10,37 +10,38 @@ use Rattle.counts.proofs.of_scanned.Reads as of-scanned-reads
 use Rattle.counts.proofs.of_tick.Reads as of-tick-reads
 use Rattle.totals.proofs.no_gains.Reads as no-gains-reads
 
--- src/lib.rt:74:9
 of-packet-requires : tie.Need-of-packet-requires
 of-packet-requires c κs = search needs
 
--- src/lib.rt:74:9
 returns : tie.Need-returns
-returns c = let a = c .before .before .before .before .args in adds-kind (a .s .now) (a .payload .now) (a .kind) 2 (c .before .if1 .taken) (c .of-packet .ensures)
+returns c = let a =
+    c .before .before .before .before .args in adds-kind (a .s .now) (a .payload .now) (a .kind) 2
+    (c .before .if1 .taken) (c .of-packet .ensures)
 
--- src/lib.rt:77:9
 of-tick-requires : tie.Need-of-tick-requires
 of-tick-requires c κs = search needs
 
--- src/lib.rt:77:9
 returns-2 : tie.Need-returns-2
-returns-2 c = let a = c .before .before .before .before .before .args in adds-kind (a .s .now) (a .payload .now) (a .kind) 3 (c .before .if2 .taken) (c .of-tick .ensures)
+returns-2 c = let a =
+    c .before .before .before .before .before .args in adds-kind (a .s .now) (a .payload .now) (a .kind) 3
+    (c .before .if2 .taken) (c .of-tick .ensures)
 
--- src/lib.rt:80:9
 of-scanned-requires : tie.Need-of-scanned-requires
 of-scanned-requires c κs = search needs
 
--- src/lib.rt:80:9
 returns-3 : tie.Need-returns-3
-returns-3 c = let a = c .before .before .before .before .before .before .args in adds-kind (a .s .now) (a .payload .now) (a .kind) 4 (c .before .if3 .taken) (c .of-scanned .ensures)
+returns-3 c = let a =
+    c .before .before .before .before .before .before .args in adds-kind (a .s .now) (a .payload .now) (a .kind) 4
+    (c .before .if3 .taken) (c .of-scanned .ensures)
 
--- src/lib.rt:82:5
 no-gains-requires : tie.Need-no-gains-requires
 no-gains-requires c κs = search needs
 
--- src/lib.rt:69:1
 returns-4 : tie.Need-returns-4
-returns-4 c = let a = c .before .before .before .before .before .before .args in adds-other (a .s .now) (a .payload .now) (a .kind) (c .before .before .before .if1 .left) (c .before .before .if2 .left) (c .before .if3 .left) (no-gains-wide (c .no-gains .ensures))
+returns-4 c = let a =
+    c .before .before .before .before .before .before .args in adds-other (a .s .now) (a .payload .now) (a .kind)
+    (c .before .before .before .if1 .left) (c .before .before .if2 .left) (c .before .if3 .left)
+    (no-gains-wide (c .no-gains .ensures))
 
 pub of-kind-spec : {M : Type 1} → statement M
 of-kind-spec =

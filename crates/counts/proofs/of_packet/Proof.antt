@@ -1,8 +1,8 @@
 use mathlib.Core.Path.{sym, _∙_}
-use Rattle.marks.specs.Fields.{packet-framed}
-use Rattle.steps.specs.Typed.{packet-has}
-use Rattle.counts.specs.Frames.{adds-packet, adds-no-packet}
-use Rattle.totals.specs.Gains.{no-gains-wide}
+use Rattle.marks.specs.FieldsLaws.{packet-framed}
+use Rattle.steps.specs.TypedLaws.{packet-has}
+use Rattle.counts.specs.FramesLaws.{adds-packet, adds-no-packet}
+use Rattle.totals.specs.GainsLaws.{no-gains-wide}
 use borrow.Author.Needs.{needs}
 use Rattle.counts.proofs.of_packet.Statement.{statement}
 use Rattle.counts.proofs.of_packet.Tie as tie
@@ -12,25 +12,28 @@ use Rattle.counts.proofs.packet.gains_of.Reads as gains-of-reads
 use Rattle.frames.proofs.packet_form.Reads as packet-form-reads
 use Rattle.totals.proofs.no_gains.Reads as no-gains-reads
 
--- src/lib.rt:40:8
 packet-form-requires : tie.Need-packet-form-requires
 packet-form-requires c κs = search needs
 
--- src/lib.rt:41:9
 gains-of-requires : tie.Need-gains-of-requires
-gains-of-requires c κs = (c .before .before .before .before .pre, packet-framed _ (packet-has _ (sym (c .before .packet-form .ensures) ∙ c .if1 .taken)))
+gains-of-requires c κs = (
+  c .before .before .before .before .pre,
+  packet-framed _
+      (packet-has _ (sym (c .before .packet-form .ensures) ∙ c .if1 .taken)),
+)
 
--- src/lib.rt:41:9
 returns : tie.Need-returns
-returns c = let a = c .before .before .before .before .before .args in adds-packet (a .s .now) (a .payload .now) (sym (c .before .before .packet-form .ensures) ∙ c .before .if1 .taken) (c .gains-of .ensures)
+returns c = let a =
+    c .before .before .before .before .before .args in adds-packet (a .s .now) (a .payload .now)
+    (sym (c .before .before .packet-form .ensures) ∙ c .before .if1 .taken) (c .gains-of .ensures)
 
--- src/lib.rt:43:5
 no-gains-requires : tie.Need-no-gains-requires
 no-gains-requires c κs = search needs
 
--- src/lib.rt:36:1
 returns-2 : tie.Need-returns-2
-returns-2 c = let a = c .before .before .before .before .before .args in adds-no-packet (a .s .now) (a .payload .now) (sym (c .before .before .packet-form .ensures) ∙ c .before .if1 .left) (no-gains-wide (c .no-gains .ensures))
+returns-2 c = let a =
+    c .before .before .before .before .before .args in adds-no-packet (a .s .now) (a .payload .now)
+    (sym (c .before .before .packet-form .ensures) ∙ c .before .if1 .left) (no-gains-wide (c .no-gains .ensures))
 
 pub of-packet-spec : {M : Type 1} → statement M
 of-packet-spec =

@@ -1,4 +1,4 @@
-use Rattle.decimals.specs.Reading.{grown-low, grown-high, grown-far, grown-on}
+use Rattle.decimals.specs.ReadingLaws.{grown-low, grown-high, grown-far, grown-on}
 use native.Mathlib.Omega.{arith}
 use borrow.Author.Needs.{needs}
 use Rattle.decimals.proofs.grown.Statement.{statement}
@@ -6,33 +6,27 @@ use Rattle.decimals.proofs.grown.Tie as tie
 use Rattle.decimals.proofs.grown.Reads as reads
 use Rattle.decimals.proofs.grown.Lts as lts
 
--- src/lib.rt:65:9
 returns : tie.Need-returns
 returns c = let a = c .before .args in grown-low (a .value) (a .c) (c .if1 .taken)
 
--- src/lib.rt:68:9
 returns-2 : tie.Need-returns-2
 returns-2 c = let a = c .before .before .args in grown-high (a .value) (a .c) (c .if2 .taken)
 
--- src/lib.rt:71:9
 returns-3 : tie.Need-returns-3
 returns-3 c = let a = c .before .before .before .args in grown-far (a .value) (a .c) (c .if3 .taken)
 
--- src/lib.rt:73:5
 mul-result : tie.Need-mul-result
 mul-result c = search needs
 
--- src/lib.rt:73:18
 cast-result : tie.Need-cast-result
 cast-result c = search needs
 
--- src/lib.rt:73:5
 add-result : tie.Need-add-result
 add-result c = search needs
 
--- src/lib.rt:61:1
 returns-4 : tie.Need-returns-4
-returns-4 c = let a = c .before .before .before .args in grown-on (a .value) (a .c) (omega arith) (omega arith) (omega arith)
+returns-4 c = let a =
+    c .before .before .before .args in grown-on (a .value) (a .c) (omega arith) (omega arith) (omega arith)
 
 pub grown-spec : {M : Type 1} → statement M
 grown-spec =

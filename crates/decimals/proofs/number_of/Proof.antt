@@ -1,4 +1,4 @@
-use Rattle.decimals.specs.Reading.{number-far, number-is}
+use Rattle.decimals.specs.ReadingLaws.{number-far, number-is}
 use mathlib.Core.Path.{refl}
 use native.Mathlib.Omega.{arith}
 use borrow.Author.Needs.{needs}
@@ -7,15 +7,12 @@ use Rattle.decimals.proofs.number_of.Tie as tie
 use Rattle.decimals.proofs.number_of.Reads as reads
 use Rattle.decimals.proofs.number_of.Lts as lts
 
--- src/lib.rt:95:9
 returns : tie.Need-returns
 returns c = number-far (c .before .args .value) (omega arith)
 
--- src/lib.rt:97:16
 cast-t3 : tie.Need-cast-t3
 cast-t3 c = search needs
 
--- src/lib.rt:91:1
 returns-2 : tie.Need-returns-2
 returns-2 c = number-is (c .before .args .value) _ (omega arith) refl
 

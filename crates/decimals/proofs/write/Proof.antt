@@ -1,4 +1,4 @@
-use Rattle.decimals.specs.Writing.{written-put, written-none}
+use Rattle.decimals.specs.WritingTurns.{written-put, written-none}
 use native.Mathlib.Omega.{arith}
 use borrow.Author.Needs.{needs}
 use Rattle.decimals.proofs.write.Statement.{statement}
@@ -7,19 +7,17 @@ use Rattle.decimals.proofs.write.Reads as reads
 use Rattle.decimals.proofs.write.Lts as lts
 use Rattle.decimals.proofs.put_digits.Reads as put-digits-reads
 
--- src/lib.rt:55:9
 put-digits-requires : tie.Need-put-digits-requires
 put-digits-requires c κs = search needs
 
--- src/lib.rt:55:9
 same-length : tie.Need-same-length
 same-length c = search needs
 
--- src/lib.rt:55:9
 returns : tie.Need-returns
-returns c = let a = c .before .before .before .before .before .before .args in written-put (a .k) (a .n) _ (a .text .now) _ (omega arith) (c .before .before .put-digits .ensures)
+returns c = let a =
+    c .before .before .before .before .before .before .args in written-put (a .k) (a .n) _ (a .text .now) _
+    (omega arith) (c .before .before .put-digits .ensures)
 
--- src/lib.rt:51:1
 returns-2 : tie.Need-returns-2
 returns-2 c = let a = c .before .before .args in written-none (a .k) (a .n) (a .text .now) (omega arith)
 

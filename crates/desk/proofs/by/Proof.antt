@@ -1,4 +1,4 @@
-use Rattle.desk.specs.Says.{by-so}
+use Rattle.desk.specs.SaysLaws.{by-so}
 use Rattle.model.specs.Quoted.{codes}
 use mathlib.Core.Path.{sym, _∙_}
 use borrow.Author.Needs.{needs}
@@ -11,42 +11,37 @@ use Rattle.texts.proofs.words.blank.Reads as blank-reads
 use Rattle.texts.proofs.words.said.Reads as said-reads
 use Rattle.texts.proofs.words.with.Reads as with-reads
 
--- src/lib.rt:122:25
 blank-requires : tie.Need-blank-requires
 blank-requires c κs = search needs
 
--- src/lib.rt:122:41
 slice-aggregate-said : tie.Need-slice-aggregate-said
 slice-aggregate-said c = search needs
 
--- src/lib.rt:122:9
 said-requires : tie.Need-said-requires
 said-requires c κs = search needs
 
--- src/lib.rt:123:9
 counted-requires : tie.Need-counted-requires
 counted-requires c κs = search needs
 
--- src/lib.rt:124:32
 slice-aggregate-said-2 : tie.Need-slice-aggregate-said-2
 slice-aggregate-said-2 c = search needs
 
--- src/lib.rt:124:17
 said-requires-2 : tie.Need-said-requires-2
 said-requires-2 c κs = search needs
 
--- src/lib.rt:124:64
 slice-aggregate-with : tie.Need-slice-aggregate-with
 slice-aggregate-with c = search needs
 
--- src/lib.rt:124:5
 with-requires : tie.Need-with-requires
 with-requires c κs = search needs
 
--- src/lib.rt:119:1
 returns : tie.Need-returns
 unfolding codes
-returns c = let a = c .before .before .before .before .before .before .before .before .args in by-so (a .n) (a .h) _ _ _ _ (c .before .before .before .before .before .before .before .blank .ensures) (c .before .before .before .before .before .said .ensures) (c .before .before .before .before .counted .ensures) (c .before .before .said2 .ensures) (c .with .ensures)
+returns c = let a =
+    c .before .before .before .before .before .before .before .before .args in by-so (a .n) (a .h) _ _ _ _
+    (c .before .before .before .before .before .before .before .blank .ensures)
+    (c .before .before .before .before .before .said .ensures) (c .before .before .before .before .counted .ensures)
+    (c .before .before .said2 .ensures) (c .with .ensures)
 
 pub by-spec : {M : Type 1} → statement M
 by-spec =

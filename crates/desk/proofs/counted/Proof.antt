@@ -1,4 +1,4 @@
-use Rattle.desk.specs.Says.{word-one, word-more}
+use Rattle.desk.specs.SaysLaws.{word-one, word-more}
 use Rattle.texts.specs.Text.{told}
 use Rattle.model.specs.Quoted.{codes}
 use mathlib.Core.Path.{sym, _∙_}
@@ -9,31 +9,27 @@ use Rattle.desk.proofs.counted.Reads as reads
 use Rattle.desk.proofs.counted.Lts as lts
 use Rattle.texts.proofs.words.with.Reads as with-reads
 
--- src/lib.rt:113:31
 slice-aggregate-with : tie.Need-slice-aggregate-with
 slice-aggregate-with c = search needs
 
--- src/lib.rt:113:9
 with-requires : tie.Need-with-requires
 with-requires c κs = search needs
 
--- src/lib.rt:113:9
 returns : tie.Need-returns
 unfolding codes
-returns c = let a = c .before .before .before .args in word-one (a .n) (told (a .t)) (c .before .before .if1 .taken) (c .with .ensures)
+returns c = let a =
+    c .before .before .before .args in word-one (a .n) (told (a .t)) (c .before .before .if1 .taken) (c .with .ensures)
 
--- src/lib.rt:115:20
 slice-aggregate-with-2 : tie.Need-slice-aggregate-with-2
 slice-aggregate-with-2 c = search needs
 
--- src/lib.rt:115:5
 with-requires-2 : tie.Need-with-requires-2
 with-requires-2 c κs = search needs
 
--- src/lib.rt:109:1
 returns-2 : tie.Need-returns-2
 unfolding codes
-returns-2 c = let a = c .before .before .before .args in word-more (a .n) (told (a .t)) (c .before .before .if1 .left) (c .with2 .ensures)
+returns-2 c = let a =
+    c .before .before .before .args in word-more (a .n) (told (a .t)) (c .before .before .if1 .left) (c .with2 .ensures)
 
 pub counted-spec : {M : Type 1} → statement M
 counted-spec =

@@ -1,4 +1,4 @@
-use Rattle.desk.specs.Written.{colon-so}
+use Rattle.desk.specs.WrittenLaws.{colon-so}
 use borrow.Author.Needs.{needs}
 use Rattle.desk.proofs.is_colon.Statement.{statement}
 use Rattle.desk.proofs.is_colon.Tie as tie
@@ -6,11 +6,9 @@ use Rattle.desk.proofs.is_colon.Reads as reads
 use Rattle.desk.proofs.is_colon.Lts as lts
 use Rattle.octets.proofs.get8.Reads as get8-reads
 
--- src/lib.rt:56:5
 get8-requires : tie.Need-get8-requires
 get8-requires c κs = search needs
 
--- src/lib.rt:53:1
 returns : tie.Need-returns
 returns c = colon-so (c .before .before .args .text .now) (c .before .before .args .at) (c .get8 .ensures)
 

@@ -1,4 +1,4 @@
-use Rattle.desk.specs.Written.{octet-so}
+use Rattle.desk.specs.WrittenLaws.{octet-so}
 use borrow.Author.Needs.{needs}
 use Rattle.desk.proofs.octet_at.Statement.{statement}
 use Rattle.desk.proofs.octet_at.Tie as tie
@@ -7,49 +7,40 @@ use Rattle.desk.proofs.octet_at.Lts as lts
 use Rattle.desk.proofs.digit.Reads as digit-reads
 use Rattle.octets.proofs.get8.Reads as get8-reads
 
--- src/lib.rt:64:22
 get8-requires : tie.Need-get8-requires
 get8-requires c κs = search needs
 
--- src/lib.rt:64:16
 digit-requires : tie.Need-digit-requires
 digit-requires c κs = search needs
 
--- src/lib.rt:64:16
 cast-high : tie.Need-cast-high
 cast-high c = search needs
 
--- src/lib.rt:65:40
 add-get8 : tie.Need-add-get8
 add-get8 c = search needs
 
--- src/lib.rt:65:21
 get8-requires-2 : tie.Need-get8-requires-2
 get8-requires-2 c κs = search needs
 
--- src/lib.rt:65:15
 digit-requires-2 : tie.Need-digit-requires-2
 digit-requires-2 c κs = search needs
 
--- src/lib.rt:65:15
 cast-low : tie.Need-cast-low
 cast-low c = search needs
 
--- src/lib.rt:66:7
 mul-result : tie.Need-mul-result
 mul-result c = search needs
 
--- src/lib.rt:66:7
 add-result : tie.Need-add-result
 add-result c = search needs
 
--- src/lib.rt:66:5
 cast-result : tie.Need-cast-result
 cast-result c = search needs
 
--- src/lib.rt:60:1
 returns : tie.Need-returns
-returns c = octet-so (c .before .before .before .before .before .args .text .now) (c .before .before .before .before .before .args .at) (c .before .before .before .get8 .ensures) (c .before .get82 .ensures) (c .before .before .digit .ensures .0) (c .digit2 .ensures .0)
+returns c = octet-so (c .before .before .before .before .before .args .text .now)
+    (c .before .before .before .before .before .args .at) (c .before .before .before .get8 .ensures)
+    (c .before .get82 .ensures) (c .before .before .digit .ensures .0) (c .digit2 .ensures .0)
 
 pub octet-at-spec : {M : Type 1} → statement M
 octet-at-spec =

@@ -1,4 +1,4 @@
-use Rattle.desk.specs.Says.{said-by, said-nobody}
+use Rattle.desk.specs.SaysLaws.{said-by, said-nobody}
 use Rattle.model.specs.Quoted.{codes}
 use mathlib.Core.Path.{sym, _∙_}
 use borrow.Author.Needs.{needs}
@@ -10,38 +10,31 @@ use Rattle.desk.proofs.by.Reads as by-reads
 use Rattle.texts.proofs.words.blank.Reads as blank-reads
 use Rattle.texts.proofs.words.with.Reads as with-reads
 
--- src/lib.rt:132:28
 enum-known-w : tie.Need-enum-known-w
 enum-known-w c = search needs
 
--- src/lib.rt:132:46
 by-requires : tie.Need-by-requires
 by-requires c κs = search needs
 
--- src/lib.rt:133:38
 enum-told : tie.Need-enum-told
 enum-told c = search needs
 
--- src/lib.rt:133:38
 blank-requires : tie.Need-blank-requires
 blank-requires c κs = search needs
 
--- src/lib.rt:133:54
 slice-aggregate-with : tie.Need-slice-aggregate-with
 slice-aggregate-with c = search needs
 
--- src/lib.rt:133:26
 with-requires : tie.Need-with-requires
 with-requires c κs = search needs
 
--- src/lib.rt:128:1
 returns : tie.Need-returns
 returns c = said-by _ _ _ (c .before .before .w .given .1) (c .by .ensures)
 
--- src/lib.rt:128:1
 returns-2 : tie.Need-returns-2
 unfolding codes
-returns-2 c = said-nobody _ _ (c .before .before .before .enum-told .given .1) (c .before .before .blank .ensures) (c .with .ensures)
+returns-2 c = said-nobody _ _ (c .before .before .before .enum-told .given .1) (c .before .before .blank .ensures)
+    (c .with .ensures)
 
 pub sentence-spec : {M : Type 1} → statement M
 sentence-spec =

@@ -1,4 +1,4 @@
-use Rattle.events.specs.Written.{event-done, event-long, event-part, event-out}
+use Rattle.events.specs.WrittenLaws.{event-done, event-long, event-part, event-out}
 use native.Mathlib.Omega.{arith}
 use borrow.Author.Needs.{needs}
 use Rattle.events.proofs.put_event.Statement.{statement}
@@ -7,47 +7,36 @@ use Rattle.events.proofs.put_event.Reads as reads
 use Rattle.events.proofs.put_event.Lts as lts
 use Rattle.events.proofs.put_event_in.Reads as put-event-in-reads
 
--- src/lib.rt:30:9
 returns : tie.Need-returns
 returns c = event-long _ _ _ _ _ (omega arith)
 
--- src/lib.rt:33:9
 returns-2 : tie.Need-returns-2
 returns-2 c = event-part _ _ _ _ _ (omega arith) (omega arith)
 
--- src/lib.rt:36:14
 add-if3 : tie.Need-add-if3
 add-if3 c = search needs
 
--- src/lib.rt:37:9
 returns-3 : tie.Need-returns-3
 returns-3 c = event-out _ _ _ _ _ (omega arith) (omega arith) (omega arith)
 
--- src/lib.rt:39:20
 add-if4 : tie.Need-add-if4
 add-if4 c = search needs
 
--- src/lib.rt:39:13
 sub-if4 : tie.Need-sub-if4
 sub-if4 c = search needs
 
--- src/lib.rt:40:9
 returns-4 : tie.Need-returns-4
 returns-4 c = event-out _ _ _ _ _ (omega arith) (omega arith) (omega arith)
 
--- src/lib.rt:42:5
 put-event-in-requires : tie.Need-put-event-in-requires
 put-event-in-requires c κs = search needs
 
--- src/lib.rt:43:5
 add-result : tie.Need-add-result
 add-result c = search needs
 
--- src/lib.rt:25:1
 same-length : tie.Need-same-length
 same-length c = search needs
 
--- src/lib.rt:25:1
 returns-5 : tie.Need-returns-5
 returns-5 c = event-done _ _ _ _ _ (omega arith) (omega arith) (omega arith) (c .before .before .put-event-in .ensures)
 

@@ -3,8 +3,8 @@ use Prim.Native.Nat.{ℕ}
 use lib.ListN.{take, drop}
 use Prim.Native.Nat.{_+_}
 use lib.ListN.{length, set, length-set}
-use Rattle.events.specs.Written.{event-written}
-use Rattle.laws.specs.Put.{put-of}
+use Rattle.events.specs.WrittenLaws.{event-written}
+use Rattle.laws.specs.PutLaws.{put-of}
 use mathlib.Core.Path.{_≡_}
 use lib.ListN.{length, length-set}
 use native.Mathlib.Omega.{arith}
@@ -15,133 +15,142 @@ use Rattle.events.proofs.put_event_in.Reads as reads
 use Rattle.events.proofs.put_event_in.Lts as lts
 use Rattle.parts.proofs.copy.Reads as copy-reads
 
--- src/lib.rt:15:5
 slice-write-out : tie.Need-slice-write-out
 slice-write-out c = search needs
 
--- src/lib.rt:16:20
 add-out : tie.Need-add-out
 add-out c = search needs
 
--- src/lib.rt:16:19
 cast-out : tie.Need-cast-out
 cast-out c = search needs
 
--- src/lib.rt:16:9
 add-out-2 : tie.Need-add-out-2
 add-out-2 c = search needs
 
--- src/lib.rt:16:5
 slice-write-out-2 : tie.Need-slice-write-out-2
 slice-write-out-2 c = simp length-set (omega arith)
 
--- src/lib.rt:17:22
 add-copy : tie.Need-add-copy
 add-copy c = search needs
 
--- src/lib.rt:17:5
 copy-requires : tie.Need-copy-requires
 copy-requires c κs = search needs
 
--- src/lib.rt:18:9
 add-out-3 : tie.Need-add-out-3
 add-out-3 c = search needs
 
--- src/lib.rt:18:9
 add-out-4 : tie.Need-add-out-4
 add-out-4 c = search needs
 
--- src/lib.rt:18:5
 slice-write-out-3 : tie.Need-slice-write-out-3
 slice-write-out-3 c = let a = c .before .before .before .before .before .before .before .args in
-    let k : length (c .before .before .copy .last .0) ≡ length (set (set (a .out .now) (a .at) 255) (a .at + 1) (10 + length (a .prefix .now))) = c .before .before .copy .kept .0 in
-    let j : length (set (set (a .out .now) (a .at) 255) (a .at + 1) (10 + length (a .prefix .now))) ≡ length (a .out .now) = simp length-set in
+    let k : length (c .before .before .copy .last .0)
+    ≡ length (set (set (a .out .now) (a .at) 255) (a .at + 1) (10 + length (a .prefix .now))) = c .before .before
+    .copy .kept .0 in
+    let j : length (set (set (a .out .now) (a .at) 255) (a .at + 1) (10 + length (a .prefix .now)))
+    ≡ length (a .out .now) = simp length-set in
     omega arith
 
--- src/lib.rt:19:22
 add-copy-2 : tie.Need-add-copy-2
 add-copy-2 c = search needs
 
--- src/lib.rt:19:22
 add-copy-3 : tie.Need-add-copy-3
 add-copy-3 c = search needs
 
--- src/lib.rt:19:34
 sub-copy : tie.Need-sub-copy
 sub-copy c = search needs
 
--- src/lib.rt:19:34
 part-copy-start : tie.Need-part-copy-start
 part-copy-start c = search needs
 
--- src/lib.rt:19:34
 part-copy-end : tie.Need-part-copy-end
 part-copy-end c = search needs
 
--- src/lib.rt:19:5
 copy-requires-2 : tie.Need-copy-requires-2
 copy-requires-2 c κs = search needs
 
--- src/lib.rt:20:24
 shared-slice-read-out : tie.Need-shared-slice-read-out
 shared-slice-read-out c = search needs
 
--- src/lib.rt:20:9
 add-out-5 : tie.Need-add-out-5
 add-out-5 c = search needs
 
--- src/lib.rt:20:9
 add-out-6 : tie.Need-add-out-6
 add-out-6 c = search needs
 
--- src/lib.rt:20:5
 slice-write-out-4 : tie.Need-slice-write-out-4
-slice-write-out-4 c = let a = c .before .before .before .before .before .before .before .before .before .before .before .before .before .args in
-    let k : length (c .before .before .before .before .before .before .before .before .copy .last .0) ≡ length (set (set (a .out .now) (a .at) 255) (a .at + 1) (10 + length (a .prefix .now))) = c .before .before .before .before .before .before .before .before .copy .kept .0 in
-    let j : length (set (set (a .out .now) (a .at) 255) (a .at + 1) (10 + length (a .prefix .now))) ≡ length (a .out .now) = simp length-set in
-    let i : length (c .before .before .before .copy2 .last .0) ≡ length (set (c .before .before .before .before .before .before .before .before .copy .last .0) (a .at + 2 + length (a .prefix .now)) 2) = c .before .before .before .copy2 .kept .0 in
-    let h : length (set (c .before .before .before .before .before .before .before .before .copy .last .0) (a .at + 2 + length (a .prefix .now)) 2) ≡ length (c .before .before .before .before .before .before .before .before .copy .last .0) = simp length-set in
+slice-write-out-4 c = let a =
+    c .before .before .before .before .before .before .before .before .before .before .before .before .before .args in
+    let k : length (c .before .before .before .before .before .before .before .before .copy .last .0)
+    ≡ length (set (set (a .out .now) (a .at) 255) (a .at + 1) (10 + length (a .prefix .now))) = c .before .before
+    .before .before .before .before .before .before .copy .kept .0 in
+    let j : length (set (set (a .out .now) (a .at) 255) (a .at + 1) (10 + length (a .prefix .now)))
+    ≡ length (a .out .now) = simp length-set in
+    let i : length (c .before .before .before .copy2 .last .0)
+    ≡ length (set (c .before .before .before .before .before .before .before .before .copy .last .0)
+    (a .at + 2 + length (a .prefix .now)) 2) = c .before .before .before .copy2 .kept .0 in
+    let h : length (set (c .before .before .before .before .before .before .before .before .copy .last .0)
+    (a .at + 2 + length (a .prefix .now)) 2)
+    ≡ length (c .before .before .before .before .before .before .before .before .copy .last .0) = simp length-set in
     omega arith
 
--- src/lib.rt:21:9
 add-out-7 : tie.Need-add-out-7
 add-out-7 c = search needs
 
--- src/lib.rt:21:9
 add-out-8 : tie.Need-add-out-8
 add-out-8 c = search needs
 
--- src/lib.rt:21:5
 slice-write-out-5 : tie.Need-slice-write-out-5
-slice-write-out-5 c = let a = c .before .before .before .before .before .before .before .before .before .before .before .before .before .args in
-    let k : length (c .before .before .before .before .before .before .before .before .copy .last .0) ≡ length (set (set (a .out .now) (a .at) 255) (a .at + 1) (10 + length (a .prefix .now))) = c .before .before .before .before .before .before .before .before .copy .kept .0 in
-    let j : length (set (set (a .out .now) (a .at) 255) (a .at + 1) (10 + length (a .prefix .now))) ≡ length (a .out .now) = simp length-set in
-    let i : length (c .before .before .before .copy2 .last .0) ≡ length (set (c .before .before .before .before .before .before .before .before .copy .last .0) (a .at + 2 + length (a .prefix .now)) 2) = c .before .before .before .copy2 .kept .0 in
-    let h : length (set (c .before .before .before .before .before .before .before .before .copy .last .0) (a .at + 2 + length (a .prefix .now)) 2) ≡ length (c .before .before .before .before .before .before .before .before .copy .last .0) = simp length-set in
+slice-write-out-5 c = let a =
+    c .before .before .before .before .before .before .before .before .before .before .before .before .before .args in
+    let k : length (c .before .before .before .before .before .before .before .before .copy .last .0)
+    ≡ length (set (set (a .out .now) (a .at) 255) (a .at + 1) (10 + length (a .prefix .now))) = c .before .before
+    .before .before .before .before .before .before .copy .kept .0 in
+    let j : length (set (set (a .out .now) (a .at) 255) (a .at + 1) (10 + length (a .prefix .now)))
+    ≡ length (a .out .now) = simp length-set in
+    let i : length (c .before .before .before .copy2 .last .0)
+    ≡ length (set (c .before .before .before .before .before .before .before .before .copy .last .0)
+    (a .at + 2 + length (a .prefix .now)) 2) = c .before .before .before .copy2 .kept .0 in
+    let h : length (set (c .before .before .before .before .before .before .before .before .copy .last .0)
+    (a .at + 2 + length (a .prefix .now)) 2)
+    ≡ length (c .before .before .before .before .before .before .before .before .copy .last .0) = simp length-set in
     simp length-set (omega arith)
 
--- src/lib.rt:10:1
 same-length : tie.Need-same-length
-same-length c = let a = c .before .before .before .before .before .before .before .before .before .before .before .before .before .args in
-    let k : length (c .before .before .before .before .before .before .before .before .copy .last .0) ≡ length (set (set (a .out .now) (a .at) 255) (a .at + 1) (10 + length (a .prefix .now))) = c .before .before .before .before .before .before .before .before .copy .kept .0 in
-    let j : length (set (set (a .out .now) (a .at) 255) (a .at + 1) (10 + length (a .prefix .now))) ≡ length (a .out .now) = simp length-set in
-    let i : length (c .before .before .before .copy2 .last .0) ≡ length (set (c .before .before .before .before .before .before .before .before .copy .last .0) (a .at + 2 + length (a .prefix .now)) 2) = c .before .before .before .copy2 .kept .0 in
-    let h : length (set (c .before .before .before .before .before .before .before .before .copy .last .0) (a .at + 2 + length (a .prefix .now)) 2) ≡ length (c .before .before .before .before .before .before .before .before .copy .last .0) = simp length-set in
+same-length c = let a =
+    c .before .before .before .before .before .before .before .before .before .before .before .before .before .args in
+    let k : length (c .before .before .before .before .before .before .before .before .copy .last .0)
+    ≡ length (set (set (a .out .now) (a .at) 255) (a .at + 1) (10 + length (a .prefix .now))) = c .before .before
+    .before .before .before .before .before .before .copy .kept .0 in
+    let j : length (set (set (a .out .now) (a .at) 255) (a .at + 1) (10 + length (a .prefix .now)))
+    ≡ length (a .out .now) = simp length-set in
+    let i : length (c .before .before .before .copy2 .last .0)
+    ≡ length (set (c .before .before .before .before .before .before .before .before .copy .last .0)
+    (a .at + 2 + length (a .prefix .now)) 2) = c .before .before .before .copy2 .kept .0 in
+    let h : length (set (c .before .before .before .before .before .before .before .before .copy .last .0)
+    (a .at + 2 + length (a .prefix .now)) 2)
+    ≡ length (c .before .before .before .before .before .before .before .before .copy .last .0) = simp length-set in
     simp length-set (omega arith)
 
--- src/lib.rt:10:1
 returns : tie.Need-returns
-returns c = let a = c .before .before .before .before .before .before .before .before .before .before .before .before .before .args in
+returns c = let a =
+    c .before .before .before .before .before .before .before .before .before .before .before .before .before .args in
     let n : ℕ = length (a .prefix .now) in
     let b = set (set (a .out .now) (a .at) 255) (a .at + 1) (10 + length (a .prefix .now)) in
     let d = set (c .before .before .before .before .before .before .before .before .copy .last .0) (a .at + 2 + n) 2 in
-    let j : length (set (set (a .out .now) (a .at) 255) (a .at + 1) (10 + length (a .prefix .now))) ≡ length (a .out .now) = simp length-set in
-    let k : length (c .before .before .before .before .before .before .before .before .copy .last .0) ≡ length b = c .before .before .before .before .before .before .before .before .copy .kept .0 in
-    let h : length d ≡ length (c .before .before .before .before .before .before .before .before .copy .last .0) = simp length-set in
+    let j : length (set (set (a .out .now) (a .at) 255) (a .at + 1) (10 + length (a .prefix .now)))
+    ≡ length (a .out .now) = simp length-set in
+    let k : length (c .before .before .before .before .before .before .before .before .copy .last .0) ≡ length b =
+    c .before .before .before .before .before .before .before .before .copy .kept .0 in
+    let h : length d ≡ length (c .before .before .before .before .before .before .before .before .copy .last .0) =
+    simp length-set in
     let g : length (take 7 (drop 1 (a .row .now))) ≡ 7 = simp (length-take, length-drop) (omega arith) in
     event-written (a .out .now) (a .at) (a .prefix .now) (a .row .now) (a .state) (omega arith) (omega arith)
-    (put-of b (a .at + 2) (a .prefix .now) n (length b) (c .before .before .before .before .before .before .before .before .copy .ensures .0) (omega arith) (c .before .before .before .before .before .before .before .before .copy .ensures .1))
-    (put-of d (a .at + 3 + n) (take 7 (drop 1 (a .row .now))) (length (take 7 (drop 1 (a .row .now)))) (length d) (c .before .before .before .copy2 .ensures .0) (omega arith) (c .before .before .before .copy2 .ensures .1))
+    (put-of b (a .at + 2) (a .prefix .now) n (length b)
+    (c .before .before .before .before .before .before .before .before .copy .ensures .0) (omega arith)
+    (c .before .before .before .before .before .before .before .before .copy .ensures .1))
+    (put-of d (a .at + 3 + n) (take 7 (drop 1 (a .row .now))) (length (take 7 (drop 1 (a .row .now)))) (length d)
+    (c .before .before .before .copy2 .ensures .0) (omega arith) (c .before .before .before .copy2 .ensures .1))
 
 pub put-event-in-spec : {M : Type 1} → statement M
 put-event-in-spec =

@@ -1,5 +1,5 @@
-use Rattle.events.specs.Written.{report-written}
-use Rattle.laws.specs.Put.{put-of}
+use Rattle.events.specs.WrittenLaws.{report-written}
+use Rattle.laws.specs.PutLaws.{put-of}
 use mathlib.Core.List.{List}
 use mathlib.Core.Path.{_≡_}
 use lib.ListN.{length, set, length-set}
@@ -12,127 +12,120 @@ use Rattle.events.proofs.put_report_in.Reads as reads
 use Rattle.events.proofs.put_report_in.Lts as lts
 use Rattle.parts.proofs.copy.Reads as copy-reads
 
--- src/lib.rt:51:5
 slice-write-out : tie.Need-slice-write-out
 slice-write-out c = search needs
 
--- src/lib.rt:52:20
 add-out : tie.Need-add-out
 add-out c = search needs
 
--- src/lib.rt:52:19
 cast-out : tie.Need-cast-out
 cast-out c = search needs
 
--- src/lib.rt:52:9
 add-out-2 : tie.Need-add-out-2
 add-out-2 c = search needs
 
--- src/lib.rt:52:5
 slice-write-out-2 : tie.Need-slice-write-out-2
 slice-write-out-2 c = simp length-set (omega arith)
 
--- src/lib.rt:53:9
 add-out-3 : tie.Need-add-out-3
 add-out-3 c = search needs
 
--- src/lib.rt:53:5
 slice-write-out-3 : tie.Need-slice-write-out-3
 slice-write-out-3 c = simp length-set (omega arith)
 
--- src/lib.rt:54:9
 add-out-4 : tie.Need-add-out-4
 add-out-4 c = search needs
 
--- src/lib.rt:54:5
 slice-write-out-4 : tie.Need-slice-write-out-4
 slice-write-out-4 c = simp length-set (omega arith)
 
--- src/lib.rt:55:9
 add-out-5 : tie.Need-add-out-5
 add-out-5 c = search needs
 
--- src/lib.rt:55:5
 slice-write-out-5 : tie.Need-slice-write-out-5
 slice-write-out-5 c = simp length-set (omega arith)
 
--- src/lib.rt:56:22
 add-copy : tie.Need-add-copy
 add-copy c = search needs
 
--- src/lib.rt:56:5
 copy-requires : tie.Need-copy-requires
 copy-requires c κs = search needs
 
--- src/lib.rt:57:20
 cast-out-2 : tie.Need-cast-out-2
 cast-out-2 c = search needs
 
--- src/lib.rt:57:9
 add-out-6 : tie.Need-add-out-6
 add-out-6 c = search needs
 
--- src/lib.rt:57:5
 slice-write-out-6 : tie.Need-slice-write-out-6
 slice-write-out-6 c = let a = c .before .before .before .before .before .before .before .args in
-    let b : List ℕ = set (set (set (set (set (a .out .now) (a .at) 62) (a .at + 1) (12 + length (a .adv .now))) (a .at + 2) 2) (a .at + 3) 1) (a .at + 4) (a .event) in
+    let b : List ℕ =
+    set (set (set (set (set (a .out .now) (a .at) 62) (a .at + 1) (12 + length (a .adv .now))) (a .at + 2) 2)
+    (a .at + 3) 1) (a .at + 4) (a .event) in
     let j : length b ≡ length (a .out .now) = simp length-set in
     let k : length (c .before .before .copy .last .0) ≡ length b = c .before .before .copy .kept .0 in
     omega arith
 
--- src/lib.rt:58:22
 add-copy-2 : tie.Need-add-copy-2
 add-copy-2 c = search needs
 
--- src/lib.rt:58:5
 copy-requires-2 : tie.Need-copy-requires-2
 copy-requires-2 c κs = search needs
 
--- src/lib.rt:59:9
 add-out-7 : tie.Need-add-out-7
 add-out-7 c = search needs
 
--- src/lib.rt:59:9
 add-out-8 : tie.Need-add-out-8
 add-out-8 c = search needs
 
--- src/lib.rt:59:5
 slice-write-out-7 : tie.Need-slice-write-out-7
-slice-write-out-7 c = let a = c .before .before .before .before .before .before .before .before .before .before .before .args in
+slice-write-out-7 c = let a =
+    c .before .before .before .before .before .before .before .before .before .before .before .args in
     let n : ℕ = length (a .adv .now) in
-    let b : List ℕ = set (set (set (set (set (a .out .now) (a .at) 62) (a .at + 1) (12 + length (a .adv .now))) (a .at + 2) 2) (a .at + 3) 1) (a .at + 4) (a .event) in
+    let b : List ℕ =
+    set (set (set (set (set (a .out .now) (a .at) 62) (a .at + 1) (12 + length (a .adv .now))) (a .at + 2) 2)
+    (a .at + 3) 1) (a .at + 4) (a .event) in
     let d : List ℕ = set (c .before .before .before .before .before .before .copy .last .0) (a .at + 12) n in
     let j : length b ≡ length (a .out .now) = simp length-set in
-    let k : length (c .before .before .before .before .before .before .copy .last .0) ≡ length b = c .before .before .before .before .before .before .copy .kept .0 in
+    let k : length (c .before .before .before .before .before .before .copy .last .0) ≡ length b =
+    c .before .before .before .before .before .before .copy .kept .0 in
     let h : length d ≡ length (c .before .before .before .before .before .before .copy .last .0) = simp length-set in
     let i : length (c .before .before .copy2 .last .0) ≡ length d = c .before .before .copy2 .kept .0 in
     omega arith
 
--- src/lib.rt:46:1
 same-length : tie.Need-same-length
-same-length c = let a = c .before .before .before .before .before .before .before .before .before .before .before .args in
+same-length c = let a =
+    c .before .before .before .before .before .before .before .before .before .before .before .args in
     let n : ℕ = length (a .adv .now) in
-    let b : List ℕ = set (set (set (set (set (a .out .now) (a .at) 62) (a .at + 1) (12 + length (a .adv .now))) (a .at + 2) 2) (a .at + 3) 1) (a .at + 4) (a .event) in
+    let b : List ℕ =
+    set (set (set (set (set (a .out .now) (a .at) 62) (a .at + 1) (12 + length (a .adv .now))) (a .at + 2) 2)
+    (a .at + 3) 1) (a .at + 4) (a .event) in
     let d : List ℕ = set (c .before .before .before .before .before .before .copy .last .0) (a .at + 12) n in
     let j : length b ≡ length (a .out .now) = simp length-set in
-    let k : length (c .before .before .before .before .before .before .copy .last .0) ≡ length b = c .before .before .before .before .before .before .copy .kept .0 in
+    let k : length (c .before .before .before .before .before .before .copy .last .0) ≡ length b =
+    c .before .before .before .before .before .before .copy .kept .0 in
     let h : length d ≡ length (c .before .before .before .before .before .before .copy .last .0) = simp length-set in
     let i : length (c .before .before .copy2 .last .0) ≡ length d = c .before .before .copy2 .kept .0 in
     simp length-set (omega arith)
 
--- src/lib.rt:46:1
 returns : tie.Need-returns
 returns c = let a = c .before .before .before .before .before .before .before .before .before .before .before .args in
     let n : ℕ = length (a .adv .now) in
-    let b : List ℕ = set (set (set (set (set (a .out .now) (a .at) 62) (a .at + 1) (12 + length (a .adv .now))) (a .at + 2) 2) (a .at + 3) 1) (a .at + 4) (a .event) in
+    let b : List ℕ =
+    set (set (set (set (set (a .out .now) (a .at) 62) (a .at + 1) (12 + length (a .adv .now))) (a .at + 2) 2)
+    (a .at + 3) 1) (a .at + 4) (a .event) in
     let d : List ℕ = set (c .before .before .before .before .before .before .copy .last .0) (a .at + 12) n in
     let j : length b ≡ length (a .out .now) = simp length-set in
-    let k : length (c .before .before .before .before .before .before .copy .last .0) ≡ length b = c .before .before .before .before .before .before .copy .kept .0 in
+    let k : length (c .before .before .before .before .before .before .copy .last .0) ≡ length b =
+    c .before .before .before .before .before .before .copy .kept .0 in
     let h : length d ≡ length (c .before .before .before .before .before .before .copy .last .0) = simp length-set in
     let i : length (c .before .before .copy2 .last .0) ≡ length d = c .before .before .copy2 .kept .0 in
     report-written (a .out .now) (a .at) (a .event) (a .device .now) (a .adv .now) (a .rssi) (omega arith) (omega arith)
-    (put-of b (a .at + 5) (a .device .now) (length (a .device .now)) (length b) (c .before .before .before .before .before .before .copy .ensures .0) (omega arith) (c .before .before .before .before .before .before .copy .ensures .1))
-    (put-of d (a .at + 13) (a .adv .now) n (length d) (c .before .before .copy2 .ensures .0) (omega arith) (c .before .before .copy2 .ensures .1))
+    (put-of b (a .at + 5) (a .device .now) (length (a .device .now)) (length b)
+    (c .before .before .before .before .before .before .copy .ensures .0) (omega arith)
+    (c .before .before .before .before .before .before .copy .ensures .1))
+    (put-of d (a .at + 13) (a .adv .now) n (length d) (c .before .before .copy2 .ensures .0) (omega arith)
+    (c .before .before .copy2 .ensures .1))
 
 pub put-report-in-spec : {M : Type 1} → statement M
 put-report-in-spec =

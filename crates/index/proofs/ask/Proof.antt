@@ -9,15 +9,12 @@ use Rattle.index.proofs.ask.Lts as lts
 use Rattle.index.proofs.mask_for.Reads as mask-for-reads
 use Rattle.index.proofs.told.Reads as told-reads
 
--- src/lib.rt:124:10
 mask-for-requires : tie.Need-mask-for-requires
 mask-for-requires c κs = search needs
 
--- src/lib.rt:124:5
 told-requires : tie.Need-told-requires
 told-requires c κs = search needs
 
--- src/lib.rt:121:1
 returns : tie.Need-returns
 returns c = c .told .ensures ∙ ap (λ x. watchOf (handlesOf x)) (c .before .mask-for .ensures)
 

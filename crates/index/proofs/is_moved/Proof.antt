@@ -1,5 +1,5 @@
 use native.Mathlib.Omega.{arith}
-use Rattle.index.specs.Renewed.{moved-count, moved-silent, moved-first}
+use Rattle.index.specs.RenewedLaws.{moved-count, moved-silent, moved-first}
 use borrow.Author.Needs.{needs}
 use Rattle.index.proofs.is_moved.Statement.{statement}
 use Rattle.index.proofs.is_moved.Tie as tie
@@ -7,25 +7,25 @@ use Rattle.index.proofs.is_moved.Reads as reads
 use Rattle.index.proofs.is_moved.Lts as lts
 use Rattle.octets.proofs.get8.Reads as get8-reads
 
--- src/lib.rt:174:8
 shared-slice-read-if1 : tie.Need-shared-slice-read-if1
 shared-slice-read-if1 c = search needs
 
--- src/lib.rt:175:9
 returns : tie.Need-returns
-returns c = let a = c .before .before .before .before .args in moved-count (a .before) (a .out .now) (a .n) (a .s .now) (c .if1 .taken)
+returns c = let a =
+    c .before .before .before .before .args in moved-count (a .before) (a .out .now) (a .n) (a .s .now) (c .if1 .taken)
 
--- src/lib.rt:178:9
 returns-2 : tie.Need-returns-2
-returns-2 c = let a = c .before .before .before .before .before .args in moved-silent (a .before) (a .out .now) (a .n) (a .s .now) (omega arith) (c .if2 .taken)
+returns-2 c = let a =
+    c .before .before .before .before .before .args in moved-silent (a .before) (a .out .now) (a .n) (a .s .now)
+    (omega arith) (c .if2 .taken)
 
--- src/lib.rt:180:5
 get8-requires : tie.Need-get8-requires
 get8-requires c κs = search needs
 
--- src/lib.rt:170:1
 returns-3 : tie.Need-returns-3
-returns-3 c = let a = c .before .before .before .before .before .before .args in moved-first (a .before) (a .out .now) (a .n) (a .s .now) (omega arith) (c .before .if2 .left) (c .get8 .ensures)
+returns-3 c = let a =
+    c .before .before .before .before .before .before .args in moved-first (a .before) (a .out .now) (a .n)
+    (a .s .now) (omega arith) (c .before .if2 .left) (c .get8 .ensures)
 
 pub is-moved-spec : {M : Type 1} → statement M
 is-moved-spec =

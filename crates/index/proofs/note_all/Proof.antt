@@ -2,8 +2,8 @@ use Prim.Native.Nat.{_-_, _≤_}
 use mathlib.Core.Path.{_≡_, refl, sym, ap, _∙_}
 use native.Mathlib.Omega.{arith}
 use borrow.Author.Needs.{needs}
-use Rattle.state.specs.Start.{octets-known}
-use Rattle.index.specs.InPlace.{Noting, noting-none, noting-more, noting-done, table-long, pairs-long}
+use Rattle.state.specs.StartLaws.{octets-known}
+use Rattle.index.specs.InPlaceLaws.{Noting, noting-none, noting-more, noting-done, table-long, pairs-long}
 use Rattle.index.proofs.note_all.Statement.{statement}
 use Rattle.index.proofs.note_all.Tie as tie
 
@@ -14,7 +14,8 @@ abbrev μ-loop : tie.MeasureT-loop
 μ-loop s₀ n seen₀ k₀ i₀ s seen k i = n - i
 
 loop-holds : tie.Need-loop-holds Inv-loop μ-loop
-loop-holds c = let a = c .before in (omega arith, omega arith, noting-none (a .args .s .now) _ (a .pre .0) refl (a .pre .2))
+loop-holds c = let a =
+    c .before in (omega arith, omega arith, noting-none (a .args .s .now) _ (a .pre .0) refl (a .pre .2))
 
 sub-key-at : tie.Need-sub-key-at Inv-loop μ-loop
 sub-key-at c = search needs
@@ -44,7 +45,9 @@ slice-aggregate-note-marked : tie.Need-slice-aggregate-note-marked Inv-loop μ-l
 slice-aggregate-note-marked c = search needs
 
 note-marked-requires : tie.Need-note-marked-requires Inv-loop μ-loop
-note-marked-requires c κs = let l = c .before .before .before .before .before .before .loop in (table-long (l .s) (l .inv .2 .long), l .inv .2 .marked, omega arith, omega arith)
+note-marked-requires c κs = let l =
+    c .before .before .before .before .before .before
+    .loop in (table-long (l .s) (l .inv .2 .long), l .inv .2 .marked, omega arith, omega arith)
 
 add-i : tie.Need-add-i Inv-loop μ-loop
 add-i c = omega arith
@@ -60,8 +63,15 @@ loop-again c =
     let key = c .before .before .before .before .before .before .key-at in (
       omega arith,
       omega (arith, f .ensures .0),
-      noting-more (a .args .s .now) (l .s) (l .seen) (l .i) (l .k) (a .pre .0) (octets-known (a .args .s .now) (λ i. omega (arith, c .before .before .before .before .before .before .before .before .before .before .before .slice-known .given i)))
-          (omega arith) (l .inv .2) (key .result) (key .ensures) (f .result) (f .last .0) (f .last .1 .0) _ (f .kept .0 ∙ table-long (l .s) (l .inv .2 .long))
+      noting-more (a .args .s .now) (l .s) (l .seen) (l .i) (l .k) (a .pre .0)
+          (octets-known (a .args .s .now)
+          (λ i. omega (
+            arith,
+            c .before .before .before .before .before .before .before .before .before .before .before .slice-known
+                .given i,
+          )))
+          (omega arith) (l .inv .2) (key .result) (key .ensures) (f .result) (f .last .0) (f .last .1 .0) _
+          (f .kept .0 ∙ table-long (l .s) (l .inv .2 .long))
           (f .kept .1 .0) (f .ensures .1) refl,
     )
 

@@ -1,7 +1,7 @@
 use native.Mathlib.Omega.{arith}
 use mathlib.Core.Path.{refl}
 use lib.ListN.{length-take}
-use Rattle.index.specs.Begun.{blank-not, blank-in}
+use Rattle.index.specs.BegunLaws.{blank-not, blank-in}
 use borrow.Author.Needs.{needs}
 use Rattle.index.proofs.put_blank.Statement.{statement}
 use Rattle.index.proofs.put_blank.Tie as tie
@@ -11,37 +11,34 @@ use Rattle.index.proofs.put_first.Reads as put-first-reads
 use Rattle.parts.proofs.fill.Reads as fill-reads
 use Rattle.state.proofs.put_blank.Reads as put-blank-reads
 
--- src/lib.rt:129:9
 returns : tie.Need-returns
 returns c = blank-not (c .before .before .args .s .now) (λ e. c .if1 .taken e)
 
--- src/lib.rt:131:5
 fill-requires : tie.Need-fill-requires
 fill-requires c κs = search needs
 
--- src/lib.rt:132:22
 slice-relend-prefix-put-blank : tie.Need-slice-relend-prefix-put-blank
 slice-relend-prefix-put-blank c = search needs
 
--- src/lib.rt:132:22
 slice-aggregate-put-blank : tie.Need-slice-aggregate-put-blank
 slice-aggregate-put-blank c = simp length-take (let k = c .before .before .before .fill .kept .0 in omega arith)
 
--- src/lib.rt:132:5
 put-blank-requires : tie.Need-put-blank-requires
 put-blank-requires c κs = search needs
 
--- src/lib.rt:133:5
 put-first-requires : tie.Need-put-first-requires
 put-first-requires c κs = search needs
 
--- src/lib.rt:125:1
 same-length : tie.Need-same-length
 same-length c = search needs
 
--- src/lib.rt:125:1
 returns-2 : tie.Need-returns-2
-returns-2 c = let a = c .before .before .before .before .before .before .before .before .before .before .before .before .before .before .args in blank-in (a .s .now) (omega arith) (c .before .before .before .before .before .before .before .before .before .before .fill .ensures .0) (c .before .before .before .before .before .before .before .before .before .before .fill .ensures .1) (c .before .before .before .before .before .before .put-blank .ensures) refl (c .before .before .put-first .ensures)
+returns-2 c = let a =
+    c .before .before .before .before .before .before .before .before .before .before .before .before .before .before
+    .args in blank-in (a .s .now) (omega arith)
+    (c .before .before .before .before .before .before .before .before .before .before .fill .ensures .0)
+    (c .before .before .before .before .before .before .before .before .before .before .fill .ensures .1)
+    (c .before .before .before .before .before .before .put-blank .ensures) refl (c .before .before .put-first .ensures)
 
 pub put-blank-spec : {M : Type 1} → statement M
 put-blank-spec =

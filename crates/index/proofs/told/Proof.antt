@@ -1,5 +1,5 @@
 use native.Mathlib.Omega.{arith}
-use Rattle.index.specs.Asked.{mask-nobody, mask-watched}
+use Rattle.index.specs.AskedLaws.{mask-nobody, mask-watched}
 use Rattle.index.proofs.told.Statement.{statement}
 use Rattle.index.proofs.told.Tie as tie
 

@@ -8,23 +8,18 @@ use Rattle.lines_run.proofs.frame_of.Reads as reads
 use Rattle.lines_run.proofs.frame_of.Lts as lts
 use Rattle.lines.proofs.is_frame.Reads as is-frame-reads
 
--- src/main.rt:88:28
 slice-aggregate-is-frame : tie.Need-slice-aggregate-is-frame
 slice-aggregate-is-frame c = sym (length-take-le _ _ (omega arith))
 
--- src/main.rt:88:12
 is-frame-requires : tie.Need-is-frame-requires
 is-frame-requires c κs = search needs
 
--- src/main.rt:89:13
 returns : tie.Need-returns
 returns c = search needs
 
--- src/main.rt:86:1
 returns-2 : tie.Need-returns-2
 returns-2 c = search needs
 
--- src/main.rt:86:1
 returns-3 : tie.Need-returns-3
 returns-3 c = search needs
 

@@ -8,59 +8,45 @@ use Rattle.lines_run.proofs.read_text_of.Lts as lts
 use Rattle.lines.proofs.put_text.Reads as put-text-reads
 use Rattle.lines_run.proofs.show_read.Reads as show-read-reads
 
--- src/main.rt:98:8
 put-text-requires : tie.Need-put-text-requires
 put-text-requires c κs = search needs
 
--- src/main.rt:101:23
 mul-end : tie.Need-mul-end
 mul-end c = search needs
 
--- src/main.rt:101:23
 add-end : tie.Need-add-end
 add-end c = search needs
 
--- src/main.rt:103:34
 slice-reshare-prefix-show-read : tie.Need-slice-reshare-prefix-show-read
 slice-reshare-prefix-show-read c = search needs
 
--- src/main.rt:103:34
 slice-aggregate-show-read : tie.Need-slice-aggregate-show-read
 slice-aggregate-show-read c = simp length-take (omega arith)
 
--- src/main.rt:103:17
 show-read-requires : tie.Need-show-read-requires
 show-read-requires c κs = search needs
 
--- src/main.rt:97:1
 same-length : tie.Need-same-length
 same-length c = search needs
 
--- src/main.rt:97:1
 returns : tie.Need-returns
 returns c = search needs
 
--- src/main.rt:97:1
 same-length-2 : tie.Need-same-length-2
 same-length-2 c = search needs
 
--- src/main.rt:97:1
 returns-2 : tie.Need-returns-2
 returns-2 c = search needs
 
--- src/main.rt:97:1
 same-length-3 : tie.Need-same-length-3
 same-length-3 c = search needs
 
--- src/main.rt:97:1
 returns-3 : tie.Need-returns-3
 returns-3 c = search needs
 
--- src/main.rt:97:1
 same-length-4 : tie.Need-same-length-4
 same-length-4 c = search needs
 
--- src/main.rt:97:1
 returns-4 : tie.Need-returns-4
 returns-4 c = search needs
 

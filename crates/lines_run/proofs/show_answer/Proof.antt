@@ -9,39 +9,30 @@ use Rattle.io.proofs.write_all.Reads as write-all-reads
 use Rattle.lines_run.proofs.show_changed.Reads as show-changed-reads
 use Rattle.lines_run.proofs.show_number.Reads as show-number-reads
 
--- src/main.rt:38:21
 enum-known-w : tie.Need-enum-known-w
 enum-known-w c = search needs
 
--- src/main.rt:40:34
 slice-aggregate-write-all : tie.Need-slice-aggregate-write-all
 slice-aggregate-write-all c = simp length-take (omega arith)
 
--- src/main.rt:40:17
 write-all-requires : tie.Need-write-all-requires
 write-all-requires c κs = search needs
 
--- src/main.rt:42:13
 show-changed-requires : tie.Need-show-changed-requires
 show-changed-requires c κs = search needs
 
--- src/main.rt:44:24
 enum-known-w-2 : tie.Need-enum-known-w-2
 enum-known-w-2 c = search needs
 
--- src/main.rt:45:13
 show-number-requires : tie.Need-show-number-requires
 show-number-requires c κs = search needs
 
--- src/main.rt:46:13
 show-changed-requires-2 : tie.Need-show-changed-requires-2
 show-changed-requires-2 c κs = search needs
 
--- src/main.rt:36:1
 returns : tie.Need-returns
 returns c = search needs
 
--- src/main.rt:36:1
 returns-2 : tie.Need-returns-2
 returns-2 c = search needs
 

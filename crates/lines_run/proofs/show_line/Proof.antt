@@ -8,23 +8,18 @@ use Rattle.lines_run.proofs.show_line.Lts as lts
 use Rattle.lines_run.proofs.show_changed.Reads as show-changed-reads
 use Rattle.lines_run.proofs.show_written.Reads as show-written-reads
 
--- src/main.rt:69:29
 slice-aggregate-show-written : tie.Need-slice-aggregate-show-written
 slice-aggregate-show-written c = simp length-take (omega arith)
 
--- src/main.rt:69:9
 show-written-requires : tie.Need-show-written-requires
 show-written-requires c κs = search needs
 
--- src/main.rt:70:9
 show-changed-requires : tie.Need-show-changed-requires
 show-changed-requires c κs = search needs
 
--- src/main.rt:67:1
 returns : tie.Need-returns
 returns c = search needs
 
--- src/main.rt:67:1
 returns-2 : tie.Need-returns-2
 returns-2 c = search needs
 

@@ -9,31 +9,24 @@ use Rattle.io.proofs.buffer.Reads as buffer-reads
 use Rattle.io.proofs.write_all.Reads as write-all-reads
 use Rattle.lines_run.proofs.take_into.Reads as take-into-reads
 
--- src/main.rt:144:22
 buffer-requires : tie.Need-buffer-requires
 buffer-requires c κs = search needs
 
--- src/main.rt:145:5
 write-all-requires : tie.Need-write-all-requires
 write-all-requires c κs = search needs
 
--- src/main.rt:147:25
 array-borrow-prefix-octets : tie.Need-array-borrow-prefix-octets
 array-borrow-prefix-octets c = search needs
 
--- src/main.rt:147:25
 slice-aggregate-take-into : tie.Need-slice-aggregate-take-into
 slice-aggregate-take-into c = simp length-take (omega arith)
 
--- src/main.rt:147:9
 take-into-requires : tie.Need-take-into-requires
 take-into-requires c κs = search needs
 
--- src/main.rt:143:1
 returns : tie.Need-returns
 returns c = search needs
 
--- src/main.rt:143:1
 returns-2 : tie.Need-returns-2
 returns-2 c = search needs
 

@@ -8,27 +8,21 @@ use Rattle.lines_run.proofs.show_written.Lts as lts
 use Rattle.io.proofs.buffer.Reads as buffer-reads
 use Rattle.lines_run.proofs.write_into.Reads as write-into-reads
 
--- src/main.rt:60:19
 buffer-requires : tie.Need-buffer-requires
 buffer-requires c κs = search needs
 
--- src/main.rt:62:35
 array-borrow-prefix-out : tie.Need-array-borrow-prefix-out
 array-borrow-prefix-out c = search needs
 
--- src/main.rt:62:35
 slice-aggregate-write-into : tie.Need-slice-aggregate-write-into
 slice-aggregate-write-into c = simp length-take (omega arith)
 
--- src/main.rt:62:9
 write-into-requires : tie.Need-write-into-requires
 write-into-requires c κs = search needs
 
--- src/main.rt:59:1
 returns : tie.Need-returns
 returns c = search needs
 
--- src/main.rt:59:1
 returns-2 : tie.Need-returns-2
 returns-2 c = search needs
 

@@ -9,35 +9,27 @@ use Rattle.io.proofs.buffer.Reads as buffer-reads
 use Rattle.lines_run.proofs.put_again.Reads as put-again-reads
 use Rattle.lines_run.proofs.show_changed.Reads as show-changed-reads
 
--- src/main.rt:126:19
 buffer-requires : tie.Need-buffer-requires
 buffer-requires c κs = search needs
 
--- src/main.rt:128:19
 slice-aggregate-put-again : tie.Need-slice-aggregate-put-again
 slice-aggregate-put-again c = simp length-take (omega arith)
 
--- src/main.rt:128:33
 array-borrow-prefix-out : tie.Need-array-borrow-prefix-out
 array-borrow-prefix-out c = search needs
 
--- src/main.rt:128:33
 slice-aggregate-put-again-2 : tie.Need-slice-aggregate-put-again-2
 slice-aggregate-put-again-2 c = simp length-take (omega arith)
 
--- src/main.rt:128:9
 put-again-requires : tie.Need-put-again-requires
 put-again-requires c κs = search needs
 
--- src/main.rt:129:9
 show-changed-requires : tie.Need-show-changed-requires
 show-changed-requires c κs = search needs
 
--- src/main.rt:125:1
 returns : tie.Need-returns
 returns c = search needs
 
--- src/main.rt:125:1
 returns-2 : tie.Need-returns-2
 returns-2 c = search needs
 

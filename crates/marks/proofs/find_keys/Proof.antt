@@ -8,23 +8,29 @@ use Rattle.marks.proofs.find_keys.Lts as lts
 use Rattle.marks.proofs.is_private.Reads as is-private-reads
 use Rattle.marks.proofs.keys.met_keys.Reads as met-keys-reads
 
--- src/lib.rt:170:8
 is-private-requires : tie.Need-is-private-requires
 is-private-requires c κs = search needs
 
--- src/lib.rt:171:9
 met-keys-requires : tie.Need-met-keys-requires
-met-keys-requires c κs = (search needs, search needs, search needs, search needs, sym (c .before .before .is-private .ensures) ∙ c .before .if1 .taken)
+met-keys-requires c κs = (
+  search needs,
+  search needs,
+  search needs,
+  search needs,
+  sym (c .before .before .is-private .ensures)
+      ∙ c .before .if1 .taken,
+)
 
--- src/lib.rt:172:9
 same-length : tie.Need-same-length
 same-length c = search needs
 
--- src/lib.rt:172:9
 returns : tie.Need-returns
-returns c = record { is = sym (c .before .before .before .before .if1 .taken) ∙ c .before .before .before .before .before .is-private .ensures; keyed = λ e. c .before .before .met-keys .ensures }
+returns c = record {
+  is = sym (c .before .before .before .before .if1 .taken)
+      ∙ c .before .before .before .before .before .is-private .ensures;
+  keyed = λ e. c .before .before .met-keys .ensures;
+}
 
--- src/lib.rt:166:1
 returns-2 : tie.Need-returns-2
 returns-2 c = record { is = sym (c .if1 .left) ∙ c .before .is-private .ensures; keyed = λ e. absurd (false≢true e) }
 

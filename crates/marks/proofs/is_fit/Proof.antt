@@ -6,11 +6,9 @@ use Rattle.marks.proofs.is_fit.Reads as reads
 use Rattle.marks.proofs.is_fit.Lts as lts
 use Rattle.marks.proofs.is_framed.Reads as is-framed-reads
 
--- src/lib.rt:224:9
 is-framed-requires : tie.Need-is-framed-requires
 is-framed-requires c κs = search needs
 
--- src/lib.rt:221:1
 returns : tie.Need-returns
 unfolding fitsFor
 returns c = rw (c .is-framed .ensures)

@@ -1,4 +1,4 @@
-use Rattle.marks.specs.Fields.{framed-short, framed-over, framed-plain, framed-cut, framed-scan}
+use Rattle.marks.specs.FieldsLaws.{framed-short, framed-over, framed-plain, framed-cut, framed-scan}
 use lib.ListN.{getD}
 use mathlib.Core.Path.{_≡_, _∙_, ap}
 use native.Mathlib.Omega.{arith}
@@ -10,61 +10,59 @@ use Rattle.marks.proofs.is_framed.Reads as reads
 use Rattle.marks.proofs.is_framed.Lts as lts
 use Rattle.octets.proofs.wide.Reads as wide-reads
 
--- src/lib.rt:103:9
 returns : tie.Need-returns
 returns c = framed-short (c .before .before .args .payload .now) (c .if1 .taken)
 
--- src/lib.rt:105:26
 shared-slice-read-wide : tie.Need-shared-slice-read-wide
 shared-slice-read-wide c = search needs
 
--- src/lib.rt:105:9
 wide-requires : tie.Need-wide-requires
 wide-requires c κs = search needs
 
--- src/lib.rt:107:9
 returns-2 : tie.Need-returns-2
-returns-2 c = let l = c .before .before .before .before .before .args .payload .now in let e : c .before .wide .result ≡ getD l 8 0 = c .before .wide .ensures .0 in framed-over l (omega arith) (omega arith)
+returns-2 c = let l =
+    c .before .before .before .before .before .args .payload .now in let e : c .before .wide .result
+    ≡ getD l 8 0 = c .before .wide .ensures .0 in framed-over l (omega arith) (omega arith)
 
--- src/lib.rt:109:13
 add-if3 : tie.Need-add-if3
 add-if3 c = search needs
 
--- src/lib.rt:110:9
 returns-3 : tie.Need-returns-3
-returns-3 c = let l = c .before .before .before .before .before .before .args .payload .now in let e : c .before .before .wide .result ≡ getD l 8 0 = c .before .before .wide .ensures .0 in framed-plain l (omega arith) (omega arith) (omega arith)
+returns-3 c = let l =
+    c .before .before .before .before .before .before .args .payload .now in let e : c .before .before .wide .result
+    ≡ getD l 8 0 = c .before .before .wide .ensures .0 in framed-plain l (omega arith) (omega arith) (omega arith)
 
--- src/lib.rt:112:12
 add-if4 : tie.Need-add-if4
 add-if4 c = search needs
 
--- src/lib.rt:113:9
 returns-4 : tie.Need-returns-4
-returns-4 c = let l = c .before .before .before .before .before .before .before .args .payload .now in let e : c .before .before .before .wide .result ≡ getD l 8 0 = c .before .before .before .wide .ensures .0 in framed-cut l (omega arith) (omega arith) (omega arith)
+returns-4 c = let l =
+    c .before .before .before .before .before .before .before .args .payload .now in let e :
+    c .before .before .before .wide .result
+    ≡ getD l 8 0 = c .before .before .before .wide .ensures .0 in framed-cut l (omega arith) (omega arith) (omega arith)
 
--- src/lib.rt:115:34
 add-wide : tie.Need-add-wide
 add-wide c = search needs
 
--- src/lib.rt:115:26
 shared-slice-read-wide-2 : tie.Need-shared-slice-read-wide-2
 shared-slice-read-wide-2 c = search needs
 
--- src/lib.rt:115:9
 wide-requires-2 : tie.Need-wide-requires-2
 wide-requires-2 c κs = search needs
 
--- src/lib.rt:116:32
 add-result : tie.Need-add-result
 add-result c = search needs
 
--- src/lib.rt:116:32
 add-result-2 : tie.Need-add-result-2
 add-result-2 c = search needs
 
--- src/lib.rt:98:1
 returns-5 : tie.Need-returns-5
-returns-5 c = let l = c .before .before .before .before .before .before .before .before .before .args .payload .now in let e : c .before .before .before .before .before .wide .result ≡ getD l 8 0 = c .before .before .before .before .before .wide .ensures .0 in let k : c .wide2 .result ≡ getD l (9 + getD l 8 0) 0 = c .wide2 .ensures .0 ∙ ap (λ i. getD l (9 + i) 0) e in rw (e, k) (framed-scan l (omega arith) (omega arith) (omega arith))
+returns-5 c = let l =
+    c .before .before .before .before .before .before .before .before .before .args .payload .now in let e :
+    c .before .before .before .before .before .wide .result
+    ≡ getD l 8 0 = c .before .before .before .before .before .wide .ensures .0 in let k : c .wide2 .result
+    ≡ getD l (9 + getD l 8 0) 0 = c .wide2 .ensures .0
+    ∙ ap (λ i. getD l (9 + i) 0) e in rw (e, k) (framed-scan l (omega arith) (omega arith) (omega arith))
 
 pub is-framed-spec : {M : Type 1} → statement M
 is-framed-spec =

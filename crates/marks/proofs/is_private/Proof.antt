@@ -10,30 +10,25 @@ use Rattle.marks.proofs.is_private.Reads as reads
 use Rattle.marks.proofs.is_private.Lts as lts
 use Rattle.resolve.proofs.is_resolvable.Reads as is-resolvable-reads
 
--- src/lib.rt:198:6
 shared-slice-read-result : tie.Need-shared-slice-read-result
 shared-slice-read-result c = search needs
 
--- src/lib.rt:198:48
 sub-is-resolvable : tie.Need-sub-is-resolvable
 sub-is-resolvable c = search needs
 
--- src/lib.rt:198:48
 part-is-resolvable-start : tie.Need-part-is-resolvable-start
 part-is-resolvable-start c = search needs
 
--- src/lib.rt:198:48
 part-is-resolvable-end : tie.Need-part-is-resolvable-end
 part-is-resolvable-end c = search needs
 
--- src/lib.rt:198:25
 is-resolvable-requires : tie.Need-is-resolvable-requires
 is-resolvable-requires c κs = search needs
 
--- src/lib.rt:194:1
 returns : tie.Need-returns
 unfolding privateOf
-returns c = ap (λ (b : Bool). eqb (getD (c .before .before .before .before .args .payload .now) 1 0) 1 && b) (c .is-resolvable .ensures)
+returns c = ap (λ (b : Bool). eqb (getD (c .before .before .before .before .args .payload .now) 1 0) 1 && b)
+    (c .is-resolvable .ensures)
 
 pub is-private-spec : {M : Type 1} → statement M
 is-private-spec =

@@ -1,4 +1,4 @@
-use Rattle.marks.specs.Monitors.{mark-unmet, mark-met}
+use Rattle.marks.specs.MonitorsLaws.{mark-unmet, mark-met}
 use borrow.Author.Needs.{needs}
 use Rattle.marks.proofs.mark_at.Statement.{statement}
 use Rattle.marks.proofs.mark_at.Tie as tie
@@ -7,81 +7,69 @@ use Rattle.marks.proofs.mark_at.Lts as lts
 use Rattle.marks.proofs.row_bits.Reads as row-bits-reads
 use Rattle.state.proofs.filtering_of.Reads as filtering-of-reads
 
--- src/lib.rt:229:9
 returns : tie.Need-returns
-returns c = let a = c .before .before .before .args in mark-unmet (a .s .now) (a .h) (a .payload .now) (c .before .before .before .pre .3) (c .if1 .taken)
+returns c = let a =
+    c .before .before .before .args in mark-unmet (a .s .now) (a .h) (a .payload .now)
+    (c .before .before .before .pre .3) (c .if1 .taken)
 
--- src/lib.rt:234:35
 mul-at : tie.Need-mul-at
 mul-at c = search needs
 
--- src/lib.rt:234:14
 add-at : tie.Need-add-at
 add-at c = search needs
 
--- src/lib.rt:236:11
 add-row-bits : tie.Need-add-row-bits
 add-row-bits c = search needs
 
--- src/lib.rt:236:9
 shared-slice-read-row-bits : tie.Need-shared-slice-read-row-bits
 shared-slice-read-row-bits c = search needs
 
--- src/lib.rt:237:11
 add-row-bits-2 : tie.Need-add-row-bits-2
 add-row-bits-2 c = search needs
 
--- src/lib.rt:237:9
 shared-slice-read-row-bits-2 : tie.Need-shared-slice-read-row-bits-2
 shared-slice-read-row-bits-2 c = search needs
 
--- src/lib.rt:238:11
 add-row-bits-3 : tie.Need-add-row-bits-3
 add-row-bits-3 c = search needs
 
--- src/lib.rt:238:9
 shared-slice-read-row-bits-3 : tie.Need-shared-slice-read-row-bits-3
 shared-slice-read-row-bits-3 c = search needs
 
--- src/lib.rt:239:17
 sub-row-bits : tie.Need-sub-row-bits
 sub-row-bits c = search needs
 
--- src/lib.rt:239:9
 shared-slice-read-row-bits-4 : tie.Need-shared-slice-read-row-bits-4
 shared-slice-read-row-bits-4 c = search needs
 
--- src/lib.rt:240:31
 add-filtering-of : tie.Need-add-filtering-of
 add-filtering-of c = search needs
 
--- src/lib.rt:240:29
 shared-slice-read-filtering-of : tie.Need-shared-slice-read-filtering-of
 shared-slice-read-filtering-of c = search needs
 
--- src/lib.rt:240:58
 add-filtering-of-2 : tie.Need-add-filtering-of-2
 add-filtering-of-2 c = search needs
 
--- src/lib.rt:240:56
 shared-slice-read-filtering-of-2 : tie.Need-shared-slice-read-filtering-of-2
 shared-slice-read-filtering-of-2 c = search needs
 
--- src/lib.rt:240:9
 filtering-of-requires : tie.Need-filtering-of-requires
 filtering-of-requires c κs = search needs
 
--- src/lib.rt:241:9
 shared-slice-read-row-bits-5 : tie.Need-shared-slice-read-row-bits-5
 shared-slice-read-row-bits-5 c = search needs
 
--- src/lib.rt:235:5
 row-bits-requires : tie.Need-row-bits-requires
 row-bits-requires c κs = search needs
 
--- src/lib.rt:223:1
 returns-2 : tie.Need-returns-2
-returns-2 c = let a = c .before .before .before .before .before .before .before .before .before .before .before .before .args in mark-met (a .s .now) (a .h) (a .payload .now) (c .before .before .before .before .before .before .before .before .before .before .before .before .pre .3) (c .before .before .before .before .before .before .before .before .before .if1 .left) (c .before .before .filtering-of .ensures) (c .row-bits .ensures)
+returns-2 c = let a =
+    c .before .before .before .before .before .before .before .before .before .before .before .before
+    .args in mark-met (a .s .now) (a .h) (a .payload .now)
+    (c .before .before .before .before .before .before .before .before .before .before .before .before .pre .3)
+    (c .before .before .before .before .before .before .before .before .before .if1 .left)
+    (c .before .before .filtering-of .ensures) (c .row-bits .ensures)
 
 pub mark-at-spec : {M : Type 1} → statement M
 mark-at-spec =

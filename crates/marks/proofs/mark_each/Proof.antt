@@ -6,14 +6,17 @@ use native.Mathlib.Omega.{arith}
 use lib.ListN.{length, getD, drop, length-set}
 use Rattle.laws.specs.Loops.{upTo}
 use Rattle.laws.specs.Rows.{row}
-use Rattle.laws.specs.Put.{put, put-nil}
+use Rattle.laws.specs.Put.{put}
+use Rattle.laws.specs.PutLaws.{put-nil}
 use Rattle.model.specs.Frames.{packetOf}
 use Rattle.model.specs.Layout.{monitorSize, monitorsAt, mostMonitors}
-use Rattle.marks.specs.Marks.{marks-turn}
+use Rattle.marks.specs.MarksLaws.{marks-turn}
 use Rattle.marks.specs.Monitors.{metMark}
-use Rattle.marks.specs.Admitted.{metIf, met-if-end}
-use Rattle.marks.specs.Keyed.{told-at}
-use Rattle.marks.specs.Asked.{askedOf, ask-said, markIf}
+use Rattle.marks.specs.Admitted.{metIf}
+use Rattle.marks.specs.AdmittedLaws.{met-if-end}
+use Rattle.marks.specs.KeyedLaws.{told-at}
+use Rattle.marks.specs.Asked.{askedOf, markIf}
+use Rattle.marks.specs.AskedLaws.{ask-said}
 use Rattle.marks.proofs.mark_each.Statement.{statement}
 use Rattle.marks.proofs.mark_each.Tie as tie
 use Rattle.marks.proofs.mark_each.Reads as reads
@@ -23,72 +26,80 @@ use Rattle.marks.proofs.mark_asked.Reads as mark-asked-reads
 use Rattle.marks.proofs.scan_at.Reads as scan-at-reads
 
 abbrev Inv-loop : tie.InvT-loop
-Inv-loop acts₀ met s held reach payload private scan h₀ acts h = (h ≤ mostMonitors) × (length acts ≡ length acts₀) × (acts ≡ put acts₀ 0 (upTo (λ g. markIf (getD (askedOf held s reach) g 0) (metMark (row monitorSize g (drop monitorsAt s)) (packetOf payload)) ∷ []) h))
+Inv-loop acts₀ met s held reach payload private scan h₀ acts h =
+    (h ≤ mostMonitors) × (length acts ≡ length acts₀)
+    × (acts ≡ put acts₀ 0
+    (upTo (λ g. markIf (getD (askedOf held s reach) g 0)
+    (metMark (row monitorSize g (drop monitorsAt s)) (packetOf payload)) ∷ []) h))
 
 abbrev μ-loop : tie.MeasureT-loop
 μ-loop acts₀ met s held reach payload private scan h₀ acts h = mostMonitors - h
 
--- src/lib.rt:150:9
 scan-at-requires : tie.Need-scan-at-requires Inv-loop μ-loop
 scan-at-requires c κs = search needs
 
--- src/lib.rt:152:5
 loop-holds : tie.Need-loop-holds Inv-loop μ-loop
 unfolding upTo
 loop-holds c = (omega arith, refl, sym (put-nil _ _))
 
--- src/lib.rt:153:38
 shared-slice-read-ask-at : tie.Need-shared-slice-read-ask-at Inv-loop μ-loop
 shared-slice-read-ask-at c = omega arith
 
--- src/lib.rt:153:13
 ask-at-requires : tie.Need-ask-at-requires Inv-loop μ-loop
 ask-at-requires c κs = search needs
 
--- src/lib.rt:154:19
 mark-asked-requires : tie.Need-mark-asked-requires Inv-loop μ-loop
-mark-asked-requires c κs = let a = c .before .before .before .before .before .before .before .before .before .before .args in let p = c .before .before .before .before .before .before .before .before .before .before .pre in let l = c .before .before .before .loop in (
-  p .1,
-  p .2,
-  omega arith,
-  p .4,
-  search needs,
-  λ n. told-at (a .met .now) (a .s .now) (askedOf (a .held .now) (a .s .now) (a .reach)) (a .payload .now) (l .h) (omega arith) (p .5)
-      (λ e. n (ask-said (a .held .now) (a .s .now) (a .reach) (l .h) (omega arith) (c .ask-at .ensures) ∙ e)),
-)
+mark-asked-requires c κs = let a =
+    c .before .before .before .before .before .before .before .before .before .before .args in let p = c .before
+    .before .before .before .before .before .before .before .before .before .pre in let l = c .before .before .before
+    .loop in (
+      p .1,
+      p .2,
+      omega arith,
+      p .4,
+      search needs,
+      λ n. told-at (a .met .now) (a .s .now) (askedOf (a .held .now) (a .s .now) (a .reach)) (a .payload .now) (l .h)
+          (omega arith) (p .5)
+          (λ e. n (ask-said (a .held .now) (a .s .now) (a .reach) (l .h) (omega arith) (c .ask-at .ensures) ∙ e)),
+    )
 
--- src/lib.rt:154:9
 slice-write-acts : tie.Need-slice-write-acts Inv-loop μ-loop
 slice-write-acts c = omega arith
 
--- src/lib.rt:155:9
 add-h : tie.Need-add-h Inv-loop μ-loop
 add-h c = omega arith
 
--- src/lib.rt:152:5
 loop-less : tie.Need-loop-less Inv-loop μ-loop
 loop-less c = omega arith
 
--- src/lib.rt:152:5
 loop-again : tie.Need-loop-again Inv-loop μ-loop
-loop-again c = let a = c .before .before .before .before .before .before .before .before .before .before .before .args in let l = c .before .before .before .before .loop in (
-  omega arith,
-  simp length-set (l .inv .1),
-  rw (c .mark-asked .ensures, ask-said (a .held .now) (a .s .now) (a .reach) (l .h) (omega arith) (c .before .ask-at .ensures))
-      (marks-turn (λ g. markIf (getD (askedOf (a .held .now) (a .s .now) (a .reach)) g 0) (metMark (row monitorSize g (drop monitorsAt (a .s .now))) (packetOf (a .payload .now)))) (a .acts .now) (l .h)
-      (omega arith) (omega arith) (l .inv .2)),
-)
+loop-again c = let a =
+    c .before .before .before .before .before .before .before .before .before .before .before .args in let l = c
+    .before .before .before .before .loop in (
+      omega arith,
+      simp length-set (l .inv .1),
+      rw (
+        c .mark-asked .ensures,
+        ask-said (a .held .now) (a .s .now) (a .reach) (l .h) (omega arith)
+            (c .before .ask-at .ensures),
+      )
+          (marks-turn (λ g. markIf (getD (askedOf (a .held .now) (a .s .now) (a .reach)) g 0)
+          (metMark (row monitorSize g (drop monitorsAt (a .s .now))) (packetOf (a .payload .now)))) (a .acts .now)
+          (l .h)
+          (omega arith) (omega arith) (l .inv .2)),
+    )
 
--- src/lib.rt:137:1
 same-length : tie.Need-same-length Inv-loop μ-loop
 same-length c = c .before .loop .inv .1
 
--- src/lib.rt:137:1
 returns : tie.Need-returns Inv-loop μ-loop
 unfolding metIf
-returns c = let a = c .before .before .before .before .before .before .before .before .args in let l = c .before .loop in
+returns c = let a = c .before .before .before .before .before .before .before .before .args in let l =
+    c .before .loop in
     let e : l .h ≡ mostMonitors = omega arith in
-    rw e at (l .inv .2) ∙ met-if-end (askedOf (a .held .now) (a .s .now) (a .reach)) (a .s .now) (packetOf (a .payload .now)) (a .acts .now) (omega arith)
+    rw e at (l .inv .2)
+    ∙ met-if-end (askedOf (a .held .now) (a .s .now) (a .reach)) (a .s .now) (packetOf (a .payload .now))
+    (a .acts .now) (omega arith)
 
 pub mark-each-spec : {M : Type 1} → statement M
 mark-each-spec =

@@ -5,9 +5,11 @@ use native.Mathlib.Omega.{arith}
 use borrow.Author.Tests.{not-true, not-false}
 use lib.ListN.{length}
 use Rattle.model.specs.Frames.{packetOf}
-use Rattle.marks.specs.Fields.{fits-facts}
-use Rattle.marks.specs.Asked.{askedOf, marksIf, held-short, held-not, held-done, asked-for}
-use Rattle.marks.specs.Admitted.{admitted, both-passes}
+use Rattle.marks.specs.FieldsLaws.{fits-facts}
+use Rattle.marks.specs.Asked.{askedOf}
+use Rattle.marks.specs.AskedLaws.{marksIf, held-short, held-not, held-done, asked-for}
+use Rattle.marks.specs.Admitted.{admitted}
+use Rattle.marks.specs.AdmittedLaws.{both-passes}
 use borrow.Author.Needs.{needs}
 use Rattle.marks.proofs.mark_held.Statement.{statement}
 use Rattle.marks.proofs.mark_held.Tie as tie
@@ -19,63 +21,105 @@ use Rattle.marks.proofs.is_fit.Reads as is-fit-reads
 use Rattle.marks.proofs.mark_each.Reads as mark-each-reads
 use Rattle.marks.proofs.options.admit_each.Reads as admit-each-reads
 
--- src/lib.rt:250:9
 returns : tie.Need-returns
-returns c = let a = c .before .before .before .before .before .args in held-short (a .may) (a .held .now) (a .acts .now) (a .s .now) (a .payload .now) (c .if1 .taken)
+returns c = let a =
+    c .before .before .before .before .before .args in held-short (a .may) (a .held .now) (a .acts .now) (a .s .now)
+    (a .payload .now) (c .if1 .taken)
 
--- src/lib.rt:252:9
 is-fit-requires : tie.Need-is-fit-requires
 is-fit-requires c κs = search needs
 
--- src/lib.rt:253:9
 returns-2 : tie.Need-returns-2
-returns-2 c = let a = c .before .before .before .before .before .before .before .args in held-not (a .may) (a .held .now) (a .acts .now) (a .s .now) (a .payload .now) (c .before .is-fit .ensures) (not-true (c .before .is-fit .result) (c .if2 .taken))
+returns-2 c = let a =
+    c .before .before .before .before .before .before .before .args in held-not (a .may) (a .held .now) (a .acts .now)
+    (a .s .now) (a .payload .now) (c .before .is-fit .ensures) (not-true (c .before .is-fit .result) (c .if2 .taken))
 
--- src/lib.rt:255:45
 sub-reach-of : tie.Need-sub-reach-of
-sub-reach-of c = let a = c .before .before .before .before .before .before .before .args in let f = fits-facts (length (a .acts .now)) (a .s .now) (a .payload .now) (sym (c .before .is-fit .ensures) ∙ not-false (c .before .is-fit .result) (c .if2 .left)) in omega (arith, f .2 .0)
+sub-reach-of c = let a = c .before .before .before .before .before .before .before .args in let f =
+    fits-facts (length (a .acts .now)) (a .s .now) (a .payload .now)
+    (sym (c .before .is-fit .ensures) ∙ not-false (c .before .is-fit .result) (c .if2 .left)) in omega (arith, f .2 .0)
 
--- src/lib.rt:255:37
 shared-slice-read-reach-of : tie.Need-shared-slice-read-reach-of
-shared-slice-read-reach-of c = let a = c .before .before .before .before .before .before .before .before .args in let f = fits-facts (length (a .acts .now)) (a .s .now) (a .payload .now) (sym (c .before .before .is-fit .ensures) ∙ not-false (c .before .before .is-fit .result) (c .before .if2 .left)) in omega (arith, f .2 .0)
+shared-slice-read-reach-of c = let a =
+    c .before .before .before .before .before .before .before .before .args in let f = fits-facts
+    (length (a .acts .now)) (a .s .now) (a .payload .now)
+    (sym (c .before .before .is-fit .ensures)
+    ∙ not-false (c .before .before .is-fit .result) (c .before .if2 .left)) in omega (arith, f .2 .0)
 
--- src/lib.rt:255:9
 reach-of-requires : tie.Need-reach-of-requires
 reach-of-requires c κs = search needs
 
--- src/lib.rt:257:29
 slice-aggregate-find-keys : tie.Need-slice-aggregate-find-keys
 slice-aggregate-find-keys c = search needs
 
--- src/lib.rt:257:9
 find-keys-requires : tie.Need-find-keys-requires
-find-keys-requires c κs = let a = c .before .before .before .before .before .before .before .before .before .before .args in let f = fits-facts (length (a .acts .now)) (a .s .now) (a .payload .now) (sym (c .before .before .before .before .is-fit .ensures) ∙ not-false (c .before .before .before .before .is-fit .result) (c .before .before .before .if2 .left)) in (refl, f .1, omega (arith, c .before .before .before .before .before .if1 .left), f .2)
+find-keys-requires c κs = let a =
+    c .before .before .before .before .before .before .before .before .before .before .args in let f = fits-facts
+    (length (a .acts .now)) (a .s .now) (a .payload .now)
+    (sym (c .before .before .before .before .is-fit .ensures)
+    ∙ not-false (c .before .before .before .before .is-fit .result) (c .before .before .before .if2 .left)) in (
+      refl,
+      f .1,
+      omega (arith, c .before .before .before .before .before .if1 .left),
+      f .2,
+    )
 
--- src/lib.rt:258:21
 slice-aggregate-mark-each : tie.Need-slice-aggregate-mark-each
 slice-aggregate-mark-each c = search needs
 
--- src/lib.rt:258:5
 mark-each-requires : tie.Need-mark-each-requires
-mark-each-requires c κs = let a = c .before .before .before .before .before .before .before .before .before .before .before .before .before .before .args in let f = fits-facts (length (a .acts .now)) (a .s .now) (a .payload .now) (sym (c .before .before .before .before .before .before .before .before .is-fit .ensures) ∙ not-false (c .before .before .before .before .before .before .before .before .is-fit .result) (c .before .before .before .before .before .before .before .if2 .left)) in (f .0, search needs, f .1, omega (arith, c .before .before .before .before .before .before .before .before .before .if1 .left), f .2, c .before .before .before .find-keys .ensures)
+mark-each-requires c κs = let a =
+    c .before .before .before .before .before .before .before .before .before .before .before .before .before .before
+    .args in let f = fits-facts (length (a .acts .now)) (a .s .now) (a .payload .now)
+    (sym (c .before .before .before .before .before .before .before .before .is-fit .ensures)
+    ∙ not-false (c .before .before .before .before .before .before .before .before .is-fit .result)
+    (c .before .before .before .before .before .before .before .if2 .left)) in (
+      f .0,
+      search needs,
+      f .1,
+      omega
+          (arith, c .before .before .before .before .before .before .before .before .before .if1 .left),
+      f .2,
+      c .before .before .before .find-keys .ensures,
+    )
 
--- src/lib.rt:259:5
 admit-each-requires : tie.Need-admit-each-requires
-admit-each-requires c κs = let a = c .before .before .before .before .before .before .before .before .before .before .before .before .before .before .before .before .before .before .args in let f = fits-facts (length (a .acts .now)) (a .s .now) (a .payload .now) (sym (c .before .before .before .before .before .before .before .before .before .before .before .before .is-fit .ensures) ∙ not-false (c .before .before .before .before .before .before .before .before .before .before .before .before .is-fit .result) (c .before .before .before .before .before .before .before .before .before .before .before .if2 .left)) in (omega (arith, f .0, c .before .before .before .mark-each .kept .0), f .1, f .2)
+admit-each-requires c κs = let a =
+    c .before .before .before .before .before .before .before .before .before .before .before .before .before .before
+    .before .before .before .before .args in let f = fits-facts (length (a .acts .now)) (a .s .now) (a .payload .now)
+    (sym (c .before .before .before .before .before .before .before .before .before .before .before .before .is-fit
+    .ensures) ∙ not-false
+    (c .before .before .before .before .before .before .before .before .before .before .before .before .is-fit
+    .result) (c .before .before .before .before .before .before .before .before .before .before .before .if2 .left))
+    in (omega (arith, f .0, c .before .before .before .mark-each .kept .0), f .1, f .2)
 
--- src/lib.rt:246:1
 same-length : tie.Need-same-length
 same-length c = search needs
 
--- src/lib.rt:246:1
 returns-3 : tie.Need-returns-3
 unfolding packetOf
-returns-3 c = let a = c .before .before .before .before .before .before .before .before .before .before .before .before .before .before .before .before .before .before .before .before .before .args in
+returns-3 c = let a =
+    c .before .before .before .before .before .before .before .before .before .before .before .before .before .before
+    .before .before .before .before .before .before .before .args in
     let l : List ℕ = a .payload .now in
-    held-done (a .may) (a .held .now) (a .acts .now) (a .s .now) l (omega (arith, c .before .before .before .before .before .before .before .before .before .before .before .before .before .before .before .before .if1 .left)) (c .before .before .before .before .before .before .before .before .before .before .before .before .before .before .before .is-fit .ensures)
-    (not-false (c .before .before .before .before .before .before .before .before .before .before .before .before .before .before .before .is-fit .result) (c .before .before .before .before .before .before .before .before .before .before .before .before .before .before .if2 .left))
-    (c .before .before .admit-each .ensures ∙ ap (λ (k : List ℕ). admitted k (a .s .now) (packetOf l)) (c .before .before .before .before .before .before .mark-each .ensures) ∙ both-passes _ (a .s .now) (packetOf l)
-    ∙ ap (λ (x : ℕ). marksIf (askedOf (a .held .now) (a .s .now) x) (a .s .now) (packetOf l)) (c .before .before .before .before .before .before .before .before .before .before .before .before .reach-of .ensures)
+    held-done (a .may) (a .held .now) (a .acts .now) (a .s .now) l
+    (omega (
+      arith,
+      c .before .before .before .before .before .before .before .before .before .before .before
+          .before .before .before .before .before .if1 .left,
+    ))
+    (c .before .before .before .before .before .before .before .before .before .before .before .before .before
+    .before .before .is-fit .ensures)
+    (not-false (c .before .before .before .before .before .before .before .before .before .before .before .before
+    .before .before .before .is-fit .result)
+    (c .before .before .before .before .before .before .before .before .before .before .before .before .before
+    .before .if2 .left))
+    (c .before .before .admit-each .ensures
+    ∙ ap (λ (k : List ℕ). admitted k (a .s .now) (packetOf l))
+    (c .before .before .before .before .before .before .mark-each .ensures) ∙ both-passes _ (a .s .now) (packetOf l)
+    ∙ ap (λ (x : ℕ). marksIf (askedOf (a .held .now) (a .s .now) x) (a .s .now) (packetOf l))
+    (c .before .before .before .before .before .before .before .before .before .before .before .before .reach-of
+    .ensures)
     ∙ asked-for (a .may) (a .held .now) (a .s .now) (packetOf l))
 
 pub mark-held-spec : {M : Type 1} → statement M

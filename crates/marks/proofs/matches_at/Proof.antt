@@ -1,10 +1,10 @@
-use Rattle.marks.specs.Fields.{clamped, scan-is}
+use Rattle.marks.specs.FieldsLaws.{clamped, scan-is}
 use Prim.Native.Nat.{ℕ, _+_, _-_, _*_}
 use mathlib.Core.List.{List}
 use mathlib.Core.Path.{_≡_, refl, ap, _∙_}
 use native.Mathlib.Omega.{arith}
 use lib.ListN.{length, take, drop, getD}
-use Rattle.marks.specs.Monitors.{match-asked}
+use Rattle.marks.specs.MonitorsLaws.{match-asked}
 use Rattle.model.specs.Layout.{monitorSize, monitorsAt}
 use borrow.Author.Needs.{needs}
 use Rattle.marks.proofs.matches_at.Statement.{statement}
@@ -97,16 +97,23 @@ match-packet-requires : tie.Need-match-packet-requires
 match-packet-requires c κs = search needs
 
 returns : tie.Need-returns
-returns c = let a = c .before .before .before .before .before .before .before .before .before .before .before .before .before .args in
+returns c = let a =
+    c .before .before .before .before .before .before .before .before .before .before .before .before .before .args in
     let s : List ℕ = a .s .now in
     let l : List ℕ = a .payload .now in
     let m = c .before .before .before .before .before .before .before .before .before .at-most in
     let w = c .before .before .before .before .before .before .before .wide in
-    let k : monitorsAt + monitorSize * a .h + 7 + m .result - (monitorsAt + monitorSize * a .h + 7) ≡ m .result = omega arith in
+    let k : monitorsAt + monitorSize * a .h + 7 + m .result - (monitorsAt + monitorSize * a .h + 7) ≡ m .result =
+    omega arith in
     let j : 9 + w .result - 9 ≡ getD l 8 0 = omega (arith, w .ensures .0) in
-    match-asked s (a .h) l (m .result) (clamped (m .ensures)) (ap (λ (i : ℕ). take i (drop (monitorsAt + monitorSize * a .h + 7) s)) k) refl
+    match-asked s (a .h) l (m .result) (clamped (m .ensures))
+    (ap (λ (i : ℕ). take i (drop (monitorsAt + monitorSize * a .h + 7) s)) k) refl
     (ap (λ (i : ℕ). take i (drop 9 l)) j)
-    (ap (λ (i : ℕ). take (length l - 1 - i) (drop i l)) (c .before .before .before .before .before .before .before .before .before .before .before .before .before .pre .3) ∙ scan-is l (c .before .before .before .before .before .before .before .before .before .before .before .before .before .pre .2 .2)) (c .match-packet .ensures)
+    (ap (λ (i : ℕ). take (length l - 1 - i) (drop i l))
+    (c .before .before .before .before .before .before .before .before .before .before .before .before .before
+    .pre .3) ∙ scan-is l
+    (c .before .before .before .before .before .before .before .before .before .before .before .before .before
+    .pre .2 .2)) (c .match-packet .ensures)
 
 pub matches-at-spec : {M : Type 1} → statement M
 matches-at-spec =

@@ -2,8 +2,8 @@ use mathlib.Core.Path.{refl, sym, _∙_}
 use mathlib.Core.Bool.{true, false}
 use native.Mathlib.Omega.{arith}
 use Rattle.marks.specs.Marks.{flag}
-use Rattle.marks.specs.Monitors.{met-unused, met-used}
-use Rattle.marks.specs.Keyed.{key-none}
+use Rattle.marks.specs.MonitorsLaws.{met-unused, met-used}
+use Rattle.marks.specs.KeyedLaws.{key-none}
 use borrow.Author.Needs.{needs}
 use Rattle.marks.proofs.met_at.Statement.{statement}
 use Rattle.marks.proofs.met_at.Tie as tie
@@ -12,63 +12,54 @@ use Rattle.marks.proofs.met_at.Lts as lts
 use Rattle.marks.proofs.bit.Reads as bit-reads
 use Rattle.marks.proofs.matches_at.Reads as matches-at-reads
 
--- src/lib.rt:148:35
 mul-at : tie.Need-mul-at
 mul-at c = search needs
 
--- src/lib.rt:148:14
 add-at : tie.Need-add-at
 add-at c = search needs
 
--- src/lib.rt:149:10
 add-if1 : tie.Need-add-if1
 add-if1 c = search needs
 
--- src/lib.rt:149:8
 shared-slice-read-if1 : tie.Need-shared-slice-read-if1
 shared-slice-read-if1 c = search needs
 
--- src/lib.rt:150:9
 returns : tie.Need-returns
-returns c = let a = c .before .before .before .before .before .args in met-unused (a .s .now) (a .h) (a .payload .now) (c .if1 .taken)
+returns c = let a =
+    c .before .before .before .before .before .args in met-unused (a .s .now) (a .h) (a .payload .now) (c .if1 .taken)
 
--- src/lib.rt:152:10
 add-if2 : tie.Need-add-if2
 add-if2 c = search needs
 
--- src/lib.rt:152:8
 shared-slice-read-if2 : tie.Need-shared-slice-read-if2
 shared-slice-read-if2 c = search needs
 
--- src/lib.rt:154:20
 shared-slice-read-result : tie.Need-shared-slice-read-result
 shared-slice-read-result c = search needs
 
--- src/lib.rt:154:13
 returns-2 : tie.Need-returns-2
-returns-2 c = let a = c .before .before .before .before .before .before .before .before .before .args in let p = c .before .before .before .before .before .before .before .before .before .pre in
+returns-2 c = let a = c .before .before .before .before .before .before .before .before .before .args in let p =
+    c .before .before .before .before .before .before .before .before .before .pre in
     met-used (a .s .now) (a .h) (a .payload .now) (c .before .before .before .before .if1 .left)
     (p .5 .keyed (c .before .if3 .taken) (c .before .before .if2 .taken)) refl
 
--- src/lib.rt:156:9
 returns-3 : tie.Need-returns-3
 unfolding flag
-returns-3 c = let a = c .before .before .before .before .before .before .before .before .args in let p = c .before .before .before .before .before .before .before .before .pre in
+returns-3 c = let a = c .before .before .before .before .before .before .before .before .args in let p =
+    c .before .before .before .before .before .before .before .before .pre in
     met-used (a .s .now) (a .h) (a .payload .now) (c .before .before .before .if1 .left) refl
     (key-none (a .s .now) (a .h) (a .payload .now) (c .before .if2 .taken) (sym (p .5 .is) ∙ c .if3 .left))
 
--- src/lib.rt:158:9
 matches-at-requires : tie.Need-matches-at-requires
 matches-at-requires c κs = search needs
 
--- src/lib.rt:158:5
 bit-requires : tie.Need-bit-requires
 bit-requires c κs = search needs
 
--- src/lib.rt:143:1
 returns-4 : tie.Need-returns-4
 returns-4 c = let a = c .before .before .before .before .before .before .before .before .before .args in
-    met-used (a .s .now) (a .h) (a .payload .now) (c .before .before .before .before .if1 .left) (c .bit .ensures .0) (c .before .matches-at .ensures)
+    met-used (a .s .now) (a .h) (a .payload .now) (c .before .before .before .before .if1 .left) (c .bit .ensures .0)
+    (c .before .matches-at .ensures)
 
 pub met-at-spec : {M : Type 1} → statement M
 met-at-spec =

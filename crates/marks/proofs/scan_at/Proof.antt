@@ -1,4 +1,4 @@
-use Rattle.marks.specs.Fields.{scan-at-short, scan-at-none, scan-at-some}
+use Rattle.marks.specs.FieldsLaws.{scan-at-short, scan-at-none, scan-at-some}
 use lib.ListN.{getD}
 use mathlib.Core.Path.{_≡_, sym}
 use native.Mathlib.Omega.{arith}
@@ -9,37 +9,33 @@ use Rattle.marks.proofs.scan_at.Reads as reads
 use Rattle.marks.proofs.scan_at.Lts as lts
 use Rattle.octets.proofs.wide.Reads as wide-reads
 
--- src/lib.rt:87:9
 returns : tie.Need-returns
 returns c = scan-at-short (c .before .before .args .payload .now) (omega arith)
 
--- src/lib.rt:89:26
 shared-slice-read-wide : tie.Need-shared-slice-read-wide
 shared-slice-read-wide c = search needs
 
--- src/lib.rt:89:9
 wide-requires : tie.Need-wide-requires
 wide-requires c κs = search needs
 
--- src/lib.rt:90:13
 add-if2 : tie.Need-add-if2
 add-if2 c = search needs
 
--- src/lib.rt:91:16
 add-result : tie.Need-add-result
 add-result c = search needs
 
--- src/lib.rt:91:9
 returns-2 : tie.Need-returns-2
-returns-2 c = let l = c .before .before .before .before .before .args .payload .now in let e : c .before .wide .result ≡ getD l 8 0 = c .before .wide .ensures .0 in rw e (sym (scan-at-none l (omega arith)))
+returns-2 c = let l =
+    c .before .before .before .before .before .args .payload .now in let e : c .before .wide .result
+    ≡ getD l 8 0 = c .before .wide .ensures .0 in rw e (sym (scan-at-none l (omega arith)))
 
--- src/lib.rt:93:5
 add-result-2 : tie.Need-add-result-2
 add-result-2 c = search needs
 
--- src/lib.rt:82:1
 returns-3 : tie.Need-returns-3
-returns-3 c = let l = c .before .before .before .before .before .args .payload .now in let e : c .before .wide .result ≡ getD l 8 0 = c .before .wide .ensures .0 in rw e (sym (scan-at-some l (omega arith)))
+returns-3 c = let l =
+    c .before .before .before .before .before .args .payload .now in let e : c .before .wide .result
+    ≡ getD l 8 0 = c .before .wide .ensures .0 in rw e (sym (scan-at-some l (omega arith)))
 
 pub scan-at-spec : {M : Type 1} → statement M
 scan-at-spec =

@@ -17,35 +17,27 @@ Inv-loop first words count₀ at₀ t5 count at = 0 ≤ at
 abbrev μ-loop : tie.MeasureT-loop
 μ-loop first words count₀ at₀ t5 count at = words - at
 
--- src/main.rt:200:5
 loop-holds : tie.Need-loop-holds Inv-loop μ-loop
 loop-holds c = omega arith
 
--- src/main.rt:201:26
 slice-aggregate-is : tie.Need-slice-aggregate-is Inv-loop μ-loop
 slice-aggregate-is c = refl
 
--- src/main.rt:201:12
 is-requires : tie.Need-is-requires Inv-loop μ-loop
 is-requires c κs = tt
 
--- src/main.rt:202:13
 wrapping-add-u64-requires : tie.Need-wrapping-add-u64-requires Inv-loop μ-loop
 wrapping-add-u64-requires c κs = search needs
 
--- src/main.rt:204:9
 add-at : tie.Need-add-at Inv-loop μ-loop
 add-at c = omega arith
 
--- src/main.rt:200:5
 loop-less : tie.Need-loop-less Inv-loop μ-loop
 loop-less c = omega arith
 
--- src/main.rt:200:5
 loop-again : tie.Need-loop-again Inv-loop μ-loop
 loop-again c = omega arith
 
--- src/main.rt:197:1
 returns : tie.Need-returns Inv-loop μ-loop
 returns c = search needs
 

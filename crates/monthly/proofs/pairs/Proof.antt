@@ -17,59 +17,45 @@ Inv-loop first end progress all₀ at₀ all at = 0 ≤ at
 abbrev μ-loop : tie.MeasureT-loop
 μ-loop first end progress all₀ at₀ all at = end - at
 
--- src/main.rt:97:15
 no-rows-requires : tie.Need-no-rows-requires Inv-loop μ-loop
 no-rows-requires c κs = tt
 
--- src/main.rt:102:5
 loop-holds : tie.Need-loop-holds Inv-loop μ-loop
 loop-holds c = omega arith
 
--- src/main.rt:103:12
 ends-requires : tie.Need-ends-requires Inv-loop μ-loop
 ends-requires c κs = search needs
 
--- src/main.rt:104:13
 returns : tie.Need-returns Inv-loop μ-loop
 returns c = search needs
 
--- src/main.rt:106:29
 add-named : tie.Need-add-named Inv-loop μ-loop
 add-named c = omega arith
 
--- src/main.rt:106:13
 named-requires : tie.Need-named-requires Inv-loop μ-loop
 named-requires c κs = search needs
 
--- src/main.rt:107:44
 add-with-site : tie.Need-add-with-site Inv-loop μ-loop
 add-with-site c = omega arith
 
--- src/main.rt:107:13
 with-site-requires : tie.Need-with-site-requires Inv-loop μ-loop
 with-site-requires c κs = search needs
 
--- src/main.rt:109:12
 sub-if2 : tie.Need-sub-if2 Inv-loop μ-loop
 sub-if2 c = omega arith
 
--- src/main.rt:110:13
 returns-2 : tie.Need-returns-2 Inv-loop μ-loop
 returns-2 c = search needs
 
--- src/main.rt:112:9
 add-at : tie.Need-add-at Inv-loop μ-loop
 add-at c = omega arith
 
--- src/main.rt:102:5
 loop-less : tie.Need-loop-less Inv-loop μ-loop
 loop-less c = omega arith
 
--- src/main.rt:102:5
 loop-again : tie.Need-loop-again Inv-loop μ-loop
 loop-again c = omega arith
 
--- src/main.rt:95:1
 returns-3 : tie.Need-returns-3 Inv-loop μ-loop
 returns-3 c = search needs
 

@@ -14,35 +14,27 @@ Inv-loop first words at₀ t4 at = 0 ≤ at
 abbrev μ-loop : tie.MeasureT-loop
 μ-loop first words at₀ t4 at = words - at
 
--- src/main.rt:148:5
 loop-holds : tie.Need-loop-holds Inv-loop μ-loop
 loop-holds c = omega arith
 
--- src/main.rt:149:19
 slice-aggregate-is : tie.Need-slice-aggregate-is Inv-loop μ-loop
 slice-aggregate-is c = refl
 
--- src/main.rt:149:12
 is-requires : tie.Need-is-requires Inv-loop μ-loop
 is-requires c κs = tt
 
--- src/main.rt:150:13
 returns : tie.Need-returns Inv-loop μ-loop
 returns c = search needs
 
--- src/main.rt:152:9
 add-at : tie.Need-add-at Inv-loop μ-loop
 add-at c = omega arith
 
--- src/main.rt:148:5
 loop-less : tie.Need-loop-less Inv-loop μ-loop
 loop-less c = omega arith
 
--- src/main.rt:148:5
 loop-again : tie.Need-loop-again Inv-loop μ-loop
 loop-again c = omega arith
 
--- src/main.rt:146:1
 returns-2 : tie.Need-returns-2 Inv-loop μ-loop
 returns-2 c = search needs
 

@@ -2,7 +2,8 @@ use Prim.Native.Nat.{ℕ, _+_, _-_, _≤_}
 use mathlib.Core.Path.{_≡_, refl, ap, _∙_}
 use native.Mathlib.Omega.{arith}
 use borrow.Author.Needs.{needs}
-use Rattle.names.specs.Names.{nameIn, met-end, met-last, met-past, met-found, met-other}
+use Rattle.names.specs.Names.{nameIn}
+use Rattle.names.specs.NamesLaws.{met-end, met-last, met-past, met-found, met-other}
 use lib.ListN.{length, drop, take}
 use Rattle.names.proofs.find.Statement.{statement}
 use Rattle.names.proofs.find.Tie as tie
@@ -16,93 +17,100 @@ Inv-loop table x n i₀ i = (n ≡ length table) × (i ≤ n) × (nameIn (drop i
 abbrev μ-loop : tie.MeasureT-loop
 μ-loop table x n i₀ i = n - i
 
--- src/lib.rt:28:5
 loop-holds : tie.Need-loop-holds Inv-loop μ-loop
 loop-holds c = (refl, omega arith, refl)
 
--- src/lib.rt:29:12
 sub-if1 : tie.Need-sub-if1 Inv-loop μ-loop
 sub-if1 c = search needs
 
--- src/lib.rt:30:13
 slice-aggregate-result : tie.Need-slice-aggregate-result Inv-loop μ-loop
 slice-aggregate-result c = search needs
 
--- src/lib.rt:30:13
 returns : tie.Need-returns Inv-loop μ-loop
-returns c = met-last (c .before .before .before .before .before .args .table .now) (c .before .before .before .loop .i) (c .before .before .before .before .before .args .x) (c .before .before .before .loop .inv .2) (omega arith)
+returns c = met-last (c .before .before .before .before .before .args .table .now)
+    (c .before .before .before .loop .i) (c .before .before .before .before .before .args .x)
+    (c .before .before .before .loop .inv .2) (omega arith)
 
--- src/lib.rt:32:20
 add-from : tie.Need-add-from Inv-loop μ-loop
 add-from c = search needs
 
--- src/lib.rt:33:36
 add-wide : tie.Need-add-wide Inv-loop μ-loop
 add-wide c = search needs
 
--- src/lib.rt:33:30
 shared-slice-read-wide : tie.Need-shared-slice-read-wide Inv-loop μ-loop
 shared-slice-read-wide c = search needs
 
--- src/lib.rt:33:13
 wide-requires : tie.Need-wide-requires Inv-loop μ-loop
 wide-requires c κs = search needs
 
--- src/lib.rt:34:12
 sub-if2 : tie.Need-sub-if2 Inv-loop μ-loop
 sub-if2 c = search needs
 
--- src/lib.rt:35:13
 slice-aggregate-result-2 : tie.Need-slice-aggregate-result-2 Inv-loop μ-loop
 slice-aggregate-result-2 c = search needs
 
--- src/lib.rt:35:13
 returns-2 : tie.Need-returns-2 Inv-loop μ-loop
-returns-2 c = met-past (c .before .before .before .before .before .before .before .before .args .table .now) (c .before .before .before .before .before .before .loop .i) (c .before .before .before .before .before .before .before .before .args .x) (c .before .before .before .before .before .before .loop .inv .2) (c .before .before .wide .result) (c .before .before .wide .ensures .0) (omega arith) (omega arith)
+returns-2 c = met-past (c .before .before .before .before .before .before .before .before .args .table .now)
+    (c .before .before .before .before .before .before .loop .i)
+    (c .before .before .before .before .before .before .before .before .args .x)
+    (c .before .before .before .before .before .before .loop .inv .2) (c .before .before .wide .result)
+    (c .before .before .wide .ensures .0) (omega arith) (omega arith)
 
--- src/lib.rt:37:12
 shared-slice-read-if3 : tie.Need-shared-slice-read-if3 Inv-loop μ-loop
 shared-slice-read-if3 c = search needs
 
--- src/lib.rt:38:33
 add-result : tie.Need-add-result Inv-loop μ-loop
 add-result c = search needs
 
--- src/lib.rt:38:20
 sub-result : tie.Need-sub-result Inv-loop μ-loop
 sub-result c = search needs
 
--- src/lib.rt:38:20
 part-result-start : tie.Need-part-result-start Inv-loop μ-loop
 part-result-start c = search needs
 
--- src/lib.rt:38:20
 part-result-end : tie.Need-part-result-end Inv-loop μ-loop
 part-result-end c = search needs
 
--- src/lib.rt:38:13
 returns-3 : tie.Need-returns-3 Inv-loop μ-loop
-returns-3 c = let e : (c .before .before .before .before .before .before .before .before .loop .i) + 2 + (c .before .before .before .before .wide .result) - ((c .before .before .before .before .before .before .before .before .loop .i) + 2) ≡ c .before .before .before .before .wide .result = omega arith in ap (λ (n : ℕ). take n (drop ((c .before .before .before .before .before .before .before .before .loop .i) + 2) (c .before .before .before .before .before .before .before .before .before .before .args .table .now))) e ∙ met-found (c .before .before .before .before .before .before .before .before .before .before .args .table .now) (c .before .before .before .before .before .before .before .before .loop .i) (c .before .before .before .before .before .before .before .before .before .before .args .x) (c .before .before .before .before .before .before .before .before .loop .inv .2) (c .before .before .before .before .wide .result) (c .before .before .before .before .wide .ensures .0) (omega arith) (omega arith) (c .before .if3 .taken)
+returns-3 c = let e : (c .before .before .before .before .before .before .before .before .loop .i) + 2 +
+    (c .before .before .before .before .wide .result) -
+    ((c .before .before .before .before .before .before .before .before .loop .i) + 2)
+    ≡ c .before .before .before .before .wide .result = omega arith in ap
+    (λ (n : ℕ). take n
+    (drop ((c .before .before .before .before .before .before .before .before .loop .i) + 2)
+    (c .before .before .before .before .before .before .before .before .before .before .args .table .now))) e
+    ∙ met-found (c .before .before .before .before .before .before .before .before .before .before .args .table .now)
+    (c .before .before .before .before .before .before .before .before .loop .i)
+    (c .before .before .before .before .before .before .before .before .before .before .args .x)
+    (c .before .before .before .before .before .before .before .before .loop .inv .2)
+    (c .before .before .before .before .wide .result) (c .before .before .before .before .wide .ensures .0)
+    (omega arith) (omega arith) (c .before .if3 .taken)
 
--- src/lib.rt:40:13
 add-i : tie.Need-add-i Inv-loop μ-loop
 add-i c = search needs
 
--- src/lib.rt:28:5
 loop-less : tie.Need-loop-less Inv-loop μ-loop
 loop-less c = search needs
 
--- src/lib.rt:28:5
 loop-again : tie.Need-loop-again Inv-loop μ-loop
-loop-again c = (refl, omega arith, met-other (c .before .before .before .before .before .before .before .before .before .args .table .now) (c .before .before .before .before .before .before .before .loop .i) (c .before .before .before .before .before .before .before .before .before .args .x) (c .before .before .before .before .before .before .before .loop .inv .2) (c .before .before .before .wide .result) (c .before .before .before .wide .ensures .0) (omega arith) (omega arith) (c .if3 .left))
+loop-again c = (
+  refl,
+  omega arith,
+  met-other
+      (c .before .before .before .before .before .before .before .before .before .args .table .now)
+      (c .before .before .before .before .before .before .before .loop .i)
+      (c .before .before .before .before .before .before .before .before .before .args .x)
+      (c .before .before .before .before .before .before .before .loop .inv .2)
+      (c .before .before .before .wide .result) (c .before .before .before .wide .ensures .0) (omega arith)
+      (omega arith) (c .if3 .left),
+)
 
--- src/lib.rt:42:5
 slice-aggregate-result-3 : tie.Need-slice-aggregate-result-3 Inv-loop μ-loop
 slice-aggregate-result-3 c = search needs
 
--- src/lib.rt:23:1
 returns-4 : tie.Need-returns-4 Inv-loop μ-loop
-returns-4 c = met-end (c .before .before .before .before .args .table .now) (c .before .before .loop .i) (c .before .before .before .before .args .x) (c .before .before .loop .inv .2) (omega arith)
+returns-4 c = met-end (c .before .before .before .before .args .table .now) (c .before .before .loop .i)
+    (c .before .before .before .before .args .x) (c .before .before .loop .inv .2) (omega arith)
 
 pub find-spec : {M : Type 1} → statement M
 find-spec =

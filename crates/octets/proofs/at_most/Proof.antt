@@ -1,4 +1,4 @@
-use Rattle.octets.specs.Numbers.{at-is, at-over}
+use Rattle.octets.specs.NumbersLaws.{at-is, at-over}
 use mathlib.Core.Path.{_∙_}
 use native.Mathlib.Omega.{arith}
 use borrow.Author.Needs.{needs}

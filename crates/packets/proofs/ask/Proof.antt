@@ -2,7 +2,7 @@ use mathlib.Core.Path.{refl, sym, _∙_}
 use borrow.Author.Tests.{not-true}
 use mathlib.Core.Bool.{false}
 use Rattle.model.specs.Frames.{packetOf}
-use Rattle.marks.specs.Asked.{held-of, none-asked}
+use Rattle.marks.specs.AskedLaws.{held-of, none-asked}
 use native.Mathlib.Omega.{arith}
 use lib.ListN.{length}
 use borrow.Author.Needs.{needs}
@@ -14,23 +14,18 @@ use Rattle.marks.proofs.mark_held.Reads as mark-held-reads
 use Rattle.packets.proofs.room.may_start.Reads as may-start-reads
 use Rattle.parts.proofs.zeros.Reads as zeros-reads
 
--- src/lib.rt:204:47
 sub-may-start : tie.Need-sub-may-start
 sub-may-start c = search needs
 
--- src/lib.rt:204:39
 shared-slice-read-may-start : tie.Need-shared-slice-read-may-start
 shared-slice-read-may-start c = search needs
 
--- src/lib.rt:204:9
 may-start-requires : tie.Need-may-start-requires
 may-start-requires c κs = search needs
 
--- src/lib.rt:206:12
 zeros-requires : tie.Need-zeros-requires
 zeros-requires c κs = search needs
 
--- src/lib.rt:207:13
 returns : tie.Need-returns
 unfolding packetOf
 returns c = let a = c .before .before .before .before .before .before .before .before .before .args in
@@ -39,18 +34,16 @@ returns c = let a = c .before .before .before .before .before .before .before .b
     record {
       may = false;
       shut = λ e. m .ensures (not-true _ (c .before .before .if1 .taken));
-      octets = pre .0 ∙ none-asked (a .held .now) (a .s .now) (packetOf (a .payload .now)) (pre .3) (sym (c .before .zeros .ensures) ∙ c .if2 .taken);
+      octets = pre .0 ∙ none-asked (a .held .now) (a .s .now) (packetOf (a .payload .now)) (pre .3)
+          (sym (c .before .zeros .ensures) ∙ c .if2 .taken);
     }
 
--- src/lib.rt:210:5
 mark-held-requires : tie.Need-mark-held-requires
 mark-held-requires c κs = search needs
 
--- src/lib.rt:200:1
 same-length : tie.Need-same-length
 same-length c = search needs
 
--- src/lib.rt:200:1
 returns-2 : tie.Need-returns-2
 unfolding packetOf
 returns-2 c = let a = c .before .before .before .before .before .before .before .before .before .before .before .args in
@@ -59,7 +52,8 @@ returns-2 c = let a = c .before .before .before .before .before .before .before 
     record {
       may = m .result;
       shut = m .ensures;
-      octets = held-of (m .result) (a .held .now) (a .acts .now) (a .s .now) (a .payload .now) (pre .3) (rw (pre .0) refl) (pre .1) (pre .2)
+      octets = held-of (m .result) (a .held .now) (a .acts .now) (a .s .now) (a .payload .now) (pre .3)
+          (rw (pre .0) refl) (pre .1) (pre .2)
           (c .before .before .mark-held .ensures);
     }
 

@@ -1,6 +1,6 @@
 use borrow.Author.Needs.{needs}
-use Rattle.packets.specs.Windows.{gather-taken}
-use Rattle.packets.specs.Moves.{gather-left}
+use Rattle.packets.specs.WindowsLaws.{gather-taken}
+use Rattle.packets.specs.MovesLaws.{gather-left}
 use Rattle.model.specs.Frames.{packetOf}
 use Rattle.packets.proofs.gather.Statement.{statement}
 use Rattle.packets.proofs.gather.Tie as tie
@@ -21,10 +21,15 @@ same-length : tie.Need-same-length
 same-length c = search needs
 
 returns : tie.Need-returns
-returns c = let a = c .before .before .before .before .before .before .before .args in λ m w x r. gather-taken m (a .s .now) (a .i) (a .a) (packetOf (a .payload .now)) w x r (c .before .before .before .before .if1 .taken) (c .before .before .gather-at .ensures)
+returns c = let a =
+    c .before .before .before .before .before .before .before .args in λ m w x r. gather-taken m (a .s .now) (a .i)
+    (a .a) (packetOf (a .payload .now)) w x r (c .before .before .before .before .if1 .taken)
+    (c .before .before .gather-at .ensures)
 
 returns-2 : tie.Need-returns-2
-returns-2 c = let a = c .before .before .before .args in λ m w x r. gather-left m (a .s .now) (a .i) (a .a) (packetOf (a .payload .now)) w (c .if1 .left)
+returns-2 c = let a =
+    c .before .before .before .args in λ m w x r. gather-left m (a .s .now) (a .i) (a .a) (packetOf (a .payload .now))
+    w (c .if1 .left)
 
 pub gather-spec : {M : Type 1} → statement M
 gather-spec =

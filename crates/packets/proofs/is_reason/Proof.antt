@@ -1,6 +1,6 @@
 use Rattle.model.specs.Frames.{packetOf}
 use Rattle.packets.specs.Moves.{pairAt}
-use Rattle.packets.specs.Latest.{reason-off, reason-plain, reason-sifted}
+use Rattle.packets.specs.LatestTurns.{reason-off, reason-plain, reason-sifted}
 use borrow.Author.Needs.{needs}
 use Rattle.packets.proofs.is_reason.Statement.{statement}
 use Rattle.packets.proofs.is_reason.Tie as tie
@@ -8,21 +8,23 @@ use Rattle.packets.proofs.is_reason.Reads as reads
 use Rattle.packets.proofs.is_reason.Lts as lts
 use Rattle.packets.proofs.is_alike.Reads as is-alike-reads
 
--- src/lib.rt:132:9
 returns : tie.Need-returns
-returns c = let a = c .before .before .before .args in λ m w. reason-off (a .a) (packetOf (a .payload .now)) (pairAt m (a .i)) (c .if1 .taken)
+returns c = let a =
+    c .before .before .before .args in λ m w. reason-off (a .a) (packetOf (a .payload .now)) (pairAt m (a .i))
+    (c .if1 .taken)
 
--- src/lib.rt:135:9
 returns-2 : tie.Need-returns-2
-returns-2 c = let a = c .before .before .before .before .args in λ m w. reason-plain (a .a) (packetOf (a .payload .now)) (pairAt m (a .i)) (c .before .if1 .left) (c .if2 .taken)
+returns-2 c = let a =
+    c .before .before .before .before .args in λ m w. reason-plain (a .a) (packetOf (a .payload .now))
+    (pairAt m (a .i)) (c .before .if1 .left) (c .if2 .taken)
 
--- src/lib.rt:137:6
 is-alike-requires : tie.Need-is-alike-requires
 is-alike-requires c κs = search needs
 
--- src/lib.rt:127:1
 returns-3 : tie.Need-returns-3
-returns-3 c = let a = c .before .before .before .before .before .args in λ m w. reason-sifted (a .a) (packetOf (a .payload .now)) (pairAt m (a .i)) (c .before .before .if1 .left) (c .before .if2 .left) (c .is-alike .ensures m w)
+returns-3 c = let a =
+    c .before .before .before .before .before .args in λ m w. reason-sifted (a .a) (packetOf (a .payload .now))
+    (pairAt m (a .i)) (c .before .before .if1 .left) (c .before .if2 .left) (c .is-alike .ensures m w)
 
 pub is-reason-spec : {M : Type 1} → statement M
 is-reason-spec = tie.close (tie.spec returns returns-2 is-alike-requires returns-3)

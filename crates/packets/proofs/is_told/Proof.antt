@@ -1,20 +1,17 @@
 use mathlib.Core.Path.{refl}
-use Rattle.packets.specs.Whole.{told-off, told-on}
+use Rattle.packets.specs.WholeLaws.{told-off, told-on}
 use borrow.Author.Needs.{needs}
 use Rattle.packets.proofs.is_told.Statement.{statement}
 use Rattle.packets.proofs.is_told.Tie as tie
 use Rattle.packets.proofs.is_told.Reads as reads
 use Rattle.packets.proofs.is_told.Lts as lts
 
--- src/lib.rt:205:8
 shared-slice-read-if1 : tie.Need-shared-slice-read-if1
 shared-slice-read-if1 c = search needs
 
--- src/lib.rt:206:9
 returns : tie.Need-returns
 returns c = let a = c .before .before .args in λ m p k w u v. told-off m p w (c .if1 .taken)
 
--- src/lib.rt:201:1
 returns-2 : tie.Need-returns-2
 returns-2 c = let a = c .before .before .args in λ m p k w u v. told-on m p w (c .if1 .left) u v refl
 

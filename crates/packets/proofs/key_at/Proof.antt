@@ -1,6 +1,6 @@
 use Prim.Native.Nat.{_+_, _-_, _*_}
 use native.Mathlib.Omega.{arith}
-use Rattle.packets.specs.Keys.{key-part}
+use Rattle.packets.specs.KeysLaws.{key-part}
 use Rattle.model.specs.Layout.{pairSize, pairsAt}
 use borrow.Author.Needs.{needs}
 use Rattle.packets.proofs.key_at.Statement.{statement}
@@ -9,38 +9,31 @@ use Rattle.packets.proofs.key_at.Reads as reads
 use Rattle.packets.proofs.key_at.Lts as lts
 use Rattle.octets.proofs.get64.Reads as get64-reads
 
--- src/lib.rt:114:34
 mul-from : tie.Need-mul-from
 mul-from c = search needs
 
--- src/lib.rt:114:16
 add-from : tie.Need-add-from
 add-from c = search needs
 
--- src/lib.rt:115:14
 add-to : tie.Need-add-to
 add-to c = search needs
 
--- src/lib.rt:116:19
 sub-get64 : tie.Need-sub-get64
 sub-get64 c = search needs
 
--- src/lib.rt:116:19
 part-get64-start : tie.Need-part-get64-start
 part-get64-start c = search needs
 
--- src/lib.rt:116:19
 part-get64-end : tie.Need-part-get64-end
 part-get64-end c = search needs
 
--- src/lib.rt:116:5
 get64-requires : tie.Need-get64-requires
 get64-requires c κs = search needs
 
--- src/lib.rt:110:1
 returns : tie.Need-returns
 returns c = let a = c .before .before .before .args in
-    key-part (a .s .now) (pairsAt + pairSize * a .i) (pairsAt + pairSize * a .i + 8 - (pairsAt + pairSize * a .i)) (omega arith) (omega arith) (c .get64 .ensures)
+    key-part (a .s .now) (pairsAt + pairSize * a .i) (pairsAt + pairSize * a .i + 8 - (pairsAt + pairSize * a .i))
+    (omega arith) (omega arith) (c .get64 .ensures)
 
 pub key-at-spec : {M : Type 1} → statement M
 key-at-spec =

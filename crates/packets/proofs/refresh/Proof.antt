@@ -2,9 +2,9 @@ use Prim.Native.Nat.{_+_, _*_}
 use native.Mathlib.Omega.{arith}
 use lib.ListN.{length}
 use borrow.Author.Needs.{needs}
-use Rattle.packets.specs.Moves.{refresh-done, refresh-left}
+use Rattle.packets.specs.MovesLaws.{refresh-done, refresh-left}
 use Rattle.octets.specs.Little.{octetsOf}
-use Rattle.laws.specs.Put.{put-of}
+use Rattle.laws.specs.PutLaws.{put-of}
 use Rattle.packets.proofs.refresh.Statement.{statement}
 use Rattle.packets.proofs.refresh.Tie as tie
 use Rattle.model.specs.Layout.{pairSize, pairsAt}
@@ -25,8 +25,11 @@ same-length : tie.Need-same-length
 same-length c = search needs
 
 returns : tie.Need-returns
-returns c = let a = c .before .before .before .before .before .before .args in λ m w. refresh-done m (a .s .now) (a .i) (a .a) w (omega arith)
-    (put-of (a .s .now) (pairsAt + pairSize * a .i + 8) (octetsOf 2 0) 2 (length (a .s .now)) (c .before .before .put16 .ensures .0) (omega arith) (c .before .before .put16 .ensures .1))
+returns c = let a =
+    c .before .before .before .before .before .before .args in λ m w. refresh-done m (a .s .now) (a .i) (a .a) w
+    (omega arith)
+    (put-of (a .s .now) (pairsAt + pairSize * a .i + 8) (octetsOf 2 0) 2 (length (a .s .now))
+    (c .before .before .put16 .ensures .0) (omega arith) (c .before .before .put16 .ensures .1))
 
 returns-2 : tie.Need-returns-2
 returns-2 c = let a = c .before .before .args in λ m w. refresh-left m (a .s .now) (a .i) (a .a) w (c .if1 .left)

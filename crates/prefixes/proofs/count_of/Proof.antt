@@ -6,15 +6,12 @@ use Rattle.prefixes.proofs.count_of.Reads as reads
 use Rattle.prefixes.proofs.count_of.Lts as lts
 use Rattle.octets.proofs.at_most.Reads as at-most-reads
 
--- src/lib.rt:26:21
 shared-slice-read-at-most : tie.Need-shared-slice-read-at-most
 shared-slice-read-at-most c = search needs
 
--- src/lib.rt:26:5
 at-most-requires : tie.Need-at-most-requires
 at-most-requires c κs = search needs
 
--- src/lib.rt:22:1
 returns : tie.Need-returns
 unfolding countIn
 returns c = (c .at-most .ensures .0, c .at-most .ensures .1)

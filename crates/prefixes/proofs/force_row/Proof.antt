@@ -1,5 +1,5 @@
 use native.Mathlib.Omega.{arith}
-use Rattle.prefixes.specs.Force.{forced-row, forced-none}
+use Rattle.prefixes.specs.ForceLaws.{forced-row, forced-none}
 use borrow.Author.Needs.{needs}
 use Rattle.prefixes.proofs.force_row.Statement.{statement}
 use Rattle.prefixes.proofs.force_row.Tie as tie
@@ -8,29 +8,28 @@ use Rattle.prefixes.proofs.force_row.Lts as lts
 use Rattle.prefixes.proofs.in_force.Reads as in-force-reads
 use Rattle.prefixes.proofs.prefix_at.Reads as prefix-at-reads
 
--- src/lib.rt:71:9
 in-force-requires : tie.Need-in-force-requires
 in-force-requires c κs = search needs
 
--- src/lib.rt:73:22
 sub-prefix-at : tie.Need-sub-prefix-at
 sub-prefix-at c = search needs
 
--- src/lib.rt:73:9
 prefix-at-requires : tie.Need-prefix-at-requires
 prefix-at-requires c κs = search needs
 
--- src/lib.rt:67:1
 same-length : tie.Need-same-length
 same-length c = search needs
 
--- src/lib.rt:67:1
 returns : tie.Need-returns
-returns c = let a = c .before .before .before .before .before .before .before .before in forced-row (a .args .s .now) (a .args .n) _ _ (c .before .before .before .before .before .in-force .ensures) (c .before .before .before .before .if1 .taken) (c .before .before .prefix-at .ensures)
+returns c = let a =
+    c .before .before .before .before .before .before .before .before in forced-row (a .args .s .now) (a .args .n) _ _
+    (c .before .before .before .before .before .in-force .ensures) (c .before .before .before .before .if1 .taken)
+    (c .before .before .prefix-at .ensures)
 
--- src/lib.rt:67:1
 returns-2 : tie.Need-returns-2
-returns-2 c = let a = c .before .before .before .before in forced-none (a .args .s .now) (a .args .n) _ _ (c .before .in-force .ensures) (c .if1 .left) (a .pre .1)
+returns-2 c = let a =
+    c .before .before .before .before in forced-none (a .args .s .now) (a .args .n) _ _ (c .before .in-force .ensures)
+    (c .if1 .left) (a .pre .1)
 
 pub force-row-spec : {M : Type 1} → statement M
 force-row-spec =

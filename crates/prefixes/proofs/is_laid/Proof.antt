@@ -7,7 +7,7 @@ use lib.ListN.{length}
 use Rattle.wholes.specs.Layout.{editionsAt, editionsCountAt, wholeSize}
 use Rattle.editions.specs.Block.{editionSize}
 use Rattle.prefixes.specs.Held.{countIn}
-use Rattle.prefixes.specs.Laid.{Laid, laid-all, laid-more, laid-not, laid-other, laid-zeros}
+use Rattle.prefixes.specs.LaidLaws.{Laid, laid-all, laid-more, laid-not, laid-other, laid-zeros}
 use Rattle.prefixes.proofs.is_laid.Statement.{statement}
 use Rattle.prefixes.proofs.is_laid.Tie as tie
 
@@ -31,7 +31,8 @@ returns c =
     let a = c .before .before .before .before .before .before in
     let l = c .before .before .before .loop in
     let k = c .before .before .before .before .count-of .ensures .0 in
-    laid-not (a .args .s .now) (a .pre) (l .i) (omega arith) (l .inv .1 (a .pre)) (c .before .is-row .ensures) (not-true _ (c .if1 .taken))
+    laid-not (a .args .s .now) (a .pre) (l .i) (omega arith) (l .inv .1 (a .pre)) (c .before .is-row .ensures)
+    (not-true _ (c .if1 .taken))
 
 add-i : tie.Need-add-i Inv-loop μ-loop
 add-i c = search needs
@@ -45,7 +46,8 @@ loop-again c =
     let l = c .before .before .before .loop in
     let k = c .before .before .before .before .count-of .ensures .0 in (
       omega arith,
-      λ n. laid-more (a .args .s .now) n (l .i) (omega arith) (l .inv .1 n) (c .before .is-row .ensures) (not-false _ (c .if1 .left)),
+      λ n. laid-more (a .args .s .now) n (l .i) (omega arith) (l .inv .1 n) (c .before .is-row .ensures)
+          (not-false _ (c .if1 .left)),
     )
 
 shared-slice-read-wide : tie.Need-shared-slice-read-wide Inv-loop μ-loop
@@ -60,7 +62,8 @@ returns-2 c =
     let l = c .before .before .before .before .loop in
     let k = c .before .before .before .before .before .count-of .ensures .0 in
     let i : l .i ≡ c .before .before .before .before .before .count-of .result = omega arith in
-    laid-other (a .args .s .now) (a .pre) (l .i) (editionsCountAt - (editionsAt + editionSize * l .i)) (omega arith) (l .inv .1 (a .pre)) refl
+    laid-other (a .args .s .now) (a .pre) (l .i) (editionsCountAt - (editionsAt + editionSize * l .i)) (omega arith)
+    (l .inv .1 (a .pre)) refl
     (λ q. c .if2 .taken (c .before .wide .ensures .0 ∙ q ∙ i))
 
 mul-from : tie.Need-mul-from Inv-loop μ-loop
@@ -89,7 +92,8 @@ returns-3 c =
     let k = n .ensures .0 in
     let i : l .i ≡ n .result = omega arith in
     laid-zeros (a .args .s .now) (a .pre) (n .result) (editionsCountAt - (editionsAt + editionSize * n .result)) k
-    (subst (λ j. Laid (a .args .s .now) (a .pre) j) i (l .inv .1 (a .pre))) refl (sym (c .before .before .before .wide .ensures .0) ∙ c .before .before .if2 .left) (c .zeros .ensures)
+    (subst (λ j. Laid (a .args .s .now) (a .pre) j) i (l .inv .1 (a .pre))) refl
+    (sym (c .before .before .before .wide .ensures .0) ∙ c .before .before .if2 .left) (c .zeros .ensures)
 
 pub is-laid-spec : {M : Type 1} → statement M
 is-laid-spec =

@@ -1,9 +1,9 @@
 use native.Mathlib.Omega.{arith}
 use mathlib.Core.Path.{refl, sym, _∙_}
 use borrow.Author.Tests.{not-true, not-false}
-use Rattle.state.specs.Start.{octets-known}
+use Rattle.state.specs.StartLaws.{octets-known}
 use Rattle.wholes.specs.Heads.{prefixSize}
-use Rattle.prefixes.specs.Sound.{prefixed-short, prefixed-falling, prefixed-other, prefixed-head}
+use Rattle.prefixes.specs.SoundLaws.{prefixed-short, prefixed-falling, prefixed-other, prefixed-head}
 use borrow.Author.Needs.{needs}
 use Rattle.prefixes.proofs.is_prefixed.Statement.{statement}
 use Rattle.prefixes.proofs.is_prefixed.Tie as tie
@@ -17,7 +17,9 @@ is-rising-requires c κs = search needs
 returns-2 : tie.Need-returns-2
 returns-2 c =
     let a = c .before .before .before .before in
-    prefixed-falling (a .args .s .now) (c .before .before .if1 .left) (octets-known (a .args .s .now) (λ i. omega (arith, c .before .before .before .shared-slice-known .given i))) (sym (c .before .is-rising .ensures) ∙ not-true _ (c .if2 .taken))
+    prefixed-falling (a .args .s .now) (c .before .before .if1 .left)
+    (octets-known (a .args .s .now) (λ i. omega (arith, c .before .before .before .shared-slice-known .given i)))
+    (sym (c .before .is-rising .ensures) ∙ not-true _ (c .if2 .taken))
 
 is-laid-requires : tie.Need-is-laid-requires
 is-laid-requires c κs = search needs
@@ -25,7 +27,10 @@ is-laid-requires c κs = search needs
 returns-3 : tie.Need-returns-3
 returns-3 c =
     let a = c .before .before .before .before .before .before in
-    prefixed-other (a .args .s .now) (c .before .before .before .before .if1 .left) (octets-known (a .args .s .now) (λ i. omega (arith, c .before .before .before .before .before .shared-slice-known .given i))) (c .before .is-laid .ensures) (not-true _ (c .if3 .taken))
+    prefixed-other (a .args .s .now) (c .before .before .before .before .if1 .left)
+    (octets-known (a .args .s .now)
+    (λ i. omega (arith, c .before .before .before .before .before .shared-slice-known .given i)))
+    (c .before .is-laid .ensures) (not-true _ (c .if3 .taken))
 
 get32-requires : tie.Need-get32-requires
 get32-requires c κs = search needs
@@ -58,8 +63,19 @@ returns-4 : tie.Need-returns-4
 returns-4 c =
     let a = c .before .before .before .before .before .before .before .before .before .before .before .before .before in
     let at = c .before .before .before .before .before .before .get32 in
-    prefixed-head (a .args .s .now) (c .before .before .before .before .before .before .before .before .before .before .before .if1 .left) (octets-known (a .args .s .now) (λ i. omega (arith, c .before .before .before .before .before .before .before .before .before .before .before .before .shared-slice-known .given i))) prefixSize (at .result) _ (sym (c .before .before .before .before .before .before .before .before .before .before .is-rising .ensures) ∙ not-false _ (c .before .before .before .before .before .before .before .before .before .if2 .left))
-    (c .before .before .before .before .before .before .before .before .is-laid .ensures) (not-false _ (c .before .before .before .before .before .before .before .if3 .left)) (at .ensures) (c .before .before .before .before .force-row .ensures) refl (c .same .ensures)
+    prefixed-head (a .args .s .now)
+    (c .before .before .before .before .before .before .before .before .before .before .before .if1 .left)
+    (octets-known (a .args .s .now)
+    (λ i. omega (
+      arith,
+      c .before .before .before .before .before .before .before .before .before .before .before .before
+          .shared-slice-known .given i,
+    ))) prefixSize (at .result) _
+    (sym (c .before .before .before .before .before .before .before .before .before .before .is-rising .ensures)
+    ∙ not-false _ (c .before .before .before .before .before .before .before .before .before .if2 .left))
+    (c .before .before .before .before .before .before .before .before .is-laid .ensures)
+    (not-false _ (c .before .before .before .before .before .before .before .if3 .left)) (at .ensures)
+    (c .before .before .before .before .force-row .ensures) refl (c .same .ensures)
 
 pub is-prefixed-spec : {M : Type 1} → statement M
 is-prefixed-spec =

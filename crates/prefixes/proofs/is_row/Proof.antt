@@ -3,7 +3,7 @@ use native.Mathlib.Omega.{arith}
 use Prim.Native.Nat.{_+_, _-_, _*_}
 use Rattle.wholes.specs.Layout.{editionsAt}
 use Rattle.editions.specs.Block.{editionSize}
-use Rattle.prefixes.specs.Laid.{row-same}
+use Rattle.prefixes.specs.LaidLaws.{row-same}
 use borrow.Author.Needs.{needs}
 use Rattle.prefixes.proofs.is_row.Statement.{statement}
 use Rattle.prefixes.proofs.is_row.Tie as tie
@@ -42,7 +42,8 @@ returns : tie.Need-returns
 returns c =
     let a = c .before .before .before .before .before .before .before .args in
     let from = editionsAt + editionSize * a .i in
-    row-same (a .s .now) (a .i) (from + editionSize - from) (c .before .before .before .before .put-row .ensures) (omega arith) (c .same .ensures)
+    row-same (a .s .now) (a .i) (from + editionSize - from) (c .before .before .before .before .put-row .ensures)
+    (omega arith) (c .same .ensures)
 
 pub is-row-spec : {M : Type 1} → statement M
 is-row-spec =

@@ -1,10 +1,10 @@
 use native.Mathlib.Omega.{arith}
 use Prim.Native.Nat.{_≤_, _<_}
 use lib.ListN.{length}
-use Rattle.laws.specs.Tests.{cases-le}
+use Rattle.laws.specs.TestsLaws.{cases-le}
 use Rattle.model.specs.Layout.{mostPrefix}
 use Rattle.editions.specs.Editions.{mostEditions}
-use Rattle.prefixes.specs.More.{push-sized, push-long, push-full, push-can, pushed-not, pushed-is}
+use Rattle.prefixes.specs.MoreLaws.{push-sized, push-long, push-full, push-can, pushed-not, pushed-is}
 use borrow.Author.Needs.{needs}
 use Rattle.prefixes.proofs.push.Statement.{statement}
 use Rattle.prefixes.proofs.push.Tie as tie
@@ -15,77 +15,103 @@ use Rattle.octets.proofs.put8.Reads as put8-reads
 use Rattle.parts.proofs.copy.Reads as copy-reads
 use Rattle.prefixes.proofs.count_of.Reads as count-of-reads
 
--- src/lib.rt:200:9
 returns : tie.Need-returns
-returns c = let a = c .before .before .before in (push-sized (a .args .s .now) (a .args .prefix .now) (c .if1 .taken), pushed-not (a .args .number) (a .args .prefix .now) (a .args .s .now))
+returns c = let a =
+    c .before .before
+    .before in (
+      push-sized (a .args .s .now) (a .args .prefix .now) (c .if1 .taken),
+      pushed-not (a .args .number)
+          (a .args .prefix .now) (a .args .s .now),
+    )
 
--- src/lib.rt:204:9
 returns-2 : tie.Need-returns-2
-returns-2 c = let a = c .before .before .before .before in (push-long (a .args .s .now) (a .args .prefix .now) (c .if2 .taken), pushed-not (a .args .number) (a .args .prefix .now) (a .args .s .now))
+returns-2 c = let a =
+    c .before .before .before
+    .before in (
+      push-long (a .args .s .now) (a .args .prefix .now) (c .if2 .taken),
+      pushed-not (a .args .number)
+          (a .args .prefix .now) (a .args .s .now),
+    )
 
--- src/lib.rt:206:9
 count-of-requires : tie.Need-count-of-requires
 count-of-requires c κs = search needs
 
--- src/lib.rt:208:9
 same-length : tie.Need-same-length
 same-length c = search needs
 
--- src/lib.rt:208:9
 returns-3 : tie.Need-returns-3
-returns-3 c = let a = c .before .before .before .before .before .before .before in (push-full (a .args .s .now) (a .args .prefix .now) (c .before .count-of .ensures .0) (c .if3 .taken), pushed-not (a .args .number) (a .args .prefix .now) (a .args .s .now))
+returns-3 c = let a =
+    c .before .before .before .before .before .before
+    .before in (
+      push-full (a .args .s .now) (a .args .prefix .now) (c .before .count-of .ensures .0) (c .if3 .taken),
+      pushed-not (a .args .number) (a .args .prefix .now) (a .args .s .now),
+    )
 
--- src/lib.rt:210:35
 mul-at : tie.Need-mul-at
 mul-at c = search needs
 
--- src/lib.rt:210:14
 add-at : tie.Need-add-at
 add-at c = search needs
 
--- src/lib.rt:211:5
 put32-requires : tie.Need-put32-requires
 put32-requires c κs = search needs
 
--- src/lib.rt:212:21
 add-put8 : tie.Need-add-put8
 add-put8 c = search needs
 
--- src/lib.rt:212:29
 cast-put8 : tie.Need-cast-put8
 cast-put8 c = search needs
 
--- src/lib.rt:212:5
 put8-requires : tie.Need-put8-requires
 put8-requires c κs = search needs
 
--- src/lib.rt:213:20
 add-copy : tie.Need-add-copy
 add-copy c = search needs
 
--- src/lib.rt:213:5
 copy-requires : tie.Need-copy-requires
 copy-requires c κs = search needs
 
--- src/lib.rt:214:47
 add-put8-2 : tie.Need-add-put8-2
 add-put8-2 c = search needs
 
--- src/lib.rt:214:46
 cast-put8-2 : tie.Need-cast-put8-2
 cast-put8-2 c = search needs
 
--- src/lib.rt:214:5
 put8-requires-2 : tie.Need-put8-requires-2
 put8-requires-2 c κs = search needs
 
--- src/lib.rt:196:1
 same-length-2 : tie.Need-same-length-2
 same-length-2 c = search needs
 
--- src/lib.rt:196:1
 returns-4 : tie.Need-returns-4
-returns-4 c = let a = c .before .before .before .before .before .before .before .before .before .before .before .before .before .before .before .before .before .before .before .before .before .before .before in let k = c .before .before .before .before .before .before .before .before .before .before .before .before .before .before .before .before .before .count-of in let h : k .result < mostEditions = let m = k .ensures .1 in let n = c .before .before .before .before .before .before .before .before .before .before .before .before .before .before .before .before .if3 .left in cases-le mostEditions (k .result) (λ g. absurd (n (omega arith))) (λ g. g) in let p : length (a .args .prefix .now) ≤ mostPrefix = c .before .before .before .before .before .before .before .before .before .before .before .before .before .before .before .before .before .before .before .if2 .left in (push-can (a .args .s .now) (a .args .prefix .now) (c .before .before .before .before .before .before .before .before .before .before .before .before .before .before .before .before .before .before .before .before .if1 .left) p (k .ensures .0) h, pushed-is (a .args .s .now) (a .args .prefix .now) (a .args .number) (k .result) (c .before .before .before .before .before .before .before .before .before .before .before .before .before .before .before .before .before .before .before .before .if1 .left) p (k .ensures .0) h (c .before .before .before .before .before .before .before .before .before .before .before .before .before .before .put32 .ensures .0) (c .before .before .before .before .before .before .before .before .before .before .before .before .before .before .put32 .ensures .1) (c .before .before .before .before .before .before .before .before .before .before .put8 .ensures .0) (c .before .before .before .before .before .before .before .before .before .before .put8 .ensures .1) (c .before .before .before .before .before .before .copy .ensures .0) (c .before .before .before .before .before .before .copy .ensures .1) (c .before .before .put82 .ensures .0) (c .before .before .put82 .ensures .1))
+returns-4 c = let a =
+    c .before .before .before .before .before .before .before .before .before .before .before .before .before .before
+    .before .before .before .before .before .before .before .before .before in let k = c .before .before .before
+    .before .before .before .before .before .before .before .before .before .before .before .before .before .before
+    .count-of in let h : k .result <
+    mostEditions = let m = k .ensures .1 in let n = c .before .before .before .before .before .before .before .before
+    .before .before .before .before .before .before .before .before .if3 .left in cases-le mostEditions (k .result)
+    (λ g. absurd (n (omega arith))) (λ g. g) in let p : length (a .args .prefix .now) ≤
+    mostPrefix = c .before .before .before .before .before .before .before .before .before .before .before .before
+    .before .before .before .before .before .before .before .if2
+    .left in (
+      push-can (a .args .s .now) (a .args .prefix .now)
+          (c .before .before .before .before .before .before .before .before .before .before .before .before .before .before
+          .before .before .before .before .before .before .if1 .left) p (k .ensures .0) h,
+      pushed-is (a .args .s .now)
+          (a .args .prefix .now) (a .args .number) (k .result)
+          (c .before .before .before .before .before .before .before .before .before .before .before .before .before .before
+          .before .before .before .before .before .before .if1 .left) p (k .ensures .0) h
+          (c .before .before .before .before .before .before .before .before .before .before .before .before .before .before
+          .put32 .ensures .0)
+          (c .before .before .before .before .before .before .before .before .before .before .before .before .before .before
+          .put32 .ensures .1)
+          (c .before .before .before .before .before .before .before .before .before .before .put8 .ensures .0)
+          (c .before .before .before .before .before .before .before .before .before .before .put8 .ensures .1)
+          (c .before .before .before .before .before .before .copy .ensures .0)
+          (c .before .before .before .before .before .before .copy .ensures .1) (c .before .before .put82 .ensures .0)
+          (c .before .before .put82 .ensures .1),
+    )
 
 pub push-spec : {M : Type 1} → statement M
 push-spec =

@@ -3,7 +3,7 @@ use Rattle.editions.specs.Block.{editionSize}
 use Rattle.wholes.specs.Layout.{editionsAt}
 use native.Mathlib.Omega.{arith}
 use mathlib.Core.Path.{refl}
-use Rattle.prefixes.specs.Laid.{row-put}
+use Rattle.prefixes.specs.LaidLaws.{row-put}
 use borrow.Author.Needs.{needs}
 use Rattle.prefixes.proofs.put_row.Statement.{statement}
 use Rattle.prefixes.proofs.put_row.Tie as tie
@@ -15,73 +15,73 @@ use Rattle.octets.proofs.put8.Reads as put8-reads
 use Rattle.parts.proofs.copy.Reads as copy-reads
 use Rattle.prefixes.proofs.number_at.Reads as number-at-reads
 
--- src/lib.rt:137:14
 mul-at : tie.Need-mul-at
 mul-at c = search needs
 
--- src/lib.rt:138:18
 add-behind : tie.Need-add-behind
 add-behind c = search needs
 
--- src/lib.rt:138:18
 add-behind-2 : tie.Need-add-behind-2
 add-behind-2 c = search needs
 
--- src/lib.rt:139:29
 shared-slice-read-at-most : tie.Need-shared-slice-read-at-most
 shared-slice-read-at-most c = search needs
 
--- src/lib.rt:139:9
 at-most-requires : tie.Need-at-most-requires
 at-most-requires c κs = search needs
 
--- src/lib.rt:140:16
 add-from : tie.Need-add-from
 add-from c = search needs
 
--- src/lib.rt:141:14
 add-to : tie.Need-add-to
 add-to c = search needs
 
--- src/lib.rt:142:30
 number-at-requires : tie.Need-number-at-requires
 number-at-requires c κs = search needs
 
--- src/lib.rt:142:5
 put32-requires : tie.Need-put32-requires
 put32-requires c κs = search needs
 
--- src/lib.rt:143:33
 cast-put8 : tie.Need-cast-put8
 cast-put8 c = search needs
 
--- src/lib.rt:143:5
 put8-requires : tie.Need-put8-requires
 put8-requires c κs = search needs
 
--- src/lib.rt:144:32
 sub-copy : tie.Need-sub-copy
 sub-copy c = search needs
 
--- src/lib.rt:144:32
 part-copy-start : tie.Need-part-copy-start
 part-copy-start c = search needs
 
--- src/lib.rt:144:32
 part-copy-end : tie.Need-part-copy-end
 part-copy-end c = search needs
 
--- src/lib.rt:144:5
 copy-requires : tie.Need-copy-requires
 copy-requires c κs = search needs
 
--- src/lib.rt:133:1
 same-length : tie.Need-same-length
 same-length c = search needs
 
--- src/lib.rt:133:1
 returns : tie.Need-returns
-returns c = let a = c .before .before .before .before .before .before .before .before .before .before .before .before .before .before .before .before .before .before in row-put (a .args .s .now) (a .args .row .now) (a .args .i) (c .before .before .before .before .before .before .before .before .before .before .before .before .before .before .at-most .result) _ (c .before .before .before .before .before .before .before .before .before .before .before .before .number-at .result) (a .pre .0) (a .pre .1) (a .pre .2) (c .before .before .before .before .before .before .before .before .before .before .before .before .number-at .ensures) (c .before .before .before .before .before .before .before .before .before .before .before .before .before .before .at-most .ensures .0) refl (editionsAt + editionSize * a .args .i + 4 + 1 + c .before .before .before .before .before .before .before .before .before .before .before .before .before .before .at-most .result - (editionsAt + editionSize * a .args .i + 4 + 1)) (omega arith) (c .before .before .before .before .before .before .before .before .before .before .before .put32 .ensures .0) (c .before .before .before .before .before .before .before .before .before .before .before .put32 .ensures .1) (c .before .before .before .before .before .before .before .put8 .ensures .0) (c .before .before .before .before .before .before .before .put8 .ensures .1) (c .before .before .copy .ensures .0) (c .before .before .copy .ensures .1)
+returns c = let a =
+    c .before .before .before .before .before .before .before .before .before .before .before .before .before .before
+    .before .before .before .before in row-put (a .args .s .now) (a .args .row .now) (a .args .i)
+    (c .before .before .before .before .before .before .before .before .before .before .before .before .before .before
+    .at-most .result) _
+    (c .before .before .before .before .before .before .before .before .before .before .before .before .number-at
+    .result) (a .pre .0) (a .pre .1) (a .pre .2)
+    (c .before .before .before .before .before .before .before .before .before .before .before .before .number-at
+    .ensures) (c .before .before .before .before .before .before .before .before .before .before .before .before
+    .before .before .at-most .ensures .0) refl
+    (editionsAt + editionSize * a .args .i + 4 + 1 +
+    c .before .before .before .before .before .before .before .before .before .before .before .before .before .before
+    .at-most .result - (editionsAt + editionSize * a .args .i + 4 + 1)) (omega arith)
+    (c .before .before .before .before .before .before .before .before .before .before .before .put32 .ensures .0)
+    (c .before .before .before .before .before .before .before .before .before .before .before .put32 .ensures .1)
+    (c .before .before .before .before .before .before .before .put8 .ensures .0)
+    (c .before .before .before .before .before .before .before .put8 .ensures .1)
+    (c .before .before .copy .ensures .0) (c .before .before .copy .ensures .1)
 
 pub put-row-spec : {M : Type 1} → statement M
 put-row-spec =

@@ -1,6 +1,6 @@
 use mathlib.Core.Path.{_≡_, refl, sym, ap, _∙_}
 use Rattle.reports.specs.Texts.{additionBy, stopText}
-use Rattle.reports.specs.Fits.{stop-whole}
+use Rattle.reports.specs.FitsLaws.{stop-whole}
 use borrow.Author.Needs.{needs}
 use Rattle.reports.proofs.addition.Statement.{statement}
 use Rattle.reports.proofs.addition.Tie as tie
@@ -10,35 +10,32 @@ use Rattle.refusals.proofs.number_of.Reads as number-of-reads
 use Rattle.reports.proofs.messages.stopped.Reads as stopped-reads
 use Rattle.texts.proofs.words.blank.Reads as blank-reads
 
--- src/lib.rt:68:22
 enum-told : tie.Need-enum-told
 enum-told c = search needs
 
--- src/lib.rt:68:22
 blank-requires : tie.Need-blank-requires
 blank-requires c κs = search needs
 
--- src/lib.rt:69:23
 enum-known-halt : tie.Need-enum-known-halt
 enum-known-halt c = search needs
 
--- src/lib.rt:69:54
 number-of-requires : tie.Need-number-of-requires
 number-of-requires c κs = search needs
 
--- src/lib.rt:69:29
 stopped-requires : tie.Need-stopped-requires
 stopped-requires c κs = search needs
 
--- src/lib.rt:64:1
 returns : tie.Need-returns
 unfolding additionBy
-returns c = c .blank .ensures ∙ sym (ap (λ m. additionBy m (c .before .before .before .args .lines)) (c .before .enum-told .given .1))
+returns c = c .blank .ensures
+    ∙ sym (ap (λ m. additionBy m (c .before .before .before .args .lines)) (c .before .enum-told .given .1))
 
--- src/lib.rt:64:1
 returns-2 : tie.Need-returns-2
 unfolding additionBy
-returns-2 c = let a = c .before .before .before .before .before .args in stop-whole (a .lines) (c .before .number-of .result) 0 0 (c .stopped .ensures) ∙ ap (λ n. stopText (a .lines) n 0 0) (c .before .number-of .ensures) ∙ sym (ap (λ m. additionBy m (a .lines)) (c .before .before .before .halt .given .1))
+returns-2 c = let a =
+    c .before .before .before .before .before .args in stop-whole (a .lines) (c .before .number-of .result) 0 0
+    (c .stopped .ensures) ∙ ap (λ n. stopText (a .lines) n 0 0) (c .before .number-of .ensures)
+    ∙ sym (ap (λ m. additionBy m (a .lines)) (c .before .before .before .halt .given .1))
 
 pub addition-spec : {M : Type 1} → statement M
 addition-spec =

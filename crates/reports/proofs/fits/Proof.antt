@@ -1,5 +1,5 @@
 use native.Mathlib.Omega.{arith}
-use Rattle.reports.specs.Choices.{fits-few, fits-good, fits-bad}
+use Rattle.reports.specs.ChoicesLaws.{fits-few, fits-good, fits-bad}
 use borrow.Author.Needs.{needs}
 use Rattle.reports.proofs.fits.Statement.{statement}
 use Rattle.reports.proofs.fits.Tie as tie
@@ -7,27 +7,25 @@ use Rattle.reports.proofs.fits.Reads as reads
 use Rattle.reports.proofs.fits.Lts as lts
 use Rattle.reports.proofs.options.first_name.Reads as first-name-reads
 
--- src/lib.rt:156:9
 first-name-requires : tie.Need-first-name-requires
 first-name-requires c κs = search needs
 
--- src/lib.rt:158:20
 add-if2 : tie.Need-add-if2
 add-if2 c = search needs
 
--- src/lib.rt:159:13
 returns : tie.Need-returns
-returns c = let a = c .before .before .before .args in fits-few (a .asked) (a .words) (c .before .before .first-name .result) (c .before .before .first-name .ensures .0) (omega arith)
+returns c = let a =
+    c .before .before .before .args in fits-few (a .asked) (a .words) (c .before .before .first-name .result)
+    (c .before .before .first-name .ensures .0) (omega arith)
 
--- src/lib.rt:161:25
 add-result : tie.Need-add-result
 add-result c = search needs
 
--- src/lib.rt:161:9
 returns-2 : tie.Need-returns-2
-returns-2 c = let a = c .before .before .before .args in fits-good (a .asked) (a .words) (c .before .before .first-name .result) (c .before .if1 .taken) (c .before .before .first-name .ensures .0) (omega arith)
+returns-2 c = let a =
+    c .before .before .before .args in fits-good (a .asked) (a .words) (c .before .before .first-name .result)
+    (c .before .if1 .taken) (c .before .before .first-name .ensures .0) (omega arith)
 
--- src/lib.rt:153:1
 returns-3 : tie.Need-returns-3
 returns-3 c = fits-bad (c .before .before .args .asked) (c .before .before .args .words) (c .if1 .left)
 

@@ -9,16 +9,13 @@ use Rattle.reports.proofs.is_dashed.Reads as reads
 use Rattle.reports.proofs.is_dashed.Lts as lts
 use Rattle.octets.proofs.get8.Reads as get8-reads
 
--- src/lib.rt:178:9
 returns : tie.Need-returns
 unfolding isDashed
 returns c = rw (lt-leb 2 (length (c .before .before .args .word .now)) (omega arith))
 
--- src/lib.rt:180:5
 get8-requires : tie.Need-get8-requires
 get8-requires c κs = search needs
 
--- src/lib.rt:174:1
 returns-2 : tie.Need-returns-2
 unfolding isDashed
 returns-2 c = rw (le-leb 2 (length (c .before .before .before .args .word .now)) (omega arith), c .get8 .ensures)

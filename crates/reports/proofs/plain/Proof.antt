@@ -7,7 +7,6 @@ use Rattle.reports.proofs.plain.Tie as tie
 use Rattle.reports.proofs.plain.Reads as reads
 use Rattle.reports.proofs.plain.Lts as lts
 
--- src/lib.rt:109:1
 returns : tie.Need-returns
 unfolding plainAsked
 returns c = refl

@@ -1,4 +1,4 @@
-use Rattle.reports.specs.Fits.{stop-whole, refused-whole, summary-whole, warning-some, warning-none, progress-some, progress-none}
+use Rattle.reports.specs.FitsLaws.{stop-whole, refused-whole, summary-whole, warning-some, warning-none, progress-some, progress-none}
 use Rattle.texts.specs.Text.{room, told}
 use Rattle.model.specs.Quoted.{codes}
 use mathlib.Core.Path.{_≡_, refl, sym, ap, _∙_}
@@ -12,36 +12,31 @@ use Rattle.texts.proofs.words.blank.Reads as blank-reads
 use Rattle.texts.proofs.words.said.Reads as said-reads
 use Rattle.texts.proofs.words.with.Reads as with-reads
 
--- src/lib.rt:100:29
 blank-requires : tie.Need-blank-requires
 blank-requires c κs = search needs
 
--- src/lib.rt:100:45
 slice-aggregate-said : tie.Need-slice-aggregate-said
 slice-aggregate-said c = search needs
 
--- src/lib.rt:100:13
 said-requires : tie.Need-said-requires
 said-requires c κs = search needs
 
--- src/lib.rt:101:31
 slice-aggregate-with : tie.Need-slice-aggregate-with
 slice-aggregate-with c = search needs
 
--- src/lib.rt:101:9
 with-requires : tie.Need-with-requires
 with-requires c κs = search needs
 
--- src/lib.rt:101:9
 returns : tie.Need-returns
 unfolding codes
-returns c = let a = c .before .before .before .before .before .before .args in progress-some (a .before) (a .after) (c .before .before .before .before .before .if1 .taken) (c .before .before .before .before .blank .ensures) (c .before .before .said .ensures) (c .with .ensures)
+returns c = let a =
+    c .before .before .before .before .before .before .args in progress-some (a .before) (a .after)
+    (c .before .before .before .before .before .if1 .taken) (c .before .before .before .before .blank .ensures)
+    (c .before .before .said .ensures) (c .with .ensures)
 
--- src/lib.rt:103:5
 blank-requires-2 : tie.Need-blank-requires-2
 blank-requires-2 c κs = search needs
 
--- src/lib.rt:96:1
 returns-2 : tie.Need-returns-2
 unfolding codes
 returns-2 c = let a = c .before .before .args in progress-none (a .before) (a .after) (omega arith) (c .blank2 .ensures)

@@ -1,4 +1,4 @@
-use Rattle.reports.specs.Fits.{stop-whole, refused-whole, summary-whole, warning-some, warning-none, progress-some, progress-none}
+use Rattle.reports.specs.FitsLaws.{stop-whole, refused-whole, summary-whole, warning-some, warning-none, progress-some, progress-none}
 use Rattle.texts.specs.Text.{room, told}
 use Rattle.model.specs.Quoted.{codes}
 use mathlib.Core.Path.{_≡_, refl, sym, ap, _∙_}
@@ -13,30 +13,26 @@ use Rattle.reports.proofs.messages.refused.Reads as refused-reads
 use Rattle.texts.proofs.words.blank.Reads as blank-reads
 use Rattle.texts.proofs.words.with.Reads as with-reads
 
--- src/lib.rt:68:31
 blank-requires : tie.Need-blank-requires
 blank-requires c κs = search needs
 
--- src/lib.rt:68:47
 number-of-requires : tie.Need-number-of-requires
 number-of-requires c κs = search needs
 
--- src/lib.rt:68:9
 refused-requires : tie.Need-refused-requires
 refused-requires c κs = search needs
 
--- src/lib.rt:69:20
 slice-aggregate-with : tie.Need-slice-aggregate-with
 slice-aggregate-with c = search needs
 
--- src/lib.rt:69:5
 with-requires : tie.Need-with-requires
 with-requires c κs = search needs
 
--- src/lib.rt:65:1
 returns : tie.Need-returns
 unfolding codes
-returns c = refused-whole (c .before .before .before .before .before .args .x) _ (c .before .before .before .number-of .ensures) (c .before .before .before .before .blank .ensures) (c .before .before .refused .ensures) (c .with .ensures)
+returns c = refused-whole (c .before .before .before .before .before .args .x) _
+    (c .before .before .before .number-of .ensures) (c .before .before .before .before .blank .ensures)
+    (c .before .before .refused .ensures) (c .with .ensures)
 
 pub refused-spec : {M : Type 1} → statement M
 refused-spec =

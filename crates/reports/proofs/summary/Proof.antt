@@ -1,4 +1,4 @@
-use Rattle.reports.specs.Fits.{stop-whole, refused-whole, summary-whole, warning-some, warning-none, progress-some, progress-none}
+use Rattle.reports.specs.FitsLaws.{stop-whole, refused-whole, summary-whole, warning-some, warning-none, progress-some, progress-none}
 use Rattle.texts.specs.Text.{room, told}
 use Rattle.model.specs.Quoted.{codes}
 use mathlib.Core.Path.{_≡_, refl, sym, ap, _∙_}
@@ -12,26 +12,23 @@ use Rattle.reports.proofs.messages.counted.Reads as counted-reads
 use Rattle.reports.proofs.messages.pieced.Reads as pieced-reads
 use Rattle.texts.proofs.words.with.Reads as with-reads
 
--- src/lib.rt:77:9
 counted-requires : tie.Need-counted-requires
 counted-requires c κs = search needs
 
--- src/lib.rt:78:9
 pieced-requires : tie.Need-pieced-requires
 pieced-requires c κs = search needs
 
--- src/lib.rt:79:24
 slice-aggregate-with : tie.Need-slice-aggregate-with
 slice-aggregate-with c = search needs
 
--- src/lib.rt:79:5
 with-requires : tie.Need-with-requires
 with-requires c κs = search needs
 
--- src/lib.rt:73:1
 returns : tie.Need-returns
 unfolding codes
-returns c = let a = c .before .before .before .before .args in summary-whole (a .flow) (a .position) (c .before .before .before .counted .ensures) (c .before .before .pieced .ensures) (c .with .ensures)
+returns c = let a =
+    c .before .before .before .before .args in summary-whole (a .flow) (a .position)
+    (c .before .before .before .counted .ensures) (c .before .before .pieced .ensures) (c .with .ensures)
 
 pub summary-spec : {M : Type 1} → statement M
 summary-spec =

@@ -1,4 +1,4 @@
-use Rattle.reports.specs.Fits.{stop-whole, refused-whole, summary-whole, warning-some, warning-none, progress-some, progress-none}
+use Rattle.reports.specs.FitsLaws.{stop-whole, refused-whole, summary-whole, warning-some, warning-none, progress-some, progress-none}
 use Rattle.texts.specs.Text.{room, told}
 use Rattle.model.specs.Quoted.{codes}
 use mathlib.Core.Path.{_≡_, refl, sym, ap, _∙_}
@@ -12,35 +12,31 @@ use Rattle.reports.proofs.messages.warns.Reads as warns-reads
 use Rattle.texts.proofs.words.blank.Reads as blank-reads
 use Rattle.texts.proofs.words.with.Reads as with-reads
 
--- src/lib.rt:86:8
 warns-requires : tie.Need-warns-requires
 warns-requires c κs = search needs
 
--- src/lib.rt:88:13
 blank-requires : tie.Need-blank-requires
 blank-requires c κs = search needs
 
--- src/lib.rt:89:13
 slice-aggregate-with : tie.Need-slice-aggregate-with
 slice-aggregate-with c = search needs
 
--- src/lib.rt:87:9
 with-requires : tie.Need-with-requires
 with-requires c κs = search needs
 
--- src/lib.rt:87:9
 returns : tie.Need-returns
 unfolding codes
-returns c = warning-some (c .before .before .before .before .before .args .flow) (sym (c .before .before .before .before .warns .ensures) ∙ c .before .before .before .if1 .taken) (c .before .before .blank .ensures) (c .with .ensures)
+returns c = warning-some (c .before .before .before .before .before .args .flow)
+    (sym (c .before .before .before .before .warns .ensures) ∙ c .before .before .before .if1 .taken)
+    (c .before .before .blank .ensures) (c .with .ensures)
 
--- src/lib.rt:92:5
 blank-requires-2 : tie.Need-blank-requires-2
 blank-requires-2 c κs = search needs
 
--- src/lib.rt:83:1
 returns-2 : tie.Need-returns-2
 unfolding codes
-returns-2 c = warning-none (c .before .before .before .args .flow) (sym (c .before .before .warns .ensures) ∙ c .before .if1 .left) (c .blank2 .ensures)
+returns-2 c = warning-none (c .before .before .before .args .flow)
+    (sym (c .before .before .warns .ensures) ∙ c .before .if1 .left) (c .blank2 .ensures)
 
 pub warning-spec : {M : Type 1} → statement M
 warning-spec =

@@ -12,21 +12,25 @@ is-resolvable-requires : tie.Need-is-resolvable-requires
 is-resolvable-requires c κs = search needs
 
 returns-2 : tie.Need-returns-2
-returns-2 c = by-form _ _ (c .before .before .if1 .left) (sym (c .before .is-resolvable .ensures) ∙ not-true (c .before .is-resolvable .result) (c .if2 .taken))
+returns-2 c = by-form _ _ (c .before .before .if1 .left)
+    (sym (c .before .is-resolvable .ensures) ∙ not-true (c .before .is-resolvable .result) (c .if2 .taken))
 
 hash-requires : tie.Need-hash-requires
-hash-requires c κs = sized _ (sym (c .before .is-resolvable .ensures) ∙ not-false (c .before .is-resolvable .result) (c .if2 .left))
+hash-requires c κs =
+    sized _ (sym (c .before .is-resolvable .ensures) ∙ not-false (c .before .is-resolvable .result) (c .if2 .left))
 
 hash-by-requires : tie.Need-hash-by-requires
 hash-by-requires c κs = (
   c .before .before .before .if1 .left,
-  sized _ (sym (c .before .before .is-resolvable .ensures) ∙ not-false (c .before .before .is-resolvable .result) (c .before .if2 .left)),
+  sized _ (sym (c .before .before .is-resolvable .ensures)
+      ∙ not-false (c .before .before .is-resolvable .result) (c .before .if2 .left)),
 )
 
 returns-3 : tie.Need-returns-3
 returns-3 c = by-hash _ _ (c .before .before .before .before .if1 .left)
     (sym (c .before .before .before .is-resolvable .ensures)
-    ∙ not-false (c .before .before .before .is-resolvable .result) (c .before .before .if2 .left)) (c .before .hash .ensures)
+    ∙ not-false (c .before .before .before .is-resolvable .result) (c .before .before .if2 .left))
+    (c .before .hash .ensures)
     (c .hash-by .ensures)
 
 pub resolves-spec : {M : Type 1} → statement M

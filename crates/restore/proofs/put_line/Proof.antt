@@ -1,6 +1,6 @@
 use lib.ListN.{length, take, drop, length-take, length-drop}
-use Rattle.laws.specs.Put.{put-of}
-use Rattle.restore.specs.Lines.{name-head, name-monitor, name-second, name-pair, name-other}
+use Rattle.laws.specs.PutLaws.{put-of}
+use Rattle.restore.specs.LinesLaws.{name-head, name-monitor, name-second, name-pair, name-other}
 use native.Mathlib.Omega.{arith}
 use Rattle.model.specs.Layout.{headSize}
 use borrow.Author.Needs.{needs}
@@ -26,7 +26,12 @@ same-length : tie.Need-same-length
 same-length c = search needs
 
 returns : tie.Need-returns
-returns c = let a = c .before .before .before .before .before .before .before .before .before .args in name-head _ _ (c .before .before .before .before .before .if1 .taken) (put-of _ _ _ (length (take headSize (drop 1 (a .line .now)))) (length (a .s .now)) (c .before .before .copy .ensures .0) (simp (length-take, length-drop) (omega arith)) (c .before .before .copy .ensures .1))
+returns c = let a =
+    c .before .before .before .before .before .before .before .before .before .args in name-head _ _
+    (c .before .before .before .before .before .if1 .taken)
+    (put-of _ _ _ (length (take headSize (drop 1 (a .line .now)))) (length (a .s .now))
+    (c .before .before .copy .ensures .0) (simp (length-take, length-drop) (omega arith))
+    (c .before .before .copy .ensures .1))
 
 sub-store-monitor : tie.Need-sub-store-monitor
 sub-store-monitor c = search needs
@@ -44,7 +49,8 @@ same-length-2 : tie.Need-same-length-2
 same-length-2 c = search needs
 
 returns-2 : tie.Need-returns-2
-returns-2 c = name-monitor _ _ (c .before .before .before .before .before .if2 .taken) (c .before .before .store-monitor .ensures)
+returns-2 c = name-monitor _ _ (c .before .before .before .before .before .if2 .taken)
+    (c .before .before .store-monitor .ensures)
 
 store-second-requires : tie.Need-store-second-requires
 store-second-requires c κs = search needs
@@ -71,10 +77,12 @@ same-length-4 : tie.Need-same-length-4
 same-length-4 c = search needs
 
 returns-4 : tie.Need-returns-4
-returns-4 c = name-pair _ _ (c .before .before .before .before .before .if4 .taken) (c .before .before .store-pair .ensures)
+returns-4 c = name-pair _ _ (c .before .before .before .before .before .if4 .taken)
+    (c .before .before .store-pair .ensures)
 
 returns-5 : tie.Need-returns-5
-returns-5 c = name-other _ _ (λ e. c .before .before .before .if1 .left e) (λ e. c .before .before .if2 .left e) (λ e. c .before .if3 .left e) (λ e. c .if4 .left e)
+returns-5 c = name-other _ _ (λ e. c .before .before .before .if1 .left e) (λ e. c .before .before .if2 .left e)
+    (λ e. c .before .if3 .left e) (λ e. c .if4 .left e)
 
 pub put-line-spec : {M : Type 1} → statement M
 put-line-spec =

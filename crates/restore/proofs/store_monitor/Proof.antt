@@ -1,6 +1,6 @@
 use lib.ListN.{length}
-use Rattle.laws.specs.Put.{put-of}
-use Rattle.restore.specs.Lines.{monitor-other, monitor-own}
+use Rattle.laws.specs.PutLaws.{put-of}
+use Rattle.restore.specs.LinesLaws.{monitor-other, monitor-own}
 use native.Mathlib.Omega.{arith}
 use borrow.Author.Needs.{needs}
 use Rattle.restore.proofs.store_monitor.Statement.{statement}
@@ -9,37 +9,32 @@ use Rattle.restore.proofs.store_monitor.Reads as reads
 use Rattle.restore.proofs.store_monitor.Lts as lts
 use Rattle.parts.proofs.copy.Reads as copy-reads
 
--- src/lib.rt:32:13
 shared-slice-read-h : tie.Need-shared-slice-read-h
 shared-slice-read-h c = search needs
 
--- src/lib.rt:32:13
 cast-h : tie.Need-cast-h
 cast-h c = omega (arith, c .shared-slice-known2 .given 0)
 
--- src/lib.rt:34:9
 returns : tie.Need-returns
 returns c = monitor-other _ _ (omega arith)
 
--- src/lib.rt:36:25
 mul-copy : tie.Need-mul-copy
 mul-copy c = search needs
 
--- src/lib.rt:36:20
 add-copy : tie.Need-add-copy
 add-copy c = search needs
 
--- src/lib.rt:36:5
 copy-requires : tie.Need-copy-requires
 copy-requires c κs = search needs
 
--- src/lib.rt:28:1
 same-length : tie.Need-same-length
 same-length c = search needs
 
--- src/lib.rt:28:1
 returns-2 : tie.Need-returns-2
-returns-2 c = let a = c .before .before .before .before .before .before .before .before .args in monitor-own _ _ (omega arith) (put-of _ _ _ (length (a .row .now)) (length (a .s .now)) (c .before .before .copy .ensures .0) (omega arith) (c .before .before .copy .ensures .1))
+returns-2 c = let a =
+    c .before .before .before .before .before .before .before .before .args in monitor-own _ _ (omega arith)
+    (put-of _ _ _ (length (a .row .now)) (length (a .s .now)) (c .before .before .copy .ensures .0) (omega arith)
+    (c .before .before .copy .ensures .1))
 
 pub store-monitor-spec : {M : Type 1} → statement M
 store-monitor-spec =

@@ -1,4 +1,4 @@
-use Rattle.restore.specs.Spread.{spread-made}
+use Rattle.restore.specs.SpreadLaws.{spread-made}
 use Rattle.restore.specs.Lines.{storedMonitor}
 use mathlib.Core.Path.{ap, _∙_}
 use borrow.Author.Needs.{needs}
@@ -63,7 +63,18 @@ same-length : tie.Need-same-length
 same-length c = search needs
 
 returns : tie.Need-returns
-returns c = c .before .before .store-monitor .ensures ∙ ap (storedMonitor _) (spread-made (c .before .before .before .before .before .before .before .before .before .before .before .before .before .before .before .before .before .args .line .now) _ (c .before .before .before .before .before .before .before .before .before .before .before .before .before .before .before .before .before .pre .1) (c .before .before .before .before .before .before .before .before .before .before .before .before .before .at-most .ensures .0) (c .before .before .before .before .before .before .before .before .before .before .before .before .before .at-most .ensures .1) (c .before .before .before .before .before .before .before .before .before .before .copy .ensures) (c .before .before .before .before .before .before .copy2 .ensures))
+returns c = c .before .before .store-monitor .ensures
+    ∙ ap (storedMonitor _)
+    (spread-made (c .before .before .before .before .before .before .before .before .before .before .before .before
+    .before .before .before .before .before .args .line .now) _
+    (c .before .before .before .before .before .before .before .before .before .before .before .before .before .before
+    .before .before .before .pre .1)
+    (c .before .before .before .before .before .before .before .before .before .before .before .before .before
+    .at-most .ensures .0)
+    (c .before .before .before .before .before .before .before .before .before .before .before .before .before
+    .at-most .ensures .1)
+    (c .before .before .before .before .before .before .before .before .before .before .copy .ensures)
+    (c .before .before .before .before .before .before .copy2 .ensures))
 
 pub store-second-spec : {M : Type 1} → statement M
 store-second-spec =

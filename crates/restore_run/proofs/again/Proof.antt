@@ -8,31 +8,24 @@ use Rattle.restore_run.proofs.again.Lts as lts
 use Rattle.restore_run.proofs.digest.Reads as digest-reads
 use Rattle.snapshots.proofs.save_image.Reads as save-image-reads
 
--- src/main.rt:33:33
 slice-aggregate-save-image : tie.Need-slice-aggregate-save-image
 slice-aggregate-save-image c = search needs
 
--- src/main.rt:33:9
 save-image-requires : tie.Need-save-image-requires
 save-image-requires c κs = search needs
 
--- src/main.rt:35:23
 array-share-prefix-out : tie.Need-array-share-prefix-out
 array-share-prefix-out c = search needs
 
--- src/main.rt:35:23
 slice-aggregate-digest : tie.Need-slice-aggregate-digest
 slice-aggregate-digest c = simp length-take (omega arith)
 
--- src/main.rt:35:9
 digest-requires : tie.Need-digest-requires
 digest-requires c κs = search needs
 
--- src/main.rt:35:9
 returns : tie.Need-returns
 returns c = search needs
 
--- src/main.rt:29:1
 returns-2 : tie.Need-returns-2
 returns-2 c = search needs
 

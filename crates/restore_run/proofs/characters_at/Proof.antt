@@ -16,51 +16,39 @@ Inv-loop text₀ p d old e₀ v₀ text e v = (v ≤ 256) × (length text ≡ le
 abbrev μ-loop : tie.MeasureT-loop
 μ-loop text₀ p d old e₀ v₀ text e v = 256 - v
 
--- src/main.rt:60:15
 slice-read-old : tie.Need-slice-read-old Inv-loop μ-loop
 slice-read-old c = omega arith
 
--- src/main.rt:63:5
 loop-holds : tie.Need-loop-holds Inv-loop μ-loop
 loop-holds c = (omega arith, refl)
 
--- src/main.rt:64:19
 cast-text : tie.Need-cast-text Inv-loop μ-loop
 cast-text c = omega arith
 
--- src/main.rt:64:9
 slice-write-text : tie.Need-slice-write-text Inv-loop μ-loop
 slice-write-text c = omega arith
 
--- src/main.rt:65:20
 answer-requires : tie.Need-answer-requires Inv-loop μ-loop
 answer-requires c κs = search needs
 
--- src/main.rt:65:9
 mix-requires : tie.Need-mix-requires Inv-loop μ-loop
 mix-requires c κs = search needs
 
--- src/main.rt:66:9
 add-v : tie.Need-add-v Inv-loop μ-loop
 add-v c = omega arith
 
--- src/main.rt:63:5
 loop-less : tie.Need-loop-less Inv-loop μ-loop
 loop-less c = omega arith
 
--- src/main.rt:63:5
 loop-again : tie.Need-loop-again Inv-loop μ-loop
 loop-again c = (omega arith, simp length-set (omega arith))
 
--- src/main.rt:68:5
 slice-write-text-2 : tie.Need-slice-write-text-2 Inv-loop μ-loop
 slice-write-text-2 c = omega arith
 
--- src/main.rt:57:1
 same-length : tie.Need-same-length Inv-loop μ-loop
 same-length c = simp length-set (omega arith)
 
--- src/main.rt:57:1
 returns : tie.Need-returns Inv-loop μ-loop
 returns c = search needs
 

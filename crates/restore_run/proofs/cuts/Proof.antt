@@ -16,35 +16,27 @@ Inv-loop text d₀ n₀ d n = n ≤ length text
 abbrev μ-loop : tie.MeasureT-loop
 μ-loop text d₀ n₀ d n = length text - n
 
--- src/main.rt:137:5
 loop-holds : tie.Need-loop-holds Inv-loop μ-loop
 loop-holds c = omega arith
 
--- src/main.rt:138:27
 slice-aggregate-answer : tie.Need-slice-aggregate-answer Inv-loop μ-loop
 slice-aggregate-answer c = simp length-take (omega arith)
 
--- src/main.rt:138:20
 answer-requires : tie.Need-answer-requires Inv-loop μ-loop
 answer-requires c κs = search needs
 
--- src/main.rt:138:9
 mix-requires : tie.Need-mix-requires Inv-loop μ-loop
 mix-requires c κs = search needs
 
--- src/main.rt:139:9
 add-n : tie.Need-add-n Inv-loop μ-loop
 add-n c = omega arith
 
--- src/main.rt:137:5
 loop-less : tie.Need-loop-less Inv-loop μ-loop
 loop-less c = omega arith
 
--- src/main.rt:137:5
 loop-again : tie.Need-loop-again Inv-loop μ-loop
 loop-again c = omega arith
 
--- src/main.rt:134:1
 returns : tie.Need-returns Inv-loop μ-loop
 returns c = search needs
 

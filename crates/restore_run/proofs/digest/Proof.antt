@@ -14,35 +14,27 @@ Inv-loop s d₀ i₀ d i = (i ≤ length s) × (d < 1000003)
 abbrev μ-loop : tie.MeasureT-loop
 μ-loop s d₀ i₀ d i = length s - i
 
--- src/main.rt:22:5
 loop-holds : tie.Need-loop-holds Inv-loop μ-loop
 loop-holds c = (omega arith, omega arith)
 
--- src/main.rt:23:20
 shared-slice-read-mix : tie.Need-shared-slice-read-mix Inv-loop μ-loop
 shared-slice-read-mix c = omega arith
 
--- src/main.rt:23:20
 cast-mix : tie.Need-cast-mix Inv-loop μ-loop
 cast-mix c = omega (arith, c .shared-slice-known2 .given (c .before .before .loop .i))
 
--- src/main.rt:23:9
 mix-requires : tie.Need-mix-requires Inv-loop μ-loop
 mix-requires c κs = search needs
 
--- src/main.rt:24:9
 add-i : tie.Need-add-i Inv-loop μ-loop
 add-i c = omega arith
 
--- src/main.rt:22:5
 loop-less : tie.Need-loop-less Inv-loop μ-loop
 loop-less c = omega arith
 
--- src/main.rt:22:5
 loop-again : tie.Need-loop-again Inv-loop μ-loop
 loop-again c = (omega arith, c .mix .ensures)
 
--- src/main.rt:17:1
 returns : tie.Need-returns Inv-loop μ-loop
 returns c = omega arith
 

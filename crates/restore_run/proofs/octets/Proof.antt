@@ -15,35 +15,27 @@ Inv-loop text₀ d₀ p₀ text d p = (1 ≤ p) × (length text ≡ length text�
 abbrev μ-loop : tie.MeasureT-loop
 μ-loop text₀ d₀ p₀ text d p = length text₀ - p
 
--- src/main.rt:117:5
 loop-holds : tie.Need-loop-holds Inv-loop μ-loop
 loop-holds c = (omega arith, refl)
 
--- src/main.rt:118:29
 sub-octets-at : tie.Need-sub-octets-at Inv-loop μ-loop
 sub-octets-at c = omega arith
 
--- src/main.rt:118:9
 octets-at-requires : tie.Need-octets-at-requires Inv-loop μ-loop
 octets-at-requires c κs = search needs
 
--- src/main.rt:119:9
 add-p : tie.Need-add-p Inv-loop μ-loop
 add-p c = omega arith
 
--- src/main.rt:117:5
 loop-less : tie.Need-loop-less Inv-loop μ-loop
 loop-less c = omega arith
 
--- src/main.rt:117:5
 loop-again : tie.Need-loop-again Inv-loop μ-loop
 loop-again c = (omega arith, search needs)
 
--- src/main.rt:114:1
 same-length : tie.Need-same-length Inv-loop μ-loop
 same-length c = search needs
 
--- src/main.rt:114:1
 returns : tie.Need-returns Inv-loop μ-loop
 returns c = search needs
 

@@ -17,87 +17,66 @@ Inv-loop text₀ p d high low e₀ v₀ text e v = (v ≤ 256) × (length text �
 abbrev μ-loop : tie.MeasureT-loop
 μ-loop text₀ p d high low e₀ v₀ text e v = 256 - v
 
--- src/main.rt:76:16
 slice-read-high : tie.Need-slice-read-high Inv-loop μ-loop
 slice-read-high c = omega arith
 
--- src/main.rt:77:20
 add-low : tie.Need-add-low Inv-loop μ-loop
 add-low c = omega arith
 
--- src/main.rt:77:15
 slice-read-low : tie.Need-slice-read-low Inv-loop μ-loop
 slice-read-low c = omega arith
 
--- src/main.rt:80:5
 loop-holds : tie.Need-loop-holds Inv-loop μ-loop
 loop-holds c = (omega arith, refl)
 
--- src/main.rt:81:25
 cast-digit : tie.Need-cast-digit Inv-loop μ-loop
 cast-digit c = omega arith
 
--- src/main.rt:81:19
 digit-requires : tie.Need-digit-requires Inv-loop μ-loop
 digit-requires c κs = search needs
 
--- src/main.rt:81:9
 slice-write-text : tie.Need-slice-write-text Inv-loop μ-loop
 slice-write-text c = omega arith
 
--- src/main.rt:82:29
 cast-digit-2 : tie.Need-cast-digit-2 Inv-loop μ-loop
 cast-digit-2 c = omega arith
 
--- src/main.rt:82:23
 digit-requires-2 : tie.Need-digit-requires-2 Inv-loop μ-loop
 digit-requires-2 c κs = search needs
 
--- src/main.rt:82:14
 add-text : tie.Need-add-text Inv-loop μ-loop
 add-text c = omega arith
 
--- src/main.rt:82:9
 slice-write-text-2 : tie.Need-slice-write-text-2 Inv-loop μ-loop
 slice-write-text-2 c = simp length-set (omega arith)
 
--- src/main.rt:83:20
 answer-requires : tie.Need-answer-requires Inv-loop μ-loop
 answer-requires c κs = search needs
 
--- src/main.rt:83:9
 mix-requires : tie.Need-mix-requires Inv-loop μ-loop
 mix-requires c κs = search needs
 
--- src/main.rt:84:9
 add-v : tie.Need-add-v Inv-loop μ-loop
 add-v c = omega arith
 
--- src/main.rt:80:5
 loop-less : tie.Need-loop-less Inv-loop μ-loop
 loop-less c = omega arith
 
--- src/main.rt:80:5
 loop-again : tie.Need-loop-again Inv-loop μ-loop
 loop-again c = (omega arith, simp length-set (omega arith))
 
--- src/main.rt:86:5
 slice-write-text-3 : tie.Need-slice-write-text-3 Inv-loop μ-loop
 slice-write-text-3 c = omega arith
 
--- src/main.rt:87:10
 add-text-2 : tie.Need-add-text-2 Inv-loop μ-loop
 add-text-2 c = omega arith
 
--- src/main.rt:87:5
 slice-write-text-4 : tie.Need-slice-write-text-4 Inv-loop μ-loop
 slice-write-text-4 c = simp length-set (omega arith)
 
--- src/main.rt:73:1
 same-length : tie.Need-same-length Inv-loop μ-loop
 same-length c = simp length-set (omega arith)
 
--- src/main.rt:73:1
 returns : tie.Need-returns Inv-loop μ-loop
 returns c = search needs
 

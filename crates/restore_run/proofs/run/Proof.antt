@@ -15,31 +15,24 @@ Inv-loop all₀ from₀ i₀ all from i = (from ≤ i) × (i ≤ length all) × 
 abbrev μ-loop : tie.MeasureT-loop
 μ-loop all₀ from₀ i₀ all from i = length all₀ - i
 
--- src/main.rt:194:5
 loop-holds : tie.Need-loop-holds Inv-loop μ-loop
 loop-holds c = (omega arith, omega arith, refl)
 
--- src/main.rt:195:9
 step-requires : tie.Need-step-requires Inv-loop μ-loop
 step-requires c κs = search needs
 
--- src/main.rt:196:9
 add-i : tie.Need-add-i Inv-loop μ-loop
 add-i c = omega arith
 
--- src/main.rt:194:5
 loop-less : tie.Need-loop-less Inv-loop μ-loop
 loop-less c = omega arith
 
--- src/main.rt:194:5
 loop-again : tie.Need-loop-again Inv-loop μ-loop
 loop-again c = (omega (arith, c .before .before .step .ensures), search needs, search needs)
 
--- src/main.rt:189:1
 same-length : tie.Need-same-length Inv-loop μ-loop
 same-length c = search needs
 
--- src/main.rt:189:1
 returns : tie.Need-returns Inv-loop μ-loop
 returns c = search needs
 

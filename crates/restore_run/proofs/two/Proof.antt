@@ -15,31 +15,24 @@ Inv-loop text₀ d₀ p₀ text d p = (p ≤ length text) × (length text ≡ le
 abbrev μ-loop : tie.MeasureT-loop
 μ-loop text₀ d₀ p₀ text d p = length text₀ - p
 
--- src/main.rt:127:5
 loop-holds : tie.Need-loop-holds Inv-loop μ-loop
 loop-holds c = (omega arith, refl)
 
--- src/main.rt:128:9
 two-at-requires : tie.Need-two-at-requires Inv-loop μ-loop
 two-at-requires c κs = search needs
 
--- src/main.rt:129:9
 add-p : tie.Need-add-p Inv-loop μ-loop
 add-p c = omega arith
 
--- src/main.rt:127:5
 loop-less : tie.Need-loop-less Inv-loop μ-loop
 loop-less c = omega arith
 
--- src/main.rt:127:5
 loop-again : tie.Need-loop-again Inv-loop μ-loop
 loop-again c = (search needs, search needs)
 
--- src/main.rt:124:1
 same-length : tie.Need-same-length Inv-loop μ-loop
 same-length c = search needs
 
--- src/main.rt:124:1
 returns : tie.Need-returns Inv-loop μ-loop
 returns c = search needs
 

@@ -1,7 +1,7 @@
 use Prim.Native.Nat.{_-_, _≤_}
 use mathlib.Core.Path.{_≡_}
 use lib.ListN.{length}
-use Rattle.save.specs.Steps.{live-none, live-turn}
+use Rattle.save.specs.StepsTurns.{live-none, live-turn}
 use Rattle.save.specs.Text.{liveBelow}
 use native.Mathlib.Omega.{arith}
 use borrow.Author.Needs.{needs}
@@ -18,47 +18,41 @@ Inv-loop s n₀ h₀ n h = (h ≤ mostMonitors) × (n ≤ h) × (n ≡ length (l
 abbrev μ-loop : tie.MeasureT-loop
 μ-loop s n₀ h₀ n h = mostMonitors - h
 
--- src/lib.rt:123:5
 loop-holds : tie.Need-loop-holds Inv-loop μ-loop
 loop-holds c = (omega arith, omega arith, live-none _)
 
--- src/lib.rt:124:28
 mul-one-if : tie.Need-mul-one-if Inv-loop μ-loop
 mul-one-if c = omega arith
 
--- src/lib.rt:124:23
 add-one-if : tie.Need-add-one-if Inv-loop μ-loop
 add-one-if c = omega arith
 
--- src/lib.rt:124:23
 add-one-if-2 : tie.Need-add-one-if-2 Inv-loop μ-loop
 add-one-if-2 c = omega arith
 
--- src/lib.rt:124:21
 shared-slice-read-one-if : tie.Need-shared-slice-read-one-if Inv-loop μ-loop
 shared-slice-read-one-if c = omega arith
 
--- src/lib.rt:124:14
 one-if-requires : tie.Need-one-if-requires Inv-loop μ-loop
 one-if-requires c κs = search needs
 
--- src/lib.rt:124:9
 add-n : tie.Need-add-n Inv-loop μ-loop
 add-n c = omega (arith, c .one-if .ensures .1)
 
--- src/lib.rt:125:9
 add-h : tie.Need-add-h Inv-loop μ-loop
 add-h c = omega arith
 
--- src/lib.rt:123:5
 loop-less : tie.Need-loop-less Inv-loop μ-loop
 loop-less c = omega arith
 
--- src/lib.rt:123:5
 loop-again : tie.Need-loop-again Inv-loop μ-loop
-loop-again c = (omega arith, omega (arith, c .one-if .ensures .1), live-turn _ (c .before .before .before .loop .h) (c .before .before .before .loop .inv .2) (c .one-if .ensures .0))
+loop-again c = (
+  omega arith,
+  omega (arith, c .one-if .ensures .1),
+  live-turn _ (c .before .before .before .loop .h)
+      (c .before .before .before .loop .inv .2) (c .one-if .ensures .0),
+)
 
--- src/lib.rt:117:1
 returns : tie.Need-returns Inv-loop μ-loop
 returns c = let e : c .before .loop .h ≡ mostMonitors = omega arith in (rw e at (c .before .loop .inv .2), omega arith)
 

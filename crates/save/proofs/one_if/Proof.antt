@@ -6,12 +6,10 @@ use Rattle.save.proofs.one_if.Tie as tie
 use Rattle.save.proofs.one_if.Reads as reads
 use Rattle.save.proofs.one_if.Lts as lts
 
--- src/lib.rt:112:9
 returns : tie.Need-returns
 unfolding pick
 returns c = (rw (eq-eqb (c .before .args .interval) 0 (c .if1 .taken)), omega arith)
 
--- src/lib.rt:108:1
 returns-2 : tie.Need-returns-2
 unfolding pick
 returns-2 c = (rw (ne-eqb (c .before .args .interval) 0 (λ e. c .if1 .left e)), omega arith)

@@ -1,52 +1,52 @@
 use lib.ListN.{length}
 use native.Mathlib.Omega.{arith}
 use borrow.Author.Needs.{needs}
-use Rattle.save.specs.Passed.{passed-none, passed-short, passed-there, passed-other}
+use Rattle.save.specs.PassedLaws.{passed-none, passed-short, passed-there, passed-other}
 use Rattle.save.proofs.past.Statement.{statement}
 use Rattle.save.proofs.past.Tie as tie
 use Rattle.save.proofs.past.Reads as reads
 use Rattle.save.proofs.past.Lts as lts
 use Rattle.parts.proofs.same.Reads as same-reads
 
--- src/lib.rt:178:13
 returns : tie.Need-returns
-returns c = let a = c .before .before .before .before .args in passed-none (a .text .now) (a .at) (a .line .now) (omega arith) (omega arith)
+returns c = let a =
+    c .before .before .before .before .args in passed-none (a .text .now) (a .at) (a .line .now) (omega arith)
+    (omega arith)
 
--- src/lib.rt:180:9
 returns-2 : tie.Need-returns-2
-returns-2 c = let a = c .before .before .before .before .args in passed-short (a .text .now) (a .at) (a .line .now) (omega arith) (λ x e. c .if2 .left e)
+returns-2 c = let a =
+    c .before .before .before .before .args in passed-short (a .text .now) (a .at) (a .line .now) (omega arith)
+    (λ x e. c .if2 .left e)
 
--- src/lib.rt:183:9
 returns-3 : tie.Need-returns-3
-returns-3 c = let a = c .before .before .before .before .args in passed-short (a .text .now) (a .at) (a .line .now) (omega arith) (λ x e. omega arith)
+returns-3 c = let a =
+    c .before .before .before .before .args in passed-short (a .text .now) (a .at) (a .line .now) (omega arith)
+    (λ x e. omega arith)
 
--- src/lib.rt:185:13
 add-e : tie.Need-add-e
 add-e c = search needs
 
--- src/lib.rt:186:20
 sub-same : tie.Need-sub-same
 sub-same c = search needs
 
--- src/lib.rt:186:20
 part-same-start : tie.Need-part-same-start
 part-same-start c = search needs
 
--- src/lib.rt:186:20
 part-same-end : tie.Need-part-same-end
 part-same-end c = search needs
 
--- src/lib.rt:186:8
 same-requires : tie.Need-same-requires
 same-requires c κs = search needs
 
--- src/lib.rt:187:9
 returns-4 : tie.Need-returns-4
-returns-4 c = let a = c .before .before .before .before .before .before .before .args in passed-there (a .text .now) (a .at) (a .line .now) (omega arith) (c .before .same .ensures) (c .if4 .taken)
+returns-4 c = let a =
+    c .before .before .before .before .before .before .before .args in passed-there (a .text .now) (a .at)
+    (a .line .now) (omega arith) (c .before .same .ensures) (c .if4 .taken)
 
--- src/lib.rt:171:1
 returns-5 : tie.Need-returns-5
-returns-5 c = let a = c .before .before .before .before .before .before .before .args in passed-other (a .text .now) (a .at) (a .line .now) (omega arith) (c .before .same .ensures) (c .if4 .left)
+returns-5 c = let a =
+    c .before .before .before .before .before .before .before .args in passed-other (a .text .now) (a .at)
+    (a .line .now) (omega arith) (c .before .same .ensures) (c .if4 .left)
 
 pub past-spec : {M : Type 1} → statement M
 past-spec =

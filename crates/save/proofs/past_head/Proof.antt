@@ -1,21 +1,18 @@
 use native.Mathlib.Omega.{arith}
 use borrow.Author.Needs.{needs}
-use Rattle.save.specs.Passed.{head-none, head-there}
+use Rattle.save.specs.PassedLaws.{head-none, head-there}
 use Rattle.save.proofs.past_head.Statement.{statement}
 use Rattle.save.proofs.past_head.Tie as tie
 use Rattle.save.proofs.past_head.Reads as reads
 use Rattle.save.proofs.past_head.Lts as lts
 use Rattle.save.proofs.passes.head.Reads as head-reads
 
--- src/lib.rt:197:9
 returns : tie.Need-returns
 returns c = head-none (c .before .before .before .args .s .now) _ (λ e. c .if1 .taken e)
 
--- src/lib.rt:199:5
 head-requires : tie.Need-head-requires
 head-requires c κs = search needs
 
--- src/lib.rt:193:1
 returns-2 : tie.Need-returns-2
 returns-2 c = head-there (c .before .before .before .before .args .s .now) (omega arith) (c .head .ensures)
 

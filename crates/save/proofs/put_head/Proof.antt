@@ -1,4 +1,4 @@
-use Rattle.save.specs.Steps.{head-put}
+use Rattle.save.specs.StepsTurns.{head-put}
 use lib.ListN.{length-take}
 use borrow.Author.Needs.{needs}
 use native.Mathlib.Omega.{arith}
@@ -9,33 +9,27 @@ use Rattle.save.proofs.put_head.Lts as lts
 use Rattle.octets.proofs.at_most.Reads as at-most-reads
 use Rattle.save.proofs.put_line.Reads as put-line-reads
 
--- src/lib.rt:51:21
 shared-slice-read-at-most : tie.Need-shared-slice-read-at-most
 shared-slice-read-at-most c = search needs
 
--- src/lib.rt:51:9
 at-most-requires : tie.Need-at-most-requires
 at-most-requires c κs = search needs
 
--- src/lib.rt:52:15
 add-end : tie.Need-add-end
 add-end c = search needs
 
--- src/lib.rt:53:28
 slice-aggregate-put-line : tie.Need-slice-aggregate-put-line
 slice-aggregate-put-line c = simp length-take (omega (arith, c .before .before .at-most .ensures .1))
 
--- src/lib.rt:53:5
 put-line-requires : tie.Need-put-line-requires
 put-line-requires c κs = simp length-take (omega (arith, c .before .before .at-most .ensures .1))
 
--- src/lib.rt:47:1
 same-length : tie.Need-same-length
 same-length c = search needs
 
--- src/lib.rt:47:1
 returns : tie.Need-returns
-returns c = head-put _ _ 0 (c .before .before .before .before .before .at-most .ensures .0) (c .before .before .put-line .ensures)
+returns c = head-put _ _ 0 (c .before .before .before .before .before .at-most .ensures .0)
+    (c .before .before .put-line .ensures)
 
 pub put-head-spec : {M : Type 1} → statement M
 put-head-spec =

@@ -1,8 +1,8 @@
 use native.Mathlib.Omega.{arith}
 use borrow.Author.Needs.{needs}
 use Rattle.model.specs.Layout.{mostMonitors}
-use Rattle.save.specs.Text.{length-monitorsText, length-pairsText}
-use Rattle.save.specs.Steps.{rest-put}
+use Rattle.save.specs.TextLaws.{length-monitorsText, length-pairsText}
+use Rattle.save.specs.StepsTurns.{rest-put}
 use Rattle.save.proofs.put_rest.Statement.{statement}
 use Rattle.save.proofs.put_rest.Tie as tie
 use Rattle.save.proofs.put_rest.Reads as reads
@@ -13,37 +13,70 @@ use Rattle.save.proofs.put_end.Reads as put-end-reads
 use Rattle.save.proofs.put_monitors.Reads as put-monitors-reads
 use Rattle.save.proofs.put_pairs.Reads as put-pairs-reads
 
--- src/lib.rt:149:29
 shared-slice-read-at-most : tie.Need-shared-slice-read-at-most
 shared-slice-read-at-most c = search needs
 
--- src/lib.rt:149:9
 at-most-requires : tie.Need-at-most-requires
 at-most-requires c κs = search needs
 
--- src/lib.rt:150:9
 live-in-requires : tie.Need-live-in-requires
 live-in-requires c κs = search needs
 
--- src/lib.rt:151:9
 put-monitors-requires : tie.Need-put-monitors-requires
 put-monitors-requires c κs = search needs
 
--- src/lib.rt:152:9
 put-pairs-requires : tie.Need-put-pairs-requires
-put-pairs-requires c κs = (omega arith, omega (arith, c .before .before .before .before .before .before .at-most .ensures .1), omega (arith, c .before .before .before .put-monitors .ensures .0, length-monitorsText (c .before .before .before .before .before .before .before .before .before .before .args .s .now) mostMonitors))
+put-pairs-requires c κs = (
+  omega arith,
+  omega (arith, c .before .before .before .before .before .before .at-most .ensures .1),
+  omega (
+    arith,
+    c .before .before .before .put-monitors .ensures .0,
+    length-monitorsText
+        (c .before .before .before .before .before .before .before .before .before .before .args .s .now) mostMonitors,
+  ),
+)
 
--- src/lib.rt:153:5
 put-end-requires : tie.Need-put-end-requires
-put-end-requires c κs = (omega (arith, c .before .before .before .before .before .before .before .before .before .before .at-most .ensures .1, c .before .before .before .before .before .before .before .put-monitors .ensures .0, c .before .before .before .put-pairs .ensures .0, length-monitorsText (c .before .before .before .before .before .before .before .before .before .before .before .before .before .before .args .s .now) mostMonitors, length-pairsText (c .before .before .before .before .before .before .before .before .before .before .before .before .before .before .args .s .now) (c .before .before .before .before .before .before .before .before .before .before .at-most .result)), omega (arith, c .before .before .before .before .before .before .before .before .before .live-in .ensures .1), omega (arith, c .before .before .before .before .before .before .before .before .before .before .at-most .ensures .1))
+put-end-requires c κs = (
+  omega (
+    arith,
+    c .before .before .before .before .before .before .before .before .before .before .at-most .ensures
+        .1,
+    c .before .before .before .before .before .before .before .put-monitors .ensures .0,
+    c .before .before .before .put-pairs .ensures .0,
+    length-monitorsText
+        (c .before .before .before .before .before .before .before .before .before .before .before .before .before .before
+        .args .s .now) mostMonitors,
+    length-pairsText
+        (c .before .before .before .before .before .before .before .before .before .before .before .before .before .before
+        .args .s .now) (c .before .before .before .before .before .before .before .before .before .before .at-most
+        .result),
+  ),
+  omega
+      (arith, c .before .before .before .before .before .before .before .before .before .live-in .ensures .1),
+  omega
+      (arith, c .before .before .before .before .before .before .before .before .before .before .at-most .ensures .1),
+)
 
--- src/lib.rt:145:1
 same-length : tie.Need-same-length
 same-length c = search needs
 
--- src/lib.rt:145:1
 returns : tie.Need-returns
-returns c = rest-put _ _ (c .before .before .before .before .before .before .before .before .before .before .before .before .before .before .before .before .before .args .at) (c .before .before .before .before .before .before .before .before .before .before .before .before .live-in .result) (c .before .before .before .before .before .before .before .before .before .before .before .before .before .at-most .result) (omega arith) (c .before .before .before .before .before .before .before .before .before .before .put-monitors .ensures .0) (c .before .before .before .before .before .before .before .before .before .before .put-monitors .ensures .1) (c .before .before .before .before .before .before .put-pairs .ensures .0) (c .before .before .before .before .before .before .put-pairs .ensures .1) (c .before .before .put-end .ensures .0) (c .before .before .put-end .ensures .1) (c .before .before .before .before .before .before .before .before .before .before .before .before .live-in .ensures .0) (c .before .before .before .before .before .before .before .before .before .before .before .before .before .at-most .ensures .0)
+returns c = rest-put _ _
+    (c .before .before .before .before .before .before .before .before .before .before .before .before .before .before
+    .before .before .before .args .at)
+    (c .before .before .before .before .before .before .before .before .before .before .before .before .live-in
+    .result) (c .before .before .before .before .before .before .before .before .before .before .before .before
+    .before .at-most .result) (omega arith)
+    (c .before .before .before .before .before .before .before .before .before .before .put-monitors .ensures .0)
+    (c .before .before .before .before .before .before .before .before .before .before .put-monitors .ensures .1)
+    (c .before .before .before .before .before .before .put-pairs .ensures .0)
+    (c .before .before .before .before .before .before .put-pairs .ensures .1)
+    (c .before .before .put-end .ensures .0) (c .before .before .put-end .ensures .1)
+    (c .before .before .before .before .before .before .before .before .before .before .before .before .live-in
+    .ensures .0) (c .before .before .before .before .before .before .before .before .before .before .before .before
+    .before .at-most .ensures .0)
 
 pub put-rest-spec : {M : Type 1} → statement M
 put-rest-spec =

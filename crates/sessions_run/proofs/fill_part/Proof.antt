@@ -7,27 +7,21 @@ use Rattle.sessions_run.proofs.fill_part.Reads as reads
 use Rattle.sessions_run.proofs.fill_part.Lts as lts
 use Rattle.sessions_run.proofs.fill.Reads as fill-reads
 
--- src/main.rt:209:9
 returns : tie.Need-returns
 returns c = search needs
 
--- src/main.rt:211:10
 slice-relend-prefix-fill : tie.Need-slice-relend-prefix-fill
 slice-relend-prefix-fill c = search needs
 
--- src/main.rt:211:10
 slice-aggregate-fill : tie.Need-slice-aggregate-fill
 slice-aggregate-fill c = simp length-take (omega arith)
 
--- src/main.rt:211:5
 fill-requires : tie.Need-fill-requires
 fill-requires c κs = search needs
 
--- src/main.rt:207:1
 same-length : tie.Need-same-length
 same-length c = search needs
 
--- src/main.rt:207:1
 returns-2 : tie.Need-returns-2
 returns-2 c = search needs
 

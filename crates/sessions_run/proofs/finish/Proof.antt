@@ -11,59 +11,45 @@ use Rattle.sessions_run.proofs.add.Reads as add-reads
 use Rattle.sessions_run.proofs.digest.Reads as digest-reads
 use Rattle.sessions_run.proofs.show.Reads as show-reads
 
--- src/main.rt:147:37
 slice-aggregate-save : tie.Need-slice-aggregate-save
 slice-aggregate-save c = search needs
 
--- src/main.rt:147:9
 save-requires : tie.Need-save-requires
 save-requires c κs = search needs
 
--- src/main.rt:149:21
 enum-known-saved : tie.Need-enum-known-saved
 enum-known-saved c = search needs
 
--- src/main.rt:151:39
 array-share-prefix-text : tie.Need-array-share-prefix-text
 array-share-prefix-text c = search needs
 
--- src/main.rt:151:39
 slice-aggregate-digest : tie.Need-slice-aggregate-digest
 slice-aggregate-digest c = simp length-take (omega arith)
 
--- src/main.rt:151:22
 digest-requires : tie.Need-digest-requires
 digest-requires c κs = search needs
 
--- src/main.rt:151:52
 add-requires : tie.Need-add-requires
 add-requires c κs = search needs
 
--- src/main.rt:151:17
 show-requires : tie.Need-show-requires
 show-requires c κs = search needs
 
--- src/main.rt:154:24
 enum-known-saved-2 : tie.Need-enum-known-saved-2
 enum-known-saved-2 c = search needs
 
--- src/main.rt:154:41
 number-of-requires : tie.Need-number-of-requires
 number-of-requires c κs = search needs
 
--- src/main.rt:154:30
 show-requires-2 : tie.Need-show-requires-2
 show-requires-2 c κs = search needs
 
--- src/main.rt:145:1
 returns : tie.Need-returns
 returns c = search needs
 
--- src/main.rt:145:1
 returns-2 : tie.Need-returns-2
 returns-2 c = search needs
 
--- src/main.rt:145:1
 returns-3 : tie.Need-returns-3
 returns-3 c = search needs
 

@@ -9,63 +9,48 @@ use Rattle.sessions_run.proofs.add.Reads as add-reads
 use Rattle.sessions_run.proofs.broken.Reads as broken-reads
 use Rattle.sessions_run.proofs.digest.Reads as digest-reads
 
--- src/main.rt:77:9
 broken-requires : tie.Need-broken-requires
 broken-requires c κs = search needs
 
--- src/main.rt:77:9
 returns : tie.Need-returns
 returns c = search needs
 
--- src/main.rt:80:9
 broken-requires-2 : tie.Need-broken-requires-2
 broken-requires-2 c κs = search needs
 
--- src/main.rt:80:9
 returns-2 : tie.Need-returns-2
 returns-2 c = search needs
 
--- src/main.rt:82:8
 sub-if3 : tie.Need-sub-if3
 sub-if3 c = search needs
 
--- src/main.rt:83:9
 broken-requires-3 : tie.Need-broken-requires-3
 broken-requires-3 c κs = search needs
 
--- src/main.rt:83:9
 returns-3 : tie.Need-returns-3
 returns-3 c = search needs
 
--- src/main.rt:85:30
 slice-aggregate-digest : tie.Need-slice-aggregate-digest
 slice-aggregate-digest c = simp length-take (omega arith)
 
--- src/main.rt:85:9
 digest-requires : tie.Need-digest-requires
 digest-requires c κs = search needs
 
--- src/main.rt:89:20
 add-requires : tie.Need-add-requires
 add-requires c κs = search needs
 
--- src/main.rt:90:17
 add-t14 : tie.Need-add-t14
 add-t14 c = search needs
 
--- src/main.rt:87:9
 returns-4 : tie.Need-returns-4
 returns-4 c = search needs
 
--- src/main.rt:97:16
 add-requires-2 : tie.Need-add-requires-2
 add-requires-2 c κs = search needs
 
--- src/main.rt:98:13
 add-t8 : tie.Need-add-t8
 add-t8 c = search needs
 
--- src/main.rt:75:1
 returns-5 : tie.Need-returns-5
 returns-5 c = search needs
 

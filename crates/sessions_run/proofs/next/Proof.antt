@@ -9,59 +9,45 @@ use Rattle.sessions_run.proofs.fill.Reads as fill-reads
 use Rattle.sessions_run.proofs.number.Reads as number-reads
 use Rattle.sessions_run.proofs.texts.Reads as texts-reads
 
--- src/main.rt:224:14
 slice-aggregate-fill : tie.Need-slice-aggregate-fill
 slice-aggregate-fill c = search needs
 
--- src/main.rt:224:9
 fill-requires : tie.Need-fill-requires
 fill-requires c κs = search needs
 
--- src/main.rt:225:9
 returns : tie.Need-returns
 returns c = search needs
 
--- src/main.rt:227:20
 array-share-prefix-head : tie.Need-array-share-prefix-head
 array-share-prefix-head c = search needs
 
--- src/main.rt:227:20
 slice-aggregate-number : tie.Need-slice-aggregate-number
 slice-aggregate-number c = simp length-take (omega arith)
 
--- src/main.rt:227:9
 number-requires : tie.Need-number-requires
 number-requires c κs = search needs
 
--- src/main.rt:228:20
 sub-number : tie.Need-sub-number
 sub-number c = search needs
 
--- src/main.rt:228:20
 part-number-start : tie.Need-part-number-start
 part-number-start c = search needs
 
--- src/main.rt:228:20
 part-number-end : tie.Need-part-number-end
 part-number-end c = search needs
 
--- src/main.rt:228:9
 number-requires-2 : tie.Need-number-requires-2
 number-requires-2 c κs = search needs
 
--- src/main.rt:229:5
 texts-requires : tie.Need-texts-requires
 texts-requires c κs = search needs
 
--- src/main.rt:222:1
 same-length : tie.Need-same-length
 same-length c = search needs
 
--- src/main.rt:222:1
 same-length-2 : tie.Need-same-length-2
 same-length-2 c = search needs
 
--- src/main.rt:222:1
 returns-2 : tie.Need-returns-2
 returns-2 c = search needs
 

@@ -7,27 +7,21 @@ use Rattle.sessions_run.proofs.session_of.Reads as reads
 use Rattle.sessions_run.proofs.session_of.Lts as lts
 use Rattle.sessions_run.proofs.session.Reads as session-reads
 
--- src/main.rt:217:9
 returns : tie.Need-returns
 returns c = search needs
 
--- src/main.rt:220:9
 returns-2 : tie.Need-returns-2
 returns-2 c = search needs
 
--- src/main.rt:222:13
 slice-aggregate-session : tie.Need-slice-aggregate-session
 slice-aggregate-session c = simp length-take (omega arith)
 
--- src/main.rt:222:26
 slice-aggregate-session-2 : tie.Need-slice-aggregate-session-2
 slice-aggregate-session-2 c = simp length-take (omega arith)
 
--- src/main.rt:222:5
 session-requires : tie.Need-session-requires
 session-requires c κs = search needs
 
--- src/main.rt:215:1
 returns-3 : tie.Need-returns-3
 returns-3 c = search needs
 

@@ -1,4 +1,4 @@
-use Rattle.sheets.specs.Joins.{joined-fits, joined-off}
+use Rattle.sheets.specs.JoinsLaws.{joined-fits, joined-off}
 use borrow.Author.Needs.{needs}
 use Rattle.sheets.proofs.join.Statement.{statement}
 use Rattle.sheets.proofs.join.Tie as tie
@@ -8,25 +8,32 @@ use Rattle.sheets.proofs.joins.first_off.Reads as first-off-reads
 use Rattle.totals.proofs.add_rows.Reads as add-rows-reads
 use Rattle.totals.proofs.no_rows.Reads as no-rows-reads
 
--- src/lib.rt:74:9
 first-off-requires : tie.Need-first-off-requires
 first-off-requires c κs = search needs
 
--- src/lib.rt:75:9
 add-rows-requires : tie.Need-add-rows-requires
 add-rows-requires c κs = search needs
 
--- src/lib.rt:78:9
 returns : tie.Need-returns
-returns c = let x = c .before .before .before .before .args in (c .before .before .before .first-off .ensures, joined-fits (x .t) (x .d) (c .before .before .add-rows .ensures .0) (c .before .before .add-rows .ensures .1) (c .before .if1 .taken))
+returns c = let x =
+    c .before .before .before .before
+    .args in (
+      c .before .before .before .first-off .ensures,
+      joined-fits (x .t) (x .d)
+          (c .before .before .add-rows .ensures .0) (c .before .before .add-rows .ensures .1) (c .before .if1 .taken),
+    )
 
--- src/lib.rt:83:9
 no-rows-requires : tie.Need-no-rows-requires
 no-rows-requires c κs = search needs
 
--- src/lib.rt:71:1
 returns-2 : tie.Need-returns-2
-returns-2 c = let x = c .before .before .before .before .args in (c .before .before .before .first-off .ensures, joined-off (x .t) (x .d) (c .before .before .add-rows .ensures .0) (c .no-rows .ensures) (c .before .if1 .left))
+returns-2 c = let x =
+    c .before .before .before .before
+    .args in (
+      c .before .before .before .first-off .ensures,
+      joined-off (x .t) (x .d)
+          (c .before .before .add-rows .ensures .0) (c .no-rows .ensures) (c .before .if1 .left),
+    )
 
 pub join-spec : {M : Type 1} → statement M
 join-spec =

@@ -2,8 +2,8 @@ use native.Mathlib.Omega.{arith}
 use lib.Seq.{length-take-le}
 use mathlib.Core.Path.{_≡_, sym, ap, _∙_}
 use Rattle.laws.specs.Tests.{sames}
-use Rattle.sheets.specs.Writing.{again, again-low}
-use Rattle.sheets.specs.Reading.{read-so, read-none}
+use Rattle.sheets.specs.WritingLaws.{again, again-low}
+use Rattle.sheets.specs.ReadingLaws.{read-so, read-none}
 use borrow.Author.Needs.{needs}
 use Rattle.sheets.proofs.read.Statement.{statement}
 use Rattle.sheets.proofs.read.Tie as tie
@@ -14,41 +14,43 @@ use Rattle.sheets.proofs.reads.held_rows.Reads as held-rows-reads
 use Rattle.sheets.proofs.write.Reads as write-reads
 use Rattle.totals.proofs.no_rows.Reads as no-rows-reads
 
--- src/lib.rt:36:9
 held-rows-requires : tie.Need-held-rows-requires
 held-rows-requires c κs = search needs
 
--- src/lib.rt:38:19
 slice-aggregate-write : tie.Need-slice-aggregate-write
 slice-aggregate-write c = search needs
 
--- src/lib.rt:38:9
 write-requires : tie.Need-write-requires
 write-requires c κs = search needs
 
--- src/lib.rt:39:20
 array-share-prefix-again : tie.Need-array-share-prefix-again
 array-share-prefix-again c = again-low _ _ (c .before .write .ensures)
 
--- src/lib.rt:39:20
 slice-aggregate-same : tie.Need-slice-aggregate-same
 slice-aggregate-same c = sym (length-take-le _ _ (again-low _ _ (c .before .before .write .ensures)))
 
--- src/lib.rt:39:8
 same-requires : tie.Need-same-requires
 same-requires c κs = search needs
 
--- src/lib.rt:40:9
 returns : tie.Need-returns
-returns c = let t = c .before .before .before .before .before .before .before .before .args .text .now in read-so t (c .before .before .before .before .before .before .held-rows .ensures) (ap (λ l. sames l t) (sym (again (c .before .before .before .before .before .before .held-rows .result) _ _ _ (omega arith) (c .before .before .before .before .write .ensures))) ∙ sym (c .before .same .ensures) ∙ c .if1 .taken)
+returns c = let t =
+    c .before .before .before .before .before .before .before .before .args .text .now in read-so t
+    (c .before .before .before .before .before .before .held-rows .ensures)
+    (ap (λ l. sames l t)
+    (sym (again (c .before .before .before .before .before .before .held-rows .result) _ _ _ (omega arith)
+    (c .before .before .before .before .write .ensures))) ∙ sym (c .before .same .ensures) ∙ c .if1 .taken)
 
--- src/lib.rt:42:9
 no-rows-requires : tie.Need-no-rows-requires
 no-rows-requires c κs = search needs
 
--- src/lib.rt:33:1
 returns-2 : tie.Need-returns-2
-returns-2 c = let t = c .before .before .before .before .before .before .before .before .before .args .text .now in read-none t (c .before .before .before .before .before .before .before .held-rows .ensures) (c .no-rows .ensures) (ap (λ l. sames l t) (sym (again (c .before .before .before .before .before .before .before .held-rows .result) _ _ _ (omega arith) (c .before .before .before .before .before .write .ensures))) ∙ sym (c .before .before .same .ensures) ∙ c .before .if1 .left)
+returns-2 c = let t =
+    c .before .before .before .before .before .before .before .before .before .args .text .now in read-none t
+    (c .before .before .before .before .before .before .before .held-rows .ensures) (c .no-rows .ensures)
+    (ap (λ l. sames l t)
+    (sym (again (c .before .before .before .before .before .before .before .held-rows .result) _ _ _ (omega arith)
+    (c .before .before .before .before .before .write .ensures))) ∙ sym (c .before .before .same .ensures)
+    ∙ c .before .if1 .left)
 
 pub read-spec : {M : Type 1} → statement M
 read-spec =

@@ -1,31 +1,25 @@
-use Rattle.sheets.specs.Signs.{below-fits, below-cast, below-add, below-size, above-cast}
+use Rattle.sheets.specs.SignsLaws.{below-fits, below-cast, below-add, below-size, above-cast}
 use borrow.Author.Needs.{needs}
 use Rattle.sheets.proofs.size_of.Statement.{statement}
 use Rattle.sheets.proofs.size_of.Tie as tie
 use Rattle.sheets.proofs.size_of.Reads as reads
 use Rattle.sheets.proofs.size_of.Lts as lts
 
--- src/writes.rt:34:17
 sub-k : tie.Need-sub-k
 sub-k c = let a = c .before in below-fits (a .args .sum) (a .fits .sum) (c .if1 .taken)
 
--- src/writes.rt:35:16
 cast-result : tie.Need-cast-result
 cast-result c = let a = c .before in below-cast (a .args .sum) (a .fits .sum) (c .if1 .taken)
 
--- src/writes.rt:35:16
 add-result : tie.Need-add-result
 add-result c = let a = c .before in below-add (a .args .sum) (a .fits .sum) (c .if1 .taken)
 
--- src/writes.rt:35:9
 returns : tie.Need-returns
 returns c = let a = c .before in below-size (a .args .sum) (a .fits .sum) (c .if1 .taken)
 
--- src/writes.rt:37:5
 cast-result-2 : tie.Need-cast-result-2
 cast-result-2 c = let a = c .before in above-cast (a .args .sum) (a .fits .sum) (c .if1 .left)
 
--- src/writes.rt:30:1
 returns-2 : tie.Need-returns-2
 returns-2 c = search needs
 

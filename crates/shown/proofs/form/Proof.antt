@@ -1,4 +1,4 @@
-use Rattle.words.specs.Says.{taken, left}
+use Rattle.words.specs.SaysLaws.{taken, left}
 use Rattle.laws.specs.Tests.{pick}
 use Rattle.shown.specs.Line.{formOf}
 use Rattle.shown.proofs.form.Statement.{statement}
@@ -6,12 +6,10 @@ use Rattle.shown.proofs.form.Tie as tie
 use Rattle.shown.proofs.form.Reads as reads
 use Rattle.shown.proofs.form.Lts as lts
 
--- src/lib.rt:96:9
 returns : tie.Need-returns
 unfolding formOf Rattle.laws.specs.Tests.pick
 returns c = rw (c .if1 .taken)
 
--- src/lib.rt:92:1
 returns-2 : tie.Need-returns-2
 unfolding formOf Rattle.laws.specs.Tests.pick
 returns-2 c = rw (c .if1 .left)

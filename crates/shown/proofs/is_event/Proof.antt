@@ -1,5 +1,5 @@
 use mathlib.Core.Path.{sym, _∙_}
-use Rattle.words.specs.Says.{taken, left}
+use Rattle.words.specs.SaysLaws.{taken, left}
 use borrow.Author.Tests.{eq-eqb, ne-eqb}
 use Rattle.laws.specs.Tests.{pick}
 use Rattle.octets.specs.Numbers.{numberAt}
@@ -14,36 +14,47 @@ use Rattle.shown.proofs.commands.is_complete.Reads as is-complete-reads
 use Rattle.shown.proofs.framed.is_change.Reads as is-change-reads
 use Rattle.shown.proofs.framed.is_report.Reads as is-report-reads
 
--- src/lib.rt:82:9
 get8-requires : tie.Need-get8-requires
 get8-requires c κs = search needs
 
--- src/lib.rt:84:9
 is-complete-requires : tie.Need-is-complete-requires
 is-complete-requires c κs = search needs
 
--- src/lib.rt:84:9
 returns : tie.Need-returns
 unfolding isEvent Rattle.laws.specs.Tests.pick
-returns c = rw (c .is-complete .ensures, eq-eqb (numberAt 1 (c .before .before .before .before .args .s .now) 0) 14 (sym (c .before .before .get8 .ensures) ∙ c .before .if1 .taken))
+returns c = rw (
+  c .is-complete .ensures,
+  eq-eqb (numberAt 1 (c .before .before .before .before .args .s .now) 0) 14
+      (sym (c .before .before .get8 .ensures) ∙ c .before .if1 .taken),
+)
 
--- src/lib.rt:87:9
 is-change-requires : tie.Need-is-change-requires
 is-change-requires c κs = search needs
 
--- src/lib.rt:87:9
 returns-2 : tie.Need-returns-2
 unfolding isEvent Rattle.laws.specs.Tests.pick
-returns-2 c = rw (c .is-change .ensures, ne-eqb (numberAt 1 (c .before .before .before .before .before .args .s .now) 0) 14 (λ e. c .before .before .if1 .left (c .before .before .before .get8 .ensures ∙ e)), eq-eqb (numberAt 1 (c .before .before .before .before .before .args .s .now) 0) 255 (sym (c .before .before .before .get8 .ensures) ∙ c .before .if2 .taken))
+returns-2 c = rw (
+  c .is-change .ensures,
+  ne-eqb (numberAt 1 (c .before .before .before .before .before .args .s .now) 0) 14
+      (λ e. c .before .before .if1 .left (c .before .before .before .get8 .ensures ∙ e)),
+  eq-eqb
+      (numberAt 1 (c .before .before .before .before .before .args .s .now) 0) 255
+      (sym (c .before .before .before .get8 .ensures) ∙ c .before .if2 .taken),
+)
 
--- src/lib.rt:89:5
 is-report-requires : tie.Need-is-report-requires
 is-report-requires c κs = search needs
 
--- src/lib.rt:79:1
 returns-3 : tie.Need-returns-3
 unfolding isEvent Rattle.laws.specs.Tests.pick
-returns-3 c = rw (c .is-report .ensures, ne-eqb (numberAt 1 (c .before .before .before .before .before .args .s .now) 0) 14 (λ e. c .before .before .if1 .left (c .before .before .before .get8 .ensures ∙ e)), ne-eqb (numberAt 1 (c .before .before .before .before .before .args .s .now) 0) 255 (λ e. c .before .if2 .left (c .before .before .before .get8 .ensures ∙ e)))
+returns-3 c = rw (
+  c .is-report .ensures,
+  ne-eqb (numberAt 1 (c .before .before .before .before .before .args .s .now) 0) 14
+      (λ e. c .before .before .if1 .left (c .before .before .before .get8 .ensures ∙ e)),
+  ne-eqb
+      (numberAt 1 (c .before .before .before .before .before .args .s .now) 0) 255
+      (λ e. c .before .if2 .left (c .before .before .before .get8 .ensures ∙ e)),
+)
 
 pub is-event-spec : {M : Type 1} → statement M
 is-event-spec =

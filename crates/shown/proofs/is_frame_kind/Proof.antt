@@ -5,7 +5,6 @@ use Rattle.shown.proofs.is_frame_kind.Tie as tie
 use Rattle.shown.proofs.is_frame_kind.Reads as reads
 use Rattle.shown.proofs.is_frame_kind.Lts as lts
 
--- src/lib.rt:59:1
 returns : tie.Need-returns
 unfolding isKind
 returns c = refl

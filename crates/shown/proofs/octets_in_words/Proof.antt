@@ -1,5 +1,5 @@
 use mathlib.Core.Path.{sym, ap, _∙_}
-use Rattle.words.specs.Says.{taken, left}
+use Rattle.words.specs.SaysLaws.{taken, left}
 use borrow.Author.Tests.{eq-eqb, ne-eqb}
 use Rattle.octets.specs.Numbers.{numberAt}
 use Rattle.shown.specs.Image.{begins}
@@ -18,62 +18,95 @@ use Rattle.shown.proofs.image.begins.Reads as begins-reads
 use Rattle.shown.proofs.image.line.Reads as line-reads
 use Rattle.shown.proofs.is_frame_kind.Reads as is-frame-kind-reads
 
--- src/lib.rt:122:9
 get8-requires : tie.Need-get8-requires
 get8-requires c κs = search needs
 
--- src/lib.rt:123:8
 is-frame-kind-requires : tie.Need-is-frame-kind-requires
 is-frame-kind-requires c κs = search needs
 
--- src/lib.rt:124:9
 frame-requires : tie.Need-frame-requires
 frame-requires c κs = search needs
 
--- src/lib.rt:124:9
 returns : tie.Need-returns
 unfolding lineText
-returns c = taken _ _ (sym (c .before .before .before .is-frame-kind .ensures ∙ ap isKind (c .before .before .before .before .get8 .ensures)) ∙ c .before .before .if1 .taken) (c .frame .ensures)
+returns c = taken _ _
+    (sym (c .before .before .before .is-frame-kind .ensures
+    ∙ ap isKind (c .before .before .before .before .get8 .ensures)) ∙ c .before .before .if1 .taken) (c .frame .ensures)
 
--- src/lib.rt:126:8
 begins-requires : tie.Need-begins-requires
 begins-requires c κs = search needs
 
--- src/lib.rt:127:9
 line-requires : tie.Need-line-requires
 line-requires c κs = search needs
 
--- src/lib.rt:127:9
 returns-2 : tie.Need-returns-2
 unfolding lineText
-returns-2 c = left _ _ (sym (c .before .before .before .before .before .is-frame-kind .ensures ∙ ap isKind (c .before .before .before .before .before .before .get8 .ensures)) ∙ c .before .before .before .before .if1 .left) (taken _ _ (sym (c .before .before .before .begins .ensures ∙ ap begins (c .before .before .before .before .before .before .get8 .ensures)) ∙ c .before .before .if2 .taken) (c .line .ensures))
+returns-2 c = left _ _
+    (sym (c .before .before .before .before .before .is-frame-kind .ensures
+    ∙ ap isKind (c .before .before .before .before .before .before .get8 .ensures))
+    ∙ c .before .before .before .before .if1 .left)
+    (taken _ _ (sym (c .before .before .before .begins .ensures
+    ∙ ap begins (c .before .before .before .before .before .before .get8 .ensures)) ∙ c .before .before .if2 .taken)
+    (c .line .ensures))
 
--- src/lib.rt:130:9
 complete-requires : tie.Need-complete-requires
 complete-requires c κs = search needs
 
--- src/lib.rt:130:9
 returns-3 : tie.Need-returns-3
 unfolding lineText
-returns-3 c = left _ _ (sym (c .before .before .before .before .before .before .is-frame-kind .ensures ∙ ap isKind (c .before .before .before .before .before .before .before .get8 .ensures)) ∙ c .before .before .before .before .before .if1 .left) (left _ _ (sym (c .before .before .before .before .begins .ensures ∙ ap begins (c .before .before .before .before .before .before .before .get8 .ensures)) ∙ c .before .before .before .if2 .left) (taken _ _ (eq-eqb (numberAt 1 (c .before .before .before .before .before .before .before .before .before .args .s .now) 0) 14 (sym (c .before .before .before .before .before .before .before .get8 .ensures) ∙ c .before .before .if3 .taken)) (c .complete .ensures)))
+returns-3 c = left _ _
+    (sym (c .before .before .before .before .before .before .is-frame-kind .ensures
+    ∙ ap isKind (c .before .before .before .before .before .before .before .get8 .ensures))
+    ∙ c .before .before .before .before .before .if1 .left)
+    (left _ _ (sym (c .before .before .before .before .begins .ensures
+    ∙ ap begins (c .before .before .before .before .before .before .before .get8 .ensures))
+    ∙ c .before .before .before .if2 .left)
+    (taken _ _ (eq-eqb
+    (numberAt 1 (c .before .before .before .before .before .before .before .before .before .args .s .now) 0) 14
+    (sym (c .before .before .before .before .before .before .before .get8 .ensures) ∙ c .before .before .if3 .taken))
+    (c .complete .ensures)))
 
--- src/lib.rt:133:9
 change-requires : tie.Need-change-requires
 change-requires c κs = search needs
 
--- src/lib.rt:133:9
 returns-4 : tie.Need-returns-4
 unfolding lineText
-returns-4 c = left _ _ (sym (c .before .before .before .before .before .before .before .is-frame-kind .ensures ∙ ap isKind (c .before .before .before .before .before .before .before .before .get8 .ensures)) ∙ c .before .before .before .before .before .before .if1 .left) (left _ _ (sym (c .before .before .before .before .before .begins .ensures ∙ ap begins (c .before .before .before .before .before .before .before .before .get8 .ensures)) ∙ c .before .before .before .before .if2 .left) (left _ _ (ne-eqb (numberAt 1 (c .before .before .before .before .before .before .before .before .before .before .args .s .now) 0) 14 (λ e. c .before .before .before .if3 .left (c .before .before .before .before .before .before .before .before .get8 .ensures ∙ e))) (taken _ _ (eq-eqb (numberAt 1 (c .before .before .before .before .before .before .before .before .before .before .args .s .now) 0) 255 (sym (c .before .before .before .before .before .before .before .before .get8 .ensures) ∙ c .before .before .if4 .taken)) (c .change .ensures))))
+returns-4 c = left _ _
+    (sym (c .before .before .before .before .before .before .before .is-frame-kind .ensures
+    ∙ ap isKind (c .before .before .before .before .before .before .before .before .get8 .ensures))
+    ∙ c .before .before .before .before .before .before .if1 .left)
+    (left _ _ (sym (c .before .before .before .before .before .begins .ensures
+    ∙ ap begins (c .before .before .before .before .before .before .before .before .get8 .ensures))
+    ∙ c .before .before .before .before .if2 .left)
+    (left _ _ (ne-eqb
+    (numberAt 1 (c .before .before .before .before .before .before .before .before .before .before .args .s .now) 0)
+    14 (λ e. c .before .before .before .if3 .left
+    (c .before .before .before .before .before .before .before .before .get8 .ensures ∙ e)))
+    (taken _ _ (eq-eqb
+    (numberAt 1 (c .before .before .before .before .before .before .before .before .before .before .args .s .now) 0)
+    255 (sym (c .before .before .before .before .before .before .before .before .get8 .ensures)
+    ∙ c .before .before .if4 .taken)) (c .change .ensures))))
 
--- src/lib.rt:135:5
 report-requires : tie.Need-report-requires
 report-requires c κs = search needs
 
--- src/lib.rt:119:1
 returns-5 : tie.Need-returns-5
 unfolding lineText
-returns-5 c = left _ _ (sym (c .before .before .before .before .before .before .before .is-frame-kind .ensures ∙ ap isKind (c .before .before .before .before .before .before .before .before .get8 .ensures)) ∙ c .before .before .before .before .before .before .if1 .left) (left _ _ (sym (c .before .before .before .before .before .begins .ensures ∙ ap begins (c .before .before .before .before .before .before .before .before .get8 .ensures)) ∙ c .before .before .before .before .if2 .left) (left _ _ (ne-eqb (numberAt 1 (c .before .before .before .before .before .before .before .before .before .before .args .s .now) 0) 14 (λ e. c .before .before .before .if3 .left (c .before .before .before .before .before .before .before .before .get8 .ensures ∙ e))) (left _ _ (ne-eqb (numberAt 1 (c .before .before .before .before .before .before .before .before .before .before .args .s .now) 0) 255 (λ e. c .before .before .if4 .left (c .before .before .before .before .before .before .before .before .get8 .ensures ∙ e))) (c .report .ensures))))
+returns-5 c = left _ _
+    (sym (c .before .before .before .before .before .before .before .is-frame-kind .ensures
+    ∙ ap isKind (c .before .before .before .before .before .before .before .before .get8 .ensures))
+    ∙ c .before .before .before .before .before .before .if1 .left)
+    (left _ _ (sym (c .before .before .before .before .before .begins .ensures
+    ∙ ap begins (c .before .before .before .before .before .before .before .before .get8 .ensures))
+    ∙ c .before .before .before .before .if2 .left)
+    (left _ _ (ne-eqb
+    (numberAt 1 (c .before .before .before .before .before .before .before .before .before .before .args .s .now) 0)
+    14 (λ e. c .before .before .before .if3 .left
+    (c .before .before .before .before .before .before .before .before .get8 .ensures ∙ e)))
+    (left _ _ (ne-eqb
+    (numberAt 1 (c .before .before .before .before .before .before .before .before .before .before .args .s .now) 0)
+    255 (λ e. c .before .before .if4 .left
+    (c .before .before .before .before .before .before .before .before .get8 .ensures ∙ e))) (c .report .ensures))))
 
 pub octets-in-words-spec : {M : Type 1} → statement M
 octets-in-words-spec =

@@ -1,4 +1,4 @@
-use Rattle.words.specs.Says.{taken, left}
+use Rattle.words.specs.SaysLaws.{taken, left}
 use lib.ListN.{length}
 use borrow.Author.Tests.{eq-eqb, ne-eqb}
 use Rattle.laws.specs.Tests.{pick}
@@ -10,19 +10,17 @@ use Rattle.shown.proofs.octets_why.Reads as reads
 use Rattle.shown.proofs.octets_why.Lts as lts
 use Rattle.shown.proofs.why_not.Reads as why-not-reads
 
--- src/lib.rt:152:9
 returns : tie.Need-returns
 unfolding octetsWhy Rattle.laws.specs.Tests.pick
 returns c = rw (eq-eqb (length (c .before .before .args .s .now)) 0 (c .if1 .taken))
 
--- src/lib.rt:154:5
 why-not-requires : tie.Need-why-not-requires
 why-not-requires c κs = search needs
 
--- src/lib.rt:148:1
 returns-2 : tie.Need-returns-2
 unfolding octetsWhy Rattle.laws.specs.Tests.pick
-returns-2 c = rw (c .why-not .ensures, ne-eqb (length (c .before .before .before .args .s .now)) 0 (c .before .if1 .left))
+returns-2 c = rw
+    (c .why-not .ensures, ne-eqb (length (c .before .before .before .args .s .now)) 0 (c .before .if1 .left))
 
 pub octets-why-spec : {M : Type 1} → statement M
 octets-why-spec = tie.close (tie.spec returns why-not-requires returns-2)

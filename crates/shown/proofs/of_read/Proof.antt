@@ -9,19 +9,16 @@ use Rattle.shown.proofs.of_read.Reads as reads
 use Rattle.shown.proofs.of_read.Lts as lts
 use Rattle.shown.proofs.of_octets.Reads as of-octets-reads
 
--- src/lib.rt:201:20
 array-share-prefix-s : tie.Need-array-share-prefix-s
 array-share-prefix-s c = search needs
 
--- src/lib.rt:201:20
 slice-aggregate-of-octets : tie.Need-slice-aggregate-of-octets
-slice-aggregate-of-octets c = let l : length (c .before .before .args .read) ≡ 263 = search needs in sym (length-take-le _ _ (omega (arith, l)))
+slice-aggregate-of-octets c = let l : length (c .before .before .args .read) ≡ 263 =
+    search needs in sym (length-take-le _ _ (omega (arith, l)))
 
--- src/lib.rt:201:5
 of-octets-requires : tie.Need-of-octets-requires
 of-octets-requires c κs = search needs
 
--- src/lib.rt:196:1
 returns : tie.Need-returns
 returns c = c .of-octets .ensures
 

@@ -1,5 +1,5 @@
 use mathlib.Core.Path.{refl}
-use Rattle.words.specs.Says.{then}
+use Rattle.words.specs.SaysLaws.{then}
 use Rattle.model.specs.Quoted.{codes}
 use Rattle.shown.specs.Line.{refusedText}
 use borrow.Author.Needs.{needs}
@@ -11,30 +11,28 @@ use Rattle.fields.proofs.terms.refusal.Reads as refusal-reads
 use Rattle.words.proofs.put.Reads as put-reads
 use Rattle.words.proofs.said.Reads as said-reads
 
--- src/lib.rt:238:33
 slice-aggregate-said : tie.Need-slice-aggregate-said
 slice-aggregate-said c = search needs
 
--- src/lib.rt:238:9
 said-requires : tie.Need-said-requires
 said-requires c κs = search needs
 
--- src/lib.rt:239:32
 slice-aggregate-put : tie.Need-slice-aggregate-put
 slice-aggregate-put c = search needs
 
--- src/lib.rt:239:9
 put-requires : tie.Need-put-requires
 put-requires c κs = search needs
 
--- src/lib.rt:240:9
 refusal-requires : tie.Need-refusal-requires
 refusal-requires c κs = search needs
 
--- src/lib.rt:235:1
 returns : tie.Need-returns
 unfolding refusedText codes
-returns c = (then (then (c .before .before .before .before .before .said .ensures) (c .before .before .put .ensures)) (c .refusal .ensures), refl)
+returns c = (
+  then (then (c .before .before .before .before .before .said .ensures) (c .before .before .put .ensures))
+      (c .refusal .ensures),
+  refl,
+)
 
 pub of-refusal-spec : {M : Type 1} → statement M
 of-refusal-spec =

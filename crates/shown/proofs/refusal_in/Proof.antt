@@ -1,6 +1,6 @@
 use mathlib.Core.Path.{sym, _∙_}
 use native.Mathlib.Omega.{arith}
-use Rattle.words.specs.Says.{taken, left}
+use Rattle.words.specs.SaysLaws.{taken, left}
 use lib.Seq.{length-take-le}
 use borrow.Author.Tests.{lt-ltb, le-ltb}
 use Rattle.laws.specs.Tests.{pick}
@@ -13,44 +13,44 @@ use Rattle.shown.proofs.refusal_in.Lts as lts
 use Rattle.decimals.proofs.read.Reads as read-reads
 use Rattle.shown.proofs.small.Reads as small-reads
 
--- src/lib.rt:210:9
 returns : tie.Need-returns
 unfolding refusalIn Rattle.laws.specs.Tests.pick
 returns c = rw (lt-ltb _ _ (c .if1 .taken))
 
--- src/lib.rt:212:39
 sub-read : tie.Need-sub-read
 sub-read c = search needs
 
--- src/lib.rt:212:31
 slice-aggregate-read : tie.Need-slice-aggregate-read
 slice-aggregate-read c = sym (length-take-le _ _ (omega arith))
 
--- src/lib.rt:212:9
 read-requires : tie.Need-read-requires
 read-requires c κs = search needs
 
--- src/lib.rt:214:20
 enum-known-read : tie.Need-enum-known-read
 enum-known-read c = search needs
 
--- src/lib.rt:214:26
 small-requires : tie.Need-small-requires
 small-requires c κs = search needs
 
--- src/lib.rt:215:24
 enum-told : tie.Need-enum-told
 enum-told c = search needs
 
--- src/lib.rt:205:1
 returns-2 : tie.Need-returns-2
 unfolding refusalIn numberIn Rattle.laws.specs.Tests.pick
-returns-2 c = rw (c .small .ensures, le-ltb _ _ (c .before .before .before .before .before .before .if1 .left), sym (c .before .before .before .before .read .ensures) ∙ c .before .before .read2 .given .1)
+returns-2 c = rw (
+  c .small .ensures,
+  le-ltb _ _ (c .before .before .before .before .before .before .if1 .left),
+  sym
+      (c .before .before .before .before .read .ensures) ∙ c .before .before .read2 .given .1,
+)
 
--- src/lib.rt:205:1
 returns-3 : tie.Need-returns-3
 unfolding refusalIn numberIn Rattle.laws.specs.Tests.pick
-returns-3 c = rw (le-ltb _ _ (c .before .before .before .before .if1 .left), sym (c .before .before .read .ensures) ∙ c .enum-told .given .1)
+returns-3 c = rw (
+  le-ltb _ _ (c .before .before .before .before .if1 .left),
+  sym (c .before .before .read .ensures)
+      ∙ c .enum-told .given .1,
+)
 
 pub refusal-in-spec : {M : Type 1} → statement M
 refusal-in-spec =

@@ -1,4 +1,4 @@
-use Rattle.words.specs.Says.{taken, left}
+use Rattle.words.specs.SaysLaws.{taken, left}
 use borrow.Author.Tests.{lt-ltb, le-ltb, le-leb, lt-leb}
 use Rattle.laws.specs.Tests.{pick}
 use Rattle.shown.specs.Line.{whyNoText}
@@ -7,17 +7,14 @@ use Rattle.shown.proofs.why_no_text.Tie as tie
 use Rattle.shown.proofs.why_no_text.Reads as reads
 use Rattle.shown.proofs.why_no_text.Lts as lts
 
--- src/lib.rt:174:9
 returns : tie.Need-returns
 unfolding whyNoText Rattle.laws.specs.Tests.pick
 returns c = rw (le-leb _ _ (c .if1 .taken))
 
--- src/lib.rt:177:9
 returns-2 : tie.Need-returns-2
 unfolding whyNoText Rattle.laws.specs.Tests.pick
 returns-2 c = rw (lt-leb _ _ (c .before .if1 .left), lt-ltb _ _ (c .if2 .taken))
 
--- src/lib.rt:170:1
 returns-3 : tie.Need-returns-3
 unfolding whyNoText Rattle.laws.specs.Tests.pick
 returns-3 c = rw (lt-leb _ _ (c .before .if1 .left), le-ltb _ _ (c .if2 .left))

@@ -8,27 +8,21 @@ use Rattle.slow_twin.proofs.are_same.Reads as reads
 use Rattle.slow_twin.proofs.are_same.Lts as lts
 use Rattle.parts.proofs.same.Reads as same-reads
 
--- src/main.rt:87:9
 returns : tie.Need-returns
 returns c = search needs
 
--- src/main.rt:90:9
 returns-2 : tie.Need-returns-2
 returns-2 c = search needs
 
--- src/main.rt:92:17
 slice-aggregate-same : tie.Need-slice-aggregate-same
 slice-aggregate-same c = sym (length-take-le _ _ (omega arith))
 
--- src/main.rt:92:26
 slice-aggregate-same-2 : tie.Need-slice-aggregate-same-2
 slice-aggregate-same-2 c = sym (length-take-le _ _ (omega arith))
 
--- src/main.rt:92:5
 same-requires : tie.Need-same-requires
 same-requires c κs = search needs
 
--- src/main.rt:85:1
 returns-3 : tie.Need-returns-3
 returns-3 c = search needs
 

@@ -2,7 +2,7 @@ use native.Mathlib.Omega.{arith}
 use mathlib.Core.Path.{refl}
 use Prim.Native.Nat.{_-_}
 use lib.ListN.{length, length-take, length-drop}
-use Rattle.snapshots.specs.Saved.{other-text, same-text}
+use Rattle.snapshots.specs.SavedLaws.{other-text, same-text}
 use borrow.Author.Needs.{needs}
 use Rattle.snapshots.proofs.is_saved.Statement.{statement}
 use Rattle.snapshots.proofs.is_saved.Tie as tie
@@ -12,45 +12,41 @@ use Rattle.save.proofs.is_rest.Reads as is-rest-reads
 use Rattle.save.proofs.past_head.Reads as past-head-reads
 use Rattle.snapshots.proofs.past_lines.Reads as past-lines-reads
 
--- src/lib.rt:203:29
 slice-aggregate-past-head : tie.Need-slice-aggregate-past-head
 slice-aggregate-past-head c = simp length-take (omega arith)
 
--- src/lib.rt:203:9
 past-head-requires : tie.Need-past-head-requires
 past-head-requires c κs = search needs
 
--- src/lib.rt:204:9
 past-lines-requires : tie.Need-past-lines-requires
 past-lines-requires c κs = search needs
 
--- src/lib.rt:206:9
 returns : tie.Need-returns
-returns c = let a = c .before .before .before .before .before .before in other-text (a .args .s .now) (a .args .text .now) (a .pre .0) (a .pre .1) (c .before .before .past-head .ensures) (c .before .past-lines .ensures) (c .if1 .taken)
+returns c = let a =
+    c .before .before .before .before .before .before in other-text (a .args .s .now) (a .args .text .now) (a .pre .0)
+    (a .pre .1) (c .before .before .past-head .ensures) (c .before .past-lines .ensures) (c .if1 .taken)
 
--- src/lib.rt:208:19
 slice-aggregate-is-rest : tie.Need-slice-aggregate-is-rest
 slice-aggregate-is-rest c = simp length-take (omega arith)
 
--- src/lib.rt:208:38
 sub-is-rest : tie.Need-sub-is-rest
 sub-is-rest c = search needs
 
--- src/lib.rt:208:38
 part-is-rest-start : tie.Need-part-is-rest-start
 part-is-rest-start c = search needs
 
--- src/lib.rt:208:38
 part-is-rest-end : tie.Need-part-is-rest-end
 part-is-rest-end c = search needs
 
--- src/lib.rt:208:5
 is-rest-requires : tie.Need-is-rest-requires
 is-rest-requires c κs = search needs
 
--- src/lib.rt:199:1
 returns-2 : tie.Need-returns-2
-returns-2 c = let a = c .before .before .before .before .before .before .before .before .before in same-text (a .args .s .now) (a .args .text .now) (a .pre .0) (a .pre .1) (c .before .before .before .before .before .past-head .ensures) (c .before .before .before .before .past-lines .ensures) (omega arith) (length (a .args .text .now) - c .before .before .before .before .past-lines .result) refl (c .is-rest .ensures)
+returns-2 c = let a =
+    c .before .before .before .before .before .before .before .before .before in same-text (a .args .s .now)
+    (a .args .text .now) (a .pre .0) (a .pre .1) (c .before .before .before .before .before .past-head .ensures)
+    (c .before .before .before .before .past-lines .ensures) (omega arith)
+    (length (a .args .text .now) - c .before .before .before .before .past-lines .result) refl (c .is-rest .ensures)
 
 pub is-saved-spec : {M : Type 1} → statement M
 is-saved-spec =

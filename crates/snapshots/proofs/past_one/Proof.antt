@@ -4,8 +4,10 @@ use Prim.Native.Nat.{_+_, _-_, _*_, _≤_, _<_}
 use mathlib.Core.Path.{_≡_, refl, sym, ap, _∙_}
 use lib.ListN.{length, length-take}
 use Rattle.editions.specs.Block.{editionLine}
-use Rattle.save.specs.Passed.{passed, one-line-at}
-use Rattle.snapshots.specs.Saved.{lineAt, length-lineAt}
+use Rattle.save.specs.Passed.{passed}
+use Rattle.save.specs.PassedLaws.{one-line-at}
+use Rattle.snapshots.specs.Saved.{lineAt}
+use Rattle.snapshots.specs.SavedLaws.{length-lineAt}
 use Rattle.snapshots.proofs.past_one.Statement.{statement}
 use Rattle.snapshots.proofs.past_one.Tie as tie
 use Rattle.snapshots.proofs.past_one.Reads as reads
@@ -13,29 +15,41 @@ use Rattle.snapshots.proofs.past_one.Lts as lts
 use Rattle.save.proofs.past.Reads as past-reads
 use Rattle.snapshots.proofs.put_one.Reads as put-one-reads
 
--- src/lib.rt:179:27
 slice-aggregate-put-one : tie.Need-slice-aggregate-put-one
 slice-aggregate-put-one c = search needs
 
--- src/lib.rt:179:9
 put-one-requires : tie.Need-put-one-requires
 put-one-requires c κs = search needs
 
--- src/lib.rt:180:26
 array-share-prefix-line : tie.Need-array-share-prefix-line
-array-share-prefix-line c = one-line-at (lineAt (c .before .before .before .before .before .args .s .now) (c .before .before .before .before .before .args .i)) editionLine (length-lineAt (c .before .before .before .before .before .args .s .now) (c .before .before .before .before .before .args .i)) (c .before .put-one .ensures) .within
+array-share-prefix-line c =
+    one-line-at (lineAt (c .before .before .before .before .before .args .s .now)
+    (c .before .before .before .before .before .args .i)) editionLine
+    (length-lineAt (c .before .before .before .before .before .args .s .now)
+    (c .before .before .before .before .before .args .i)) (c .before .put-one .ensures) .within
 
--- src/lib.rt:180:26
 slice-aggregate-past : tie.Need-slice-aggregate-past
-slice-aggregate-past c = simp length-take (omega (arith, one-line-at (lineAt (c .before .before .before .before .before .before .args .s .now) (c .before .before .before .before .before .before .args .i)) editionLine (length-lineAt (c .before .before .before .before .before .before .args .s .now) (c .before .before .before .before .before .before .args .i)) (c .before .before .put-one .ensures) .within))
+slice-aggregate-past c =
+    simp length-take
+    (omega (
+      arith,
+      one-line-at
+          (lineAt (c .before .before .before .before .before .before .args .s .now)
+          (c .before .before .before .before .before .before .args .i)) editionLine
+          (length-lineAt (c .before .before .before .before .before .before .args .s .now)
+          (c .before .before .before .before .before .before .args .i)) (c .before .before .put-one .ensures) .within,
+    ))
 
--- src/lib.rt:180:5
 past-requires : tie.Need-past-requires
 past-requires c κs = search needs
 
--- src/lib.rt:174:1
 returns : tie.Need-returns
-returns c = rw (one-line-at (lineAt (c .before .before .before .before .before .before .before .args .s .now) (c .before .before .before .before .before .before .before .args .i)) editionLine (length-lineAt (c .before .before .before .before .before .before .before .args .s .now) (c .before .before .before .before .before .before .before .args .i)) (c .before .before .before .put-one .ensures) .text) at (c .past .ensures)
+returns c = rw (one-line-at
+    (lineAt (c .before .before .before .before .before .before .before .args .s .now)
+    (c .before .before .before .before .before .before .before .args .i)) editionLine
+    (length-lineAt (c .before .before .before .before .before .before .before .args .s .now)
+    (c .before .before .before .before .before .before .before .args .i))
+    (c .before .before .before .put-one .ensures) .text) at (c .past .ensures)
 
 pub past-one-spec : {M : Type 1} → statement M
 past-one-spec =

@@ -1,8 +1,9 @@
 use native.Mathlib.Omega.{arith}
 use mathlib.Core.Path.{refl, _∙_}
 use lib.ListN.{length, length-take, length-drop}
-use Rattle.save.specs.Text.{length-headText}
-use Rattle.snapshots.specs.Saved.{coreOf, head-put, room-left, image-put, saved-most}
+use Rattle.save.specs.TextLaws.{length-headText}
+use Rattle.snapshots.specs.Saved.{coreOf}
+use Rattle.snapshots.specs.SavedLaws.{head-put, room-left, image-put, saved-most}
 use borrow.Author.Needs.{needs}
 use Rattle.snapshots.proofs.put_image.Statement.{statement}
 use Rattle.snapshots.proofs.put_image.Tie as tie
@@ -12,49 +13,67 @@ use Rattle.save.proofs.save_head.Reads as save-head-reads
 use Rattle.save.proofs.save_rest.Reads as save-rest-reads
 use Rattle.snapshots.proofs.put_lines.Reads as put-lines-reads
 
--- src/lib.rt:65:29
 slice-aggregate-save-head : tie.Need-slice-aggregate-save-head
 slice-aggregate-save-head c = simp length-take (omega arith)
 
--- src/lib.rt:65:9
 save-head-requires : tie.Need-save-head-requires
 save-head-requires c κs = search needs
 
--- src/lib.rt:66:9
 put-lines-requires : tie.Need-put-lines-requires
-put-lines-requires c κs = let a = c .before .before .before .before .before .before .before .before in let w = c .before .before .before .save-head in let h = head-put (a .args .s .now) (a .args .out .now) (a .pre .0) (a .pre .1) (w .ensures .0) (w .ensures .1) .0 in let k = length-headText (coreOf (a .args .s .now)) in let j = w .kept .1 .0 in (a .pre .0, omega arith)
+put-lines-requires c κs = let a = c .before .before .before .before .before .before .before .before in let w =
+    c .before .before .before .save-head in let h = head-put (a .args .s .now) (a .args .out .now) (a .pre .0)
+    (a .pre .1) (w .ensures .0) (w .ensures .1) .0 in let k = length-headText
+    (coreOf (a .args .s .now)) in let j = w .kept .1 .0 in (a .pre .0, omega arith)
 
--- src/lib.rt:67:29
 slice-aggregate-save-rest : tie.Need-slice-aggregate-save-rest
 slice-aggregate-save-rest c = simp length-take (omega arith)
 
--- src/lib.rt:67:48
 sub-save-rest : tie.Need-sub-save-rest
-sub-save-rest c = let a = c .before .before .before .before .before .before .before .before .before .before .before .before in let w = c .before .before .before .before .before .before .before .save-head in let v = c .before .before .before .put-lines in let h = head-put (a .args .s .now) (a .args .out .now) (a .pre .0) (a .pre .1) (w .ensures .0) (w .ensures .1) in let r = room-left (a .args .s .now) (a .args .out .now) (a .pre .0) (a .pre .1) (h .0) (h .1) (v .ensures .0) (v .ensures .1) in let i = r .1 in let j = r .2 in omega arith
+sub-save-rest c = let a =
+    c .before .before .before .before .before .before .before .before .before .before .before .before in let w = c
+    .before .before .before .before .before .before .before .save-head in let v = c .before .before .before
+    .put-lines in let h = head-put (a .args .s .now) (a .args .out .now) (a .pre .0) (a .pre .1) (w .ensures .0)
+    (w .ensures .1) in let r = room-left (a .args .s .now) (a .args .out .now) (a .pre .0) (a .pre .1) (h .0) (h .1)
+    (v .ensures .0) (v .ensures .1) in let i = r .1 in let j = r .2 in omega arith
 
--- src/lib.rt:67:48
 part-save-rest-start : tie.Need-part-save-rest-start
-part-save-rest-start c = let a = c .before .before .before .before .before .before .before .before .before .before .before .before in let w = c .before .before .before .before .before .before .before .save-head in let v = c .before .before .before .put-lines in let h = head-put (a .args .s .now) (a .args .out .now) (a .pre .0) (a .pre .1) (w .ensures .0) (w .ensures .1) in let r = room-left (a .args .s .now) (a .args .out .now) (a .pre .0) (a .pre .1) (h .0) (h .1) (v .ensures .0) (v .ensures .1) in let i = r .1 in let j = r .2 in omega arith
+part-save-rest-start c = let a =
+    c .before .before .before .before .before .before .before .before .before .before .before .before in let w = c
+    .before .before .before .before .before .before .before .save-head in let v = c .before .before .before
+    .put-lines in let h = head-put (a .args .s .now) (a .args .out .now) (a .pre .0) (a .pre .1) (w .ensures .0)
+    (w .ensures .1) in let r = room-left (a .args .s .now) (a .args .out .now) (a .pre .0) (a .pre .1) (h .0) (h .1)
+    (v .ensures .0) (v .ensures .1) in let i = r .1 in let j = r .2 in omega arith
 
--- src/lib.rt:67:48
 part-save-rest-end : tie.Need-part-save-rest-end
 part-save-rest-end c = search needs
 
--- src/lib.rt:67:9
 save-rest-requires : tie.Need-save-rest-requires
 save-rest-requires c κs = search needs
 
--- src/lib.rt:68:5
 add-result : tie.Need-add-result
-add-result c = let a = c .before .before .before .before .before .before .before .before .before .before .before .before .before .before .before .before in let w = c .before .before .before .before .before .before .before .before .before .before .before .save-head in let v = c .before .before .before .before .before .before .before .put-lines in let h = head-put (a .args .s .now) (a .args .out .now) (a .pre .0) (a .pre .1) (w .ensures .0) (w .ensures .1) in let r = room-left (a .args .s .now) (a .args .out .now) (a .pre .0) (a .pre .1) (h .0) (h .1) (v .ensures .0) (v .ensures .1) in let e = image-put (a .args .s .now) (a .args .out .now) (a .pre .0) (a .pre .1) (h .0) (h .1) (v .ensures .0) (v .ensures .1) (c .before .before .save-rest .ensures .0) (c .before .before .save-rest .ensures .1) .0 in let m = saved-most (a .args .s .now) in omega arith
+add-result c = let a =
+    c .before .before .before .before .before .before .before .before .before .before .before .before .before .before
+    .before .before in let w = c .before .before .before .before .before .before .before .before .before .before
+    .before .save-head in let v = c .before .before .before .before .before .before .before
+    .put-lines in let h = head-put (a .args .s .now) (a .args .out .now) (a .pre .0) (a .pre .1) (w .ensures .0)
+    (w .ensures .1) in let r = room-left (a .args .s .now) (a .args .out .now) (a .pre .0) (a .pre .1) (h .0) (h .1)
+    (v .ensures .0) (v .ensures .1) in let e = image-put (a .args .s .now) (a .args .out .now) (a .pre .0) (a .pre .1)
+    (h .0) (h .1) (v .ensures .0) (v .ensures .1) (c .before .before .save-rest .ensures .0)
+    (c .before .before .save-rest .ensures .1) .0 in let m = saved-most (a .args .s .now) in omega arith
 
--- src/lib.rt:61:1
 same-length : tie.Need-same-length
 same-length c = search needs
 
--- src/lib.rt:61:1
 returns : tie.Need-returns
-returns c = let a = c .before .before .before .before .before .before .before .before .before .before .before .before .before .before .before .before in let w = c .before .before .before .before .before .before .before .before .before .before .before .save-head in let v = c .before .before .before .before .before .before .before .put-lines in let h = head-put (a .args .s .now) (a .args .out .now) (a .pre .0) (a .pre .1) (w .ensures .0) (w .ensures .1) in let r = room-left (a .args .s .now) (a .args .out .now) (a .pre .0) (a .pre .1) (h .0) (h .1) (v .ensures .0) (v .ensures .1) in image-put (a .args .s .now) (a .args .out .now) (a .pre .0) (a .pre .1) (h .0) (h .1) (v .ensures .0) (v .ensures .1) (c .before .before .save-rest .ensures .0) (c .before .before .save-rest .ensures .1)
+returns c = let a =
+    c .before .before .before .before .before .before .before .before .before .before .before .before .before .before
+    .before .before in let w = c .before .before .before .before .before .before .before .before .before .before
+    .before .save-head in let v = c .before .before .before .before .before .before .before
+    .put-lines in let h = head-put (a .args .s .now) (a .args .out .now) (a .pre .0) (a .pre .1) (w .ensures .0)
+    (w .ensures .1) in let r = room-left (a .args .s .now) (a .args .out .now) (a .pre .0) (a .pre .1) (h .0) (h .1)
+    (v .ensures .0) (v .ensures .1) in image-put (a .args .s .now) (a .args .out .now) (a .pre .0) (a .pre .1) (h .0)
+    (h .1) (v .ensures .0) (v .ensures .1) (c .before .before .save-rest .ensures .0)
+    (c .before .before .save-rest .ensures .1)
 
 pub put-image-spec : {M : Type 1} → statement M
 put-image-spec =

@@ -1,7 +1,7 @@
 use native.Mathlib.Omega.{arith}
 use mathlib.Core.Path.{refl}
 use Rattle.editions.specs.Block.{editionSize}
-use Rattle.snapshots.specs.Stored.{stored-full, stored-one}
+use Rattle.snapshots.specs.StoredLaws.{stored-full, stored-one}
 use borrow.Author.Needs.{needs}
 use Rattle.snapshots.proofs.store_edition.Statement.{statement}
 use Rattle.snapshots.proofs.store_edition.Tie as tie
@@ -10,65 +10,55 @@ use Rattle.snapshots.proofs.store_edition.Lts as lts
 use Rattle.octets.proofs.wide.Reads as wide-reads
 use Rattle.parts.proofs.copy.Reads as copy-reads
 
--- src/lib.rt:107:26
 slice-read-wide : tie.Need-slice-read-wide
 slice-read-wide c = search needs
 
--- src/lib.rt:107:9
 wide-requires : tie.Need-wide-requires
 wide-requires c κs = search needs
 
--- src/lib.rt:109:9
 returns : tie.Need-returns
-returns c = let a = c .before .before .before .before .before in let w = c .before .wide .ensures .0 in stored-full (a .args .s .now) _ (omega arith)
+returns c = let a = c .before .before .before .before .before in let w =
+    c .before .wide .ensures .0 in stored-full (a .args .s .now) _ (omega arith)
 
--- src/lib.rt:113:30
 mul-copy : tie.Need-mul-copy
 mul-copy c = search needs
 
--- src/lib.rt:113:9
 add-copy : tie.Need-add-copy
 add-copy c = search needs
 
--- src/lib.rt:114:18
 add-copy-2 : tie.Need-add-copy-2
 add-copy-2 c = search needs
 
--- src/lib.rt:114:9
 sub-copy : tie.Need-sub-copy
 sub-copy c = search needs
 
--- src/lib.rt:114:9
 part-copy-start : tie.Need-part-copy-start
 part-copy-start c = search needs
 
--- src/lib.rt:114:9
 part-copy-end : tie.Need-part-copy-end
 part-copy-end c = search needs
 
--- src/lib.rt:111:5
 copy-requires : tie.Need-copy-requires
 copy-requires c κs = search needs
 
--- src/lib.rt:116:35
 add-s : tie.Need-add-s
 add-s c = search needs
 
--- src/lib.rt:116:34
 cast-s : tie.Need-cast-s
 cast-s c = search needs
 
--- src/lib.rt:116:5
 slice-write-s : tie.Need-slice-write-s
 slice-write-s c = search needs
 
--- src/lib.rt:103:1
 same-length : tie.Need-same-length
 same-length c = search needs
 
--- src/lib.rt:103:1
 returns-2 : tie.Need-returns-2
-returns-2 c = let a = c .before .before .before .before .before .before .before .before .before .before in stored-one (a .args .s .now) (a .args .line .now) (c .before .before .before .before .before .before .wide .result) editionSize (a .pre .0) (a .pre .1) (c .before .before .before .before .before .before .wide .ensures .0) (omega arith) refl (c .before .before .copy .ensures .0) (c .before .before .copy .ensures .1)
+returns-2 c = let a =
+    c .before .before .before .before .before .before .before .before .before .before in stored-one (a .args .s .now)
+    (a .args .line .now) (c .before .before .before .before .before .before .wide .result) editionSize (a .pre .0)
+    (a .pre .1) (c .before .before .before .before .before .before .wide .ensures .0) (omega arith) refl
+    (c .before .before .copy .ensures .0) (c .before .before .copy .ensures .1)
 
 pub store-edition-spec : {M : Type 1} → statement M
 store-edition-spec =

@@ -1,7 +1,7 @@
 use native.Mathlib.Omega.{arith}
 use mathlib.Core.Path.{refl, sym, _∙_}
 use lib.ListN.{length-take}
-use Rattle.snapshots.specs.Stored.{stored-edition, stored-core}
+use Rattle.snapshots.specs.StoredLaws.{stored-edition, stored-core}
 use borrow.Author.Needs.{needs}
 use Rattle.snapshots.proofs.store_line.Statement.{statement}
 use Rattle.snapshots.proofs.store_line.Tie as tie
@@ -10,41 +10,37 @@ use Rattle.snapshots.proofs.store_line.Lts as lts
 use Rattle.restore.proofs.store_line.Reads as store-line-reads
 use Rattle.snapshots.proofs.store_edition.Reads as store-edition-reads
 
--- src/lib.rt:124:8
 shared-slice-read-if1 : tie.Need-shared-slice-read-if1
 shared-slice-read-if1 c = search needs
 
--- src/lib.rt:125:9
 store-edition-requires : tie.Need-store-edition-requires
 store-edition-requires c κs = search needs
 
--- src/lib.rt:126:9
 same-length : tie.Need-same-length
 same-length c = search needs
 
--- src/lib.rt:126:9
 returns : tie.Need-returns
-returns c = let a = c .before .before .before .before .before .before .before .before in stored-edition (a .args .s .now) (a .args .line .now) (c .before .before .before .before .if1 .taken) (c .before .before .store-edition .ensures)
+returns c = let a =
+    c .before .before .before .before .before .before .before .before in stored-edition (a .args .s .now)
+    (a .args .line .now) (c .before .before .before .before .if1 .taken) (c .before .before .store-edition .ensures)
 
--- src/lib.rt:128:25
 slice-relend-prefix-store-line : tie.Need-slice-relend-prefix-store-line
 slice-relend-prefix-store-line c = search needs
 
--- src/lib.rt:128:25
 slice-aggregate-store-line : tie.Need-slice-aggregate-store-line
 slice-aggregate-store-line c = simp length-take (omega arith)
 
--- src/lib.rt:128:5
 store-line-requires : tie.Need-store-line-requires
 store-line-requires c κs = search needs
 
--- src/lib.rt:120:1
 same-length-2 : tie.Need-same-length-2
 same-length-2 c = search needs
 
--- src/lib.rt:120:1
 returns-2 : tie.Need-returns-2
-returns-2 c = let a = c .before .before .before .before .before .before .before .before in stored-core (a .args .s .now) (a .args .line .now) (a .pre .0) (a .pre .1) (c .before .before .before .before .if1 .left) (c .before .before .store-line .ensures) refl
+returns-2 c = let a =
+    c .before .before .before .before .before .before .before .before in stored-core (a .args .s .now)
+    (a .args .line .now) (a .pre .0) (a .pre .1) (c .before .before .before .before .if1 .left)
+    (c .before .before .store-line .ensures) refl
 
 pub store-line-spec : {M : Type 1} → statement M
 store-line-spec =

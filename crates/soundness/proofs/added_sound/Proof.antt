@@ -1,4 +1,4 @@
-use Rattle.soundness.specs.Code.{added-none, added-some}
+use Rattle.soundness.specs.CodeLaws.{added-none, added-some}
 use borrow.Author.Needs.{needs}
 use Rattle.soundness.proofs.added_sound.Statement.{statement}
 use Rattle.soundness.proofs.added_sound.Tie as tie
@@ -10,7 +10,8 @@ zeros-from-requires : tie.Need-zeros-from-requires
 zeros-from-requires c κs = search needs
 
 returns : tie.Need-returns
-returns c = added-none (c .before .before .before .before .args .r .now) (c .before .before .before .before .pre) (c .before .if1 .taken) (c .zeros-from .ensures)
+returns c = added-none (c .before .before .before .before .args .r .now) (c .before .before .before .before .pre)
+    (c .before .if1 .taken) (c .zeros-from .ensures)
 
 sub-is-allowed : tie.Need-sub-is-allowed
 sub-is-allowed c = search needs
@@ -31,7 +32,9 @@ is-allowed-requires : tie.Need-is-allowed-requires
 is-allowed-requires c κs = search needs
 
 returns-2 : tie.Need-returns-2
-returns-2 c = added-some (c .before .before .before .before .before .before .before .args .r .now) (c .before .before .before .before .before .before .before .pre) (c .before .before .before .before .if1 .left) (c .is-allowed .ensures)
+returns-2 c = added-some (c .before .before .before .before .before .before .before .args .r .now)
+    (c .before .before .before .before .before .before .before .pre) (c .before .before .before .before .if1 .left)
+    (c .is-allowed .ensures)
 
 pub added-sound-spec : {M : Type 1} → statement M
 added-sound-spec =

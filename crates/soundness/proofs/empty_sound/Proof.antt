@@ -2,7 +2,7 @@ use mathlib.Core.Path.{sym, ap, _∙_}
 use mathlib.Core.Bool.{Bool, _&&_}
 use lib.Dec.{eqb}
 use borrow.Author.Tests.{le-leb, lt-leb}
-use Rattle.laws.specs.Tests.{pick-true, pick-false}
+use Rattle.laws.specs.TestsLaws.{pick-true, pick-false}
 use native.Mathlib.Omega.{arith}
 use Rattle.soundness.specs.Fields.{emptyTest}
 use borrow.Author.Needs.{needs}
@@ -18,7 +18,8 @@ latest-sound-requires c κs = search needs
 
 returns-2 : tie.Need-returns-2
 unfolding emptyTest
-returns-2 c = ap (λ (t : Bool). eqb (c .before .before .args .sum) 0 && t) (c .latest-sound .ensures) ∙ sym (pick-false _ _ (lt-leb 1 _ (c .before .if1 .left)))
+returns-2 c = ap (λ (t : Bool). eqb (c .before .before .args .sum) 0 && t) (c .latest-sound .ensures)
+    ∙ sym (pick-false _ _ (lt-leb 1 _ (c .before .if1 .left)))
 
 pub empty-sound-spec : {M : Type 1} → statement M
 empty-sound-spec = tie.close (tie.spec returns latest-sound-requires returns-2)

@@ -2,7 +2,7 @@ use Rattle.advert.specs.Condition.{formStatus}
 use lib.Dec.{eqb}
 use Prim.Native.Nat.{ℕ}
 use mathlib.Core.Path.{ap}
-use Rattle.soundness.specs.Code.{row-formed}
+use Rattle.soundness.specs.CodeLaws.{row-formed}
 use mathlib.Core.Path.{_≡_, refl, sym, _∙_}
 use borrow.Author.Needs.{needs}
 use Rattle.soundness.proofs.formed.Statement.{statement}
@@ -42,7 +42,10 @@ status-of-requires : tie.Need-status-of-requires
 status-of-requires c κs = search needs
 
 returns : tie.Need-returns
-returns c = let a = c .before .before .before .before .before .before .before .before .before .args in let p = c .before .before .before .before .before .before .before .before .before .pre in row-formed (a .r .now) (a .n) (p .1) (c .before .before .before .before .settings-good .ensures) (ap (λ (n : ℕ). eqb n 0) (c .status-of .ensures ∙ ap formStatus (c .before .condition-form .ensures)))
+returns c = let a = c .before .before .before .before .before .before .before .before .before .args in let p =
+    c .before .before .before .before .before .before .before .before .before .pre in row-formed (a .r .now) (a .n)
+    (p .1) (c .before .before .before .before .settings-good .ensures)
+    (ap (λ (n : ℕ). eqb n 0) (c .status-of .ensures ∙ ap formStatus (c .before .condition-form .ensures)))
 
 pub formed-spec : {M : Type 1} → statement M
 formed-spec =

@@ -4,7 +4,7 @@ use mathlib.Core.Path.{_≡_, refl, sym}
 use mathlib.Core.Bool.{true}
 use Rattle.soundness.specs.Below.{allBelow}
 use Rattle.soundness.specs.Clauses.{placeTest}
-use Rattle.soundness.specs.CodePairs.{pairs-stop, pairs-more}
+use Rattle.soundness.specs.CodePairsLaws.{pairs-stop, pairs-more}
 use Rattle.soundness.proofs.held_pairs_sound.Statement.{statement}
 use Rattle.soundness.proofs.held_pairs_sound.Tie as tie
 use Rattle.soundness.proofs.held_pairs_sound.Reads as reads
@@ -17,34 +17,36 @@ Inv-loop s c i₀ i = (i ≤ c) × (allBelow (placeTest s) i ≡ true)
 abbrev μ-loop : tie.MeasureT-loop
 μ-loop s c i₀ i = c - i
 
--- src/lib.rt:236:5
 loop-holds : tie.Need-loop-holds Inv-loop μ-loop
 unfolding Rattle.soundness.specs.Below.allBelow
 loop-holds c = (omega arith, refl)
 
--- src/lib.rt:237:13
 pair-sound-requires : tie.Need-pair-sound-requires Inv-loop μ-loop
 pair-sound-requires c κs = (c .before .before .before .pre .0, omega arith)
 
--- src/lib.rt:238:13
 returns : tie.Need-returns Inv-loop μ-loop
-returns c = let a = c .before .before .before .before .before in pairs-stop (a .args .s .now) (c .before .before .before .loop .i) (c .before .pair-sound .ensures) (a .args .c) (omega arith) (c .if1 .taken)
+returns c = let a =
+    c .before .before .before .before .before in pairs-stop (a .args .s .now) (c .before .before .before .loop .i)
+    (c .before .pair-sound .ensures) (a .args .c) (omega arith) (c .if1 .taken)
 
--- src/lib.rt:240:9
 add-i : tie.Need-add-i Inv-loop μ-loop
 add-i c = omega arith
 
--- src/lib.rt:236:5
 loop-less : tie.Need-loop-less Inv-loop μ-loop
 loop-less c = omega arith
 
--- src/lib.rt:236:5
 loop-again : tie.Need-loop-again Inv-loop μ-loop
-loop-again c = let a = c .before .before .before .before .before in let l = c .before .before .before .loop in (omega arith, pairs-more (a .args .s .now) (l .i) (c .before .pair-sound .ensures) (l .inv .1) (c .if1 .left))
+loop-again c = let a = c .before .before .before .before .before in let l =
+    c .before .before .before
+    .loop in (
+      omega arith,
+      pairs-more (a .args .s .now) (l .i) (c .before .pair-sound .ensures) (l .inv .1)
+          (c .if1 .left),
+    )
 
--- src/lib.rt:231:1
 returns-2 : tie.Need-returns-2 Inv-loop μ-loop
-returns-2 c = let e : c .before .loop .i ≡ c .before .before .before .args .c = omega arith in sym (rw e at (c .before .loop .inv .1))
+returns-2 c = let e : c .before .loop .i ≡ c .before .before .before .args .c =
+    omega arith in sym (rw e at (c .before .loop .inv .1))
 
 pub held-pairs-sound-spec : {M : Type 1} → statement M
 held-pairs-sound-spec =

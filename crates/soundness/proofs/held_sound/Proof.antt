@@ -1,4 +1,4 @@
-use Rattle.soundness.specs.Code.{held-long, held-short}
+use Rattle.soundness.specs.CodeLaws.{held-long, held-short}
 use Rattle.model.specs.Layout.{extraAt}
 use mathlib.Core.Path.{sym}
 use lib.Seq.{length-take-le}
@@ -20,16 +20,21 @@ wide-requires-2 : tie.Need-wide-requires-2
 wide-requires-2 c κs = search needs
 
 returns : tie.Need-returns
-returns c = let a = c .before .before .before .before .before .before .args in held-long (a .place) (a .r .now) (omega (arith, c .before .wide2 .ensures))
+returns c = let a =
+    c .before .before .before .before .before .before .args in held-long (a .place) (a .r .now)
+    (omega (arith, c .before .wide2 .ensures))
 
 add-e : tie.Need-add-e
 add-e c = search needs
 
 slice-aggregate-zeros-from : tie.Need-slice-aggregate-zeros-from
-slice-aggregate-zeros-from c = sym (length-take-le extraAt (c .before .before .before .before .before .before .before .args .r .now) (omega arith))
+slice-aggregate-zeros-from c =
+    sym (length-take-le extraAt (c .before .before .before .before .before .before .before .args .r .now) (omega arith))
 
 zeros-from-requires : tie.Need-zeros-from-requires
-zeros-from-requires c κs = let n = length-take-le extraAt (c .before .before .before .before .before .before .before .args .r .now) (omega arith) in omega arith
+zeros-from-requires c κs = let n =
+    length-take-le extraAt (c .before .before .before .before .before .before .before .args .r .now)
+    (omega arith) in omega arith
 
 added-sound-requires : tie.Need-added-sound-requires
 added-sound-requires c κs = search needs
@@ -38,7 +43,14 @@ formed-requires : tie.Need-formed-requires
 formed-requires c κs = search needs
 
 returns-2 : tie.Need-returns-2
-returns-2 c = let a = c .before .before .before .before .before .before .before .before .before .before .args in held-short (a .place) (a .r .now) (c .before .before .before .before .before .wide2 .result) (c .before .before .before .before .before .before .before .wide .result) (c .before .before .before .before .before .before .before .before .before .before .pre) (c .before .before .before .before .before .before .before .wide .ensures .0) (c .before .before .before .before .before .wide2 .ensures .0) (omega arith) (c .before .before .zeros-from .ensures) (c .before .added-sound .ensures) (c .formed .ensures)
+returns-2 c = let a =
+    c .before .before .before .before .before .before .before .before .before .before .args in held-short (a .place)
+    (a .r .now) (c .before .before .before .before .before .wide2 .result)
+    (c .before .before .before .before .before .before .before .wide .result)
+    (c .before .before .before .before .before .before .before .before .before .before .pre)
+    (c .before .before .before .before .before .before .before .wide .ensures .0)
+    (c .before .before .before .before .before .wide2 .ensures .0) (omega arith)
+    (c .before .before .zeros-from .ensures) (c .before .added-sound .ensures) (c .formed .ensures)
 
 pub held-sound-spec : {M : Type 1} → statement M
 held-sound-spec =

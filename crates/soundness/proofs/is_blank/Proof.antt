@@ -9,19 +9,15 @@ use Rattle.soundness.proofs.is_blank.Reads as reads
 use Rattle.soundness.proofs.is_blank.Lts as lts
 use Rattle.soundness.proofs.tails.zeros_from.Reads as zeros-from-reads
 
--- src/lib.rt:164:36
 slice-aggregate-zeros-from : tie.Need-slice-aggregate-zeros-from
 slice-aggregate-zeros-from c = sym (length-take-le rssiAt (c .before .before .args .r .now) (omega arith))
 
--- src/lib.rt:164:9
 zeros-from-requires : tie.Need-zeros-from-requires
 zeros-from-requires c κs = let n = length-take-le rssiAt (c .before .before .args .r .now) (omega arith) in omega arith
 
--- src/lib.rt:165:9
 zeros-from-requires-2 : tie.Need-zeros-from-requires-2
 zeros-from-requires-2 c κs = search needs
 
--- src/lib.rt:160:1
 returns : tie.Need-returns
 unfolding Rattle.soundness.specs.Fields.blankTest
 returns c = rw (c .before .zeros-from .ensures, c .zeros-from2 .ensures)

@@ -1,5 +1,5 @@
 use mathlib.Core.Path.{sym}
-use Rattle.laws.specs.Tests.{pick-true, pick-false}
+use Rattle.laws.specs.TestsLaws.{pick-true, pick-false}
 use Rattle.soundness.specs.Fields.{latestTest}
 use Rattle.soundness.proofs.latest_sound.Statement.{statement}
 use Rattle.soundness.proofs.latest_sound.Tie as tie

@@ -1,4 +1,4 @@
-use Rattle.soundness.specs.Code.{monitor-empty, monitor-used}
+use Rattle.soundness.specs.CodeLaws.{monitor-empty, monitor-used}
 use borrow.Author.Needs.{needs}
 use Rattle.soundness.proofs.monitor_sound.Statement.{statement}
 use Rattle.soundness.proofs.monitor_sound.Tie as tie
@@ -7,25 +7,24 @@ use Rattle.soundness.proofs.monitor_sound.Lts as lts
 use Rattle.soundness.proofs.held_sound.Reads as held-sound-reads
 use Rattle.soundness.proofs.tails.zeros_from.Reads as zeros-from-reads
 
--- src/lib.rt:87:8
 shared-slice-read-if1 : tie.Need-shared-slice-read-if1
 shared-slice-read-if1 c = search needs
 
--- src/lib.rt:88:9
 zeros-from-requires : tie.Need-zeros-from-requires
 zeros-from-requires c κs = search needs
 
--- src/lib.rt:88:9
 returns : tie.Need-returns
-returns c = let a = c .before .before .before .before .args in monitor-empty (a .place) (a .r .now) (c .before .if1 .taken) (c .zeros-from .ensures)
+returns c = let a =
+    c .before .before .before .before .args in monitor-empty (a .place) (a .r .now) (c .before .if1 .taken)
+    (c .zeros-from .ensures)
 
--- src/lib.rt:90:5
 held-sound-requires : tie.Need-held-sound-requires
 held-sound-requires c κs = search needs
 
--- src/lib.rt:83:1
 returns-2 : tie.Need-returns-2
-returns-2 c = let a = c .before .before .before .before .args in monitor-used (a .place) (a .r .now) (c .before .if1 .left) (c .held-sound .ensures)
+returns-2 c = let a =
+    c .before .before .before .before .args in monitor-used (a .place) (a .r .now) (c .before .if1 .left)
+    (c .held-sound .ensures)
 
 pub monitor-sound-spec : {M : Type 1} → statement M
 monitor-sound-spec =

@@ -2,7 +2,7 @@ use mathlib.Core.Bool.{true}
 use Rattle.soundness.specs.Clauses.{monitorTest, monitorRowAt}
 use Rattle.soundness.specs.Below.{allBelow}
 use Prim.Native.Nat.{_-_, _≤_}
-use Rattle.soundness.specs.Code.{monitors-stop, monitors-more, monitors-end}
+use Rattle.soundness.specs.CodeLaws.{monitors-stop, monitors-more, monitors-end}
 use mathlib.Core.Path.{_≡_, refl, sym, _∙_}
 use native.Mathlib.Omega.{arith}
 use borrow.Author.Needs.{needs}
@@ -19,58 +19,52 @@ Inv-loop s h₀ h = (h ≤ mostMonitors) × (allBelow (λ h. monitorTest h (moni
 abbrev μ-loop : tie.MeasureT-loop
 μ-loop s h₀ h = mostMonitors - h
 
--- src/lib.rt:111:5
 loop-holds : tie.Need-loop-holds Inv-loop μ-loop
 unfolding allBelow
 loop-holds c = (omega arith, refl)
 
--- src/lib.rt:112:22
 mul-a : tie.Need-mul-a Inv-loop μ-loop
 mul-a c = omega arith
 
--- src/lib.rt:112:17
 add-a : tie.Need-add-a Inv-loop μ-loop
 add-a c = omega arith
 
--- src/lib.rt:113:17
 add-e : tie.Need-add-e Inv-loop μ-loop
 add-e c = omega arith
 
--- src/lib.rt:114:27
 sub-monitor-sound : tie.Need-sub-monitor-sound Inv-loop μ-loop
 sub-monitor-sound c = omega arith
 
--- src/lib.rt:114:27
 part-monitor-sound-start : tie.Need-part-monitor-sound-start Inv-loop μ-loop
 part-monitor-sound-start c = omega arith
 
--- src/lib.rt:114:27
 part-monitor-sound-end : tie.Need-part-monitor-sound-end Inv-loop μ-loop
 part-monitor-sound-end c = omega arith
 
--- src/lib.rt:114:13
 monitor-sound-requires : tie.Need-monitor-sound-requires Inv-loop μ-loop
 monitor-sound-requires c κs = search needs
 
--- src/lib.rt:115:13
 returns : tie.Need-returns Inv-loop μ-loop
-returns c = monitors-stop (c .before .before .before .before .before .before .args .s .now) (c .before .before .before .before .loop .h) (c .before .monitor-sound .ensures) (omega arith) (c .if1 .taken)
+returns c = monitors-stop (c .before .before .before .before .before .before .args .s .now)
+    (c .before .before .before .before .loop .h) (c .before .monitor-sound .ensures) (omega arith) (c .if1 .taken)
 
--- src/lib.rt:117:9
 add-h : tie.Need-add-h Inv-loop μ-loop
 add-h c = omega arith
 
--- src/lib.rt:111:5
 loop-less : tie.Need-loop-less Inv-loop μ-loop
 loop-less c = omega arith
 
--- src/lib.rt:111:5
 loop-again : tie.Need-loop-again Inv-loop μ-loop
-loop-again c = (omega arith, monitors-more (c .before .before .before .before .before .before .args .s .now) (c .before .before .before .before .loop .h) (c .before .monitor-sound .ensures) (c .before .before .before .before .loop .inv .1) (c .if1 .left))
+loop-again c = (
+  omega arith,
+  monitors-more (c .before .before .before .before .before .before .args .s .now)
+      (c .before .before .before .before .loop .h) (c .before .monitor-sound .ensures)
+      (c .before .before .before .before .loop .inv .1) (c .if1 .left),
+)
 
--- src/lib.rt:106:1
 returns-2 : tie.Need-returns-2 Inv-loop μ-loop
-returns-2 c = monitors-end (c .before .before .before .args .s .now) (c .before .loop .h) (c .before .loop .inv .1) (omega arith)
+returns-2 c = monitors-end (c .before .before .before .args .s .now) (c .before .loop .h) (c .before .loop .inv .1)
+    (omega arith)
 
 pub monitors-sound-spec : {M : Type 1} → statement M
 monitors-sound-spec =

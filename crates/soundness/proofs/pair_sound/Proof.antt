@@ -1,7 +1,7 @@
 use native.Mathlib.Omega.{arith}
-use Rattle.soundness.specs.Code.{row-both}
+use Rattle.soundness.specs.CodeLaws.{row-both}
 use borrow.Author.Needs.{needs}
-use Rattle.soundness.specs.CodePairs.{pair-high, pair-dead, pair-live}
+use Rattle.soundness.specs.CodePairsLaws.{pair-high, pair-dead, pair-live}
 use mathlib.Core.Path.{refl}
 use Rattle.soundness.proofs.pair_sound.Statement.{statement}
 use Rattle.soundness.proofs.pair_sound.Tie as tie
@@ -11,86 +11,80 @@ use Rattle.octets.proofs.wide.Reads as wide-reads
 use Rattle.soundness.proofs.rest_sound.Reads as rest-sound-reads
 use Rattle.soundness.proofs.seen_sound.Reads as seen-sound-reads
 
--- src/lib.rt:215:31
 mul-a : tie.Need-mul-a
 mul-a c = search needs
 
--- src/lib.rt:215:13
 add-a : tie.Need-add-a
 add-a c = search needs
 
--- src/lib.rt:216:13
 add-e : tie.Need-add-e
 add-e c = search needs
 
--- src/lib.rt:217:26
 shared-slice-read-wide : tie.Need-shared-slice-read-wide
 shared-slice-read-wide c = search needs
 
--- src/lib.rt:217:9
 wide-requires : tie.Need-wide-requires
 wide-requires c κs = search needs
 
--- src/lib.rt:219:9
 returns : tie.Need-returns
-returns c = let s = c .before .before .before .before in pair-high (s .args .s .now) (s .pre .0) (s .args .i) (c .before .wide .result) (c .before .wide .ensures .0) (c .if1 .taken)
+returns c = let s =
+    c .before .before .before .before in pair-high (s .args .s .now) (s .pre .0) (s .args .i)
+    (c .before .wide .result) (c .before .wide .ensures .0) (c .if1 .taken)
 
--- src/lib.rt:221:34
 mul-m : tie.Need-mul-m
 mul-m c = search needs
 
--- src/lib.rt:221:13
 add-m : tie.Need-add-m
 add-m c = search needs
 
--- src/lib.rt:222:22
 add-interval : tie.Need-add-interval
 add-interval c = search needs
 
--- src/lib.rt:222:20
 shared-slice-read-interval : tie.Need-shared-slice-read-interval
 shared-slice-read-interval c = search needs
 
--- src/lib.rt:224:9
 returns-2 : tie.Need-returns-2
-returns-2 c = let s = c .before .before .before .before .before .before in pair-dead (s .args .s .now) (s .pre .0) (s .args .i) (c .before .before .before .wide .result) (c .before .before .before .wide .ensures .0) (omega arith) (c .if2 .taken)
+returns-2 c = let s =
+    c .before .before .before .before .before .before in pair-dead (s .args .s .now) (s .pre .0) (s .args .i)
+    (c .before .before .before .wide .result) (c .before .before .before .wide .ensures .0) (omega arith)
+    (c .if2 .taken)
 
--- src/lib.rt:226:27
 sub-seen-sound : tie.Need-sub-seen-sound
 sub-seen-sound c = search needs
 
--- src/lib.rt:226:27
 part-seen-sound-start : tie.Need-part-seen-sound-start
 part-seen-sound-start c = search needs
 
--- src/lib.rt:226:27
 part-seen-sound-end : tie.Need-part-seen-sound-end
 part-seen-sound-end c = search needs
 
--- src/lib.rt:226:9
 seen-sound-requires : tie.Need-seen-sound-requires
 seen-sound-requires c κs = search needs
 
--- src/lib.rt:227:30
 sub-rest-sound : tie.Need-sub-rest-sound
 sub-rest-sound c = search needs
 
--- src/lib.rt:227:30
 part-rest-sound-start : tie.Need-part-rest-sound-start
 part-rest-sound-start c = search needs
 
--- src/lib.rt:227:30
 part-rest-sound-end : tie.Need-part-rest-sound-end
 part-rest-sound-end c = search needs
 
--- src/lib.rt:227:9
 rest-sound-requires : tie.Need-rest-sound-requires
 rest-sound-requires c κs = search needs
 
--- src/lib.rt:211:1
 returns-3 : tie.Need-returns-3
 unfolding Rattle.soundness.specs.Fields.siftsAt
-returns-3 c = let s = c .before .before .before .before .before .before .before .before .before .before in pair-live (s .args .s .now) (s .pre .0) (s .args .i) (c .before .before .before .before .before .before .before .wide .result) (s .pre .1) (λ k. omega (arith, c .before .before .before .before .before .before .before .before .before .shared-slice-known .given k)) (c .before .before .before .before .before .before .before .wide .ensures .0) (omega arith) (c .before .before .before .before .if2 .left) refl refl (row-both _ _ _ _ _ (c .before .before .seen-sound .ensures) (c .rest-sound .ensures))
+returns-3 c = let s =
+    c .before .before .before .before .before .before .before .before .before .before in pair-live (s .args .s .now)
+    (s .pre .0) (s .args .i) (c .before .before .before .before .before .before .before .wide .result) (s .pre .1)
+    (λ k. omega (
+      arith,
+      c .before .before .before .before .before .before .before .before .before .shared-slice-known .given k,
+    ))
+    (c .before .before .before .before .before .before .before .wide .ensures .0) (omega arith)
+    (c .before .before .before .before .if2 .left) refl refl
+    (row-both _ _ _ _ _ (c .before .before .seen-sound .ensures) (c .rest-sound .ensures))
 
 pub pair-sound-spec : {M : Type 1} → statement M
 pair-sound-spec =

@@ -2,7 +2,7 @@ use native.Mathlib.Omega.{arith}
 use mathlib.Core.Path.{sym}
 use lib.Seq.{length-take-le}
 use Rattle.model.specs.Layout.{countAt}
-use Rattle.soundness.specs.CodePairs.{count-high, count-free, count-held}
+use Rattle.soundness.specs.CodePairsLaws.{count-high, count-free, count-held}
 use borrow.Author.Needs.{needs}
 use Rattle.soundness.proofs.pairs_sound.Statement.{statement}
 use Rattle.soundness.proofs.pairs_sound.Tie as tie
@@ -12,45 +12,46 @@ use Rattle.octets.proofs.wide.Reads as wide-reads
 use Rattle.soundness.proofs.held_pairs_sound.Reads as held-pairs-sound-reads
 use Rattle.soundness.proofs.tails.zeros_from.Reads as zeros-from-reads
 
--- src/lib.rt:250:26
 shared-slice-read-wide : tie.Need-shared-slice-read-wide
 shared-slice-read-wide c = search needs
 
--- src/lib.rt:250:9
 wide-requires : tie.Need-wide-requires
 wide-requires c κs = search needs
 
--- src/lib.rt:252:9
 returns : tie.Need-returns
-returns c = let s = c .before .before .before .before in count-high (s .args .s .now) (s .pre) (c .before .wide .result) (c .before .wide .ensures .0) (c .if1 .taken)
+returns c = let s =
+    c .before .before .before .before in count-high (s .args .s .now) (s .pre) (c .before .wide .result)
+    (c .before .wide .ensures .0) (c .if1 .taken)
 
--- src/lib.rt:254:31
 mul-a : tie.Need-mul-a
 mul-a c = search needs
 
--- src/lib.rt:254:13
 add-a : tie.Need-add-a
 add-a c = search needs
 
--- src/lib.rt:255:27
 slice-aggregate-zeros-from : tie.Need-slice-aggregate-zeros-from
-slice-aggregate-zeros-from c = let s = c .before .before .before .before .before in sym (length-take-le countAt (s .args .s .now) (omega arith))
+slice-aggregate-zeros-from c = let s =
+    c .before .before .before .before .before in sym (length-take-le countAt (s .args .s .now) (omega arith))
 
--- src/lib.rt:255:9
 zeros-from-requires : tie.Need-zeros-from-requires
-zeros-from-requires c κs = let s = c .before .before .before .before .before in let n = length-take-le countAt (s .args .s .now) (omega arith) in omega arith
+zeros-from-requires c κs = let s = c .before .before .before .before .before in let n =
+    length-take-le countAt (s .args .s .now) (omega arith) in omega arith
 
--- src/lib.rt:256:9
 returns-2 : tie.Need-returns-2
-returns-2 c = let s = c .before .before .before .before .before .before .before in count-free (s .args .s .now) (s .pre) (c .before .before .before .before .wide .result) (c .before .before .before .before .wide .ensures .0) (omega arith) (c .before .zeros-from .ensures) (c .if2 .taken)
+returns-2 c = let s =
+    c .before .before .before .before .before .before .before in count-free (s .args .s .now) (s .pre)
+    (c .before .before .before .before .wide .result) (c .before .before .before .before .wide .ensures .0)
+    (omega arith) (c .before .zeros-from .ensures) (c .if2 .taken)
 
--- src/lib.rt:258:5
 held-pairs-sound-requires : tie.Need-held-pairs-sound-requires
 held-pairs-sound-requires c κs = search needs
 
--- src/lib.rt:246:1
 returns-3 : tie.Need-returns-3
-returns-3 c = let s = c .before .before .before .before .before .before .before .before in count-held (s .args .s .now) (s .pre) (c .before .before .before .before .before .wide .result) (c .before .before .before .before .before .wide .ensures .0) (omega arith) (c .before .before .zeros-from .ensures) (c .before .if2 .left) (c .held-pairs-sound .ensures)
+returns-3 c = let s =
+    c .before .before .before .before .before .before .before .before in count-held (s .args .s .now) (s .pre)
+    (c .before .before .before .before .before .wide .result)
+    (c .before .before .before .before .before .wide .ensures .0) (omega arith)
+    (c .before .before .zeros-from .ensures) (c .before .if2 .left) (c .held-pairs-sound .ensures)
 
 pub pairs-sound-spec : {M : Type 1} → statement M
 pairs-sound-spec =

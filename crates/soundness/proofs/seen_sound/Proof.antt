@@ -1,4 +1,4 @@
-use Rattle.soundness.specs.Code.{seen-row}
+use Rattle.soundness.specs.CodeLaws.{seen-row}
 use borrow.Author.Needs.{needs}
 use Rattle.soundness.proofs.seen_sound.Statement.{statement}
 use Rattle.soundness.proofs.seen_sound.Tie as tie
@@ -9,33 +9,30 @@ use Rattle.state.proofs.Seconds.ticks.Reads as ticks-reads
 use Rattle.state.proofs.Ticks.below.Reads as below-reads
 use Rattle.state.proofs.in_range.Reads as in-range-reads
 
--- src/lib.rt:174:24
 get16-requires : tie.Need-get16-requires
 get16-requires c κs = search needs
 
--- src/lib.rt:175:30
 ticks-requires : tie.Need-ticks-requires
 ticks-requires c κs = search needs
 
--- src/lib.rt:175:9
 below-requires : tie.Need-below-requires
 below-requires c κs = search needs
 
--- src/lib.rt:176:32
 shared-slice-read-in-range : tie.Need-shared-slice-read-in-range
 shared-slice-read-in-range c = search needs
 
--- src/lib.rt:176:9
 in-range-requires : tie.Need-in-range-requires
 in-range-requires c κs = search needs
 
--- src/lib.rt:177:6
 shared-slice-read-result : tie.Need-shared-slice-read-result
 shared-slice-read-result c = search needs
 
--- src/lib.rt:170:1
 returns : tie.Need-returns
-returns c = let a = c .before .before .before .before .before .before .before in rw (c .before .before .before .below .ensures) (seen-row (a .args .interval) (a .args .r .now) (a .pre) (c .before .before .before .before .before .get16 .ensures) (c .before .before .before .before .ticks .ensures) (c .before .in-range .ensures))
+returns c = let a =
+    c .before .before .before .before .before .before .before in rw (c .before .before .before .below .ensures)
+    (seen-row (a .args .interval) (a .args .r .now) (a .pre)
+    (c .before .before .before .before .before .get16 .ensures) (c .before .before .before .before .ticks .ensures)
+    (c .before .in-range .ensures))
 
 pub seen-sound-spec : {M : Type 1} → statement M
 seen-sound-spec =

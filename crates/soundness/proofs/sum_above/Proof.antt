@@ -1,4 +1,4 @@
-use Rattle.soundness.specs.Code.{above-up, above-down}
+use Rattle.soundness.specs.CodeLaws.{above-up, above-down}
 use native.Mathlib.Omega.{arith}
 use mathlib.Core.Path.{_≡_, refl, sym, _∙_}
 use borrow.Author.Needs.{needs}
@@ -7,31 +7,24 @@ use Rattle.soundness.proofs.sum_above.Tie as tie
 use Rattle.soundness.proofs.sum_above.Reads as reads
 use Rattle.soundness.proofs.sum_above.Lts as lts
 
--- src/lib.rt:39:13
 mul-a : tie.Need-mul-a
 mul-a c = search needs
 
--- src/lib.rt:40:16
 sub-room : tie.Need-sub-room
 sub-room c = search needs
 
--- src/lib.rt:42:16
 add-result : tie.Need-add-result
 add-result c = search needs
 
--- src/lib.rt:42:9
 returns : tie.Need-returns
 returns c = above-up (c .before .args .sum) (c .before .args .packets) (c .if1 .taken) (omega arith)
 
--- src/lib.rt:44:5
 sub-result : tie.Need-sub-result
 sub-result c = search needs
 
--- src/lib.rt:44:5
 sub-result-2 : tie.Need-sub-result-2
 sub-result-2 c = search needs
 
--- src/lib.rt:35:1
 returns-2 : tie.Need-returns-2
 returns-2 c = above-down (c .before .args .sum) (c .before .args .packets) (c .if1 .left) (omega arith) (omega arith)
 

@@ -1,14 +1,12 @@
-use Rattle.soundness.specs.Blank.{ticks-none, ticks-some}
+use Rattle.soundness.specs.BlankLaws.{ticks-none, ticks-some}
 use Rattle.soundness.proofs.ticks_sound.Statement.{statement}
 use Rattle.soundness.proofs.ticks_sound.Tie as tie
 use Rattle.soundness.proofs.ticks_sound.Reads as reads
 use Rattle.soundness.proofs.ticks_sound.Lts as lts
 
--- src/lib.rt:174:9
 returns : tie.Need-returns
 returns c = ticks-none _ _ (c .if1 .taken)
 
--- src/lib.rt:170:1
 returns-2 : tie.Need-returns-2
 returns-2 c = ticks-some _ _ (c .if1 .left)
 

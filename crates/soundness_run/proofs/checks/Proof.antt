@@ -17,43 +17,33 @@ Inv-loop block₀ times good₀ k₀ block good k = (k ≤ times) × (good ≤ k
 abbrev μ-loop : tie.MeasureT-loop
 μ-loop block₀ times good₀ k₀ block good k = times - k
 
--- src/main.rt:37:5
 loop-holds : tie.Need-loop-holds Inv-loop μ-loop
 loop-holds c = (omega arith, omega arith, refl)
 
--- src/main.rt:38:32
 cast-put8 : tie.Need-cast-put8 Inv-loop μ-loop
 cast-put8 c = omega arith
 
--- src/main.rt:38:9
 put8-requires : tie.Need-put8-requires Inv-loop μ-loop
 put8-requires c κs = search needs
 
--- src/main.rt:39:12
 is-sound-requires : tie.Need-is-sound-requires Inv-loop μ-loop
 is-sound-requires c κs = search needs
 
--- src/main.rt:40:13
 add-good : tie.Need-add-good Inv-loop μ-loop
 add-good c = omega arith
 
--- src/main.rt:42:9
 add-k : tie.Need-add-k Inv-loop μ-loop
 add-k c = omega arith
 
--- src/main.rt:37:5
 loop-less : tie.Need-loop-less Inv-loop μ-loop
 loop-less c = omega arith
 
--- src/main.rt:37:5
 loop-again : tie.Need-loop-again Inv-loop μ-loop
 loop-again c = (omega arith, ⊎-elim (λ w. omega arith) (λ w. omega arith) (c .if1 .came), search needs)
 
--- src/main.rt:32:1
 same-length : tie.Need-same-length Inv-loop μ-loop
 same-length c = c .before .loop .inv .2
 
--- src/main.rt:32:1
 returns : tie.Need-returns Inv-loop μ-loop
 returns c = omega arith
 

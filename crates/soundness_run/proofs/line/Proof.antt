@@ -11,42 +11,43 @@ use Rattle.soundness_run.proofs.line.Lts as lts
 use Rattle.reader.proofs.take_text.Reads as take-text-reads
 use Rattle.soundness_run.proofs.check.Reads as check-reads
 
--- src/main.rt:64:34
 slice-aggregate-take-text : tie.Need-slice-aggregate-take-text
 slice-aggregate-take-text c = search needs
 
--- src/main.rt:64:11
 take-text-requires : tie.Need-take-text-requires
 take-text-requires c κs = search needs
 
--- src/main.rt:65:21
 enum-known-n : tie.Need-enum-known-n
 enum-known-n c = search needs
 
--- src/main.rt:67:23
 array-share-prefix-buffer : tie.Need-array-share-prefix-buffer
 array-share-prefix-buffer c = search needs
 
--- src/main.rt:67:23
 slice-aggregate-check : tie.Need-slice-aggregate-check
-slice-aggregate-check c = let l : length (c .before .before .before .before .before .before .take-text .last .1 .0) ≡ 8192 = search needs in sym (length-take-le (c .before .before .before .n .given .0 .0) (c .before .before .before .before .before .before .take-text .last .1 .0) (omega arith))
+slice-aggregate-check c =
+    let l : length (c .before .before .before .before .before .before .take-text .last .1 .0)
+    ≡ 8192 = search needs in sym
+    (length-take-le (c .before .before .before .n .given .0 .0)
+    (c .before .before .before .before .before .before .take-text .last .1 .0) (omega arith))
 
--- src/main.rt:67:17
 check-requires : tie.Need-check-requires
-check-requires c κs = let l : length (c .before .before .before .before .before .before .take-text .last .1 .0) ≡ 8192 = search needs in let e : length (take (c .before .before .before .n .given .0 .0) (c .before .before .before .before .before .before .take-text .last .1 .0)) ≡ c .before .before .before .n .given .0 .0 = length-take-le (c .before .before .before .n .given .0 .0) (c .before .before .before .before .before .before .take-text .last .1 .0) (omega arith) in omega arith
+check-requires c κs =
+    let l : length (c .before .before .before .before .before .before .take-text .last .1 .0)
+    ≡ 8192 = search needs in let e : length
+    (take (c .before .before .before .n .given .0 .0)
+    (c .before .before .before .before .before .before .take-text .last .1 .0))
+    ≡ c .before .before .before .n .given .0 .0 = length-take-le (c .before .before .before .n .given .0 .0)
+    (c .before .before .before .before .before .before .take-text .last .1 .0) (omega arith) in omega arith
 
 enum-told : tie.Need-enum-told
 enum-told c = search needs
 
--- src/main.rt:62:1
 returns : tie.Need-returns
 returns c = search needs
 
--- src/main.rt:62:1
 returns-2 : tie.Need-returns-2
 returns-2 c = search needs
 
--- src/main.rt:62:1
 returns-3 : tie.Need-returns-3
 returns-3 c = search needs
 

@@ -17,79 +17,60 @@ Inv-loop block₀ parts n i₀ block i = (i ≤ 8192) × (length block ≡ lengt
 abbrev μ-loop : tie.MeasureT-loop
 μ-loop block₀ parts n i₀ block i = 8192 - i
 
--- src/main.rt:18:5
 loop-holds : tie.Need-loop-holds Inv-loop μ-loop
 loop-holds c = (omega arith, refl)
 
--- src/main.rt:18:11
 add-loop : tie.Need-add-loop Inv-loop μ-loop
 add-loop c = omega arith
 
--- src/main.rt:19:18
 get16-requires : tie.Need-get16-requires Inv-loop μ-loop
 get16-requires c κs = search needs
 
--- src/main.rt:19:18
 cast-at : tie.Need-cast-at Inv-loop μ-loop
 cast-at c = omega arith
 
--- src/main.rt:20:38
 add-get16 : tie.Need-add-get16 Inv-loop μ-loop
 add-get16 c = omega arith
 
--- src/main.rt:20:17
 get16-requires-2 : tie.Need-get16-requires-2 Inv-loop μ-loop
 get16-requires-2 c κs = search needs
 
--- src/main.rt:20:17
 cast-k : tie.Need-cast-k Inv-loop μ-loop
 cast-k c = omega arith
 
--- src/main.rt:21:17
 add-a : tie.Need-add-a Inv-loop μ-loop
 add-a c = omega arith
 
--- src/main.rt:22:17
 add-e : tie.Need-add-e Inv-loop μ-loop
 add-e c = omega arith
 
--- src/main.rt:24:13
 same-length : tie.Need-same-length Inv-loop μ-loop
 same-length c = c .before .before .before .before .loop .inv .1
 
--- src/main.rt:24:13
 returns : tie.Need-returns Inv-loop μ-loop
 returns c = tt
 
--- src/main.rt:26:32
 sub-copy : tie.Need-sub-copy Inv-loop μ-loop
 sub-copy c = omega arith
 
--- src/main.rt:26:32
 part-copy-start : tie.Need-part-copy-start Inv-loop μ-loop
 part-copy-start c = omega arith
 
--- src/main.rt:26:32
 part-copy-end : tie.Need-part-copy-end Inv-loop μ-loop
 part-copy-end c = omega arith
 
--- src/main.rt:26:9
 copy-requires : tie.Need-copy-requires Inv-loop μ-loop
 copy-requires c κs = search needs
 
--- src/main.rt:18:5
 loop-less : tie.Need-loop-less Inv-loop μ-loop
 loop-less c = omega arith
 
--- src/main.rt:18:5
 loop-again : tie.Need-loop-again Inv-loop μ-loop
 loop-again c = (omega arith, search needs)
 
--- src/main.rt:13:1
 same-length-2 : tie.Need-same-length-2 Inv-loop μ-loop
 same-length-2 c = c .before .loop .inv .1
 
--- src/main.rt:13:1
 returns-2 : tie.Need-returns-2 Inv-loop μ-loop
 returns-2 c = tt
 

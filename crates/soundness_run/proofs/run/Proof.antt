@@ -16,47 +16,36 @@ Inv-loop text from₀ i₀ from i = (i ≤ length text) × (from ≤ i)
 abbrev μ-loop : tie.MeasureT-loop
 μ-loop text from₀ i₀ from i = length text - i
 
--- src/main.rt:79:5
 loop-holds : tie.Need-loop-holds Inv-loop μ-loop
 loop-holds c = (omega arith, omega arith)
 
--- src/main.rt:80:12
 shared-slice-read-if1 : tie.Need-shared-slice-read-if1 Inv-loop μ-loop
 shared-slice-read-if1 c = omega arith
 
--- src/main.rt:81:21
 add-e : tie.Need-add-e Inv-loop μ-loop
 add-e c = omega arith
 
--- src/main.rt:82:18
 sub-line : tie.Need-sub-line Inv-loop μ-loop
 sub-line c = omega arith
 
--- src/main.rt:82:18
 part-line-start : tie.Need-part-line-start Inv-loop μ-loop
 part-line-start c = omega arith
 
--- src/main.rt:82:18
 part-line-end : tie.Need-part-line-end Inv-loop μ-loop
 part-line-end c = omega arith
 
--- src/main.rt:82:13
 line-requires : tie.Need-line-requires Inv-loop μ-loop
 line-requires c κs = search needs
 
--- src/main.rt:85:9
 add-i : tie.Need-add-i Inv-loop μ-loop
 add-i c = omega arith
 
--- src/main.rt:79:5
 loop-less : tie.Need-loop-less Inv-loop μ-loop
 loop-less c = omega arith
 
--- src/main.rt:79:5
 loop-again : tie.Need-loop-again Inv-loop μ-loop
 loop-again c = (omega arith, ⊎-elim (λ w. omega arith) (λ w. omega arith) (c .if1 .came))
 
--- src/main.rt:74:1
 returns : tie.Need-returns Inv-loop μ-loop
 returns c = tt
 

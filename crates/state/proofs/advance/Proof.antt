@@ -1,4 +1,4 @@
-use Rattle.state.specs.Position.{advanced-by}
+use Rattle.state.specs.PositionLaws.{advanced-by}
 use borrow.Author.Needs.{needs}
 use Rattle.state.proofs.advance.Statement.{statement}
 use Rattle.state.proofs.advance.Tie as tie
@@ -18,7 +18,8 @@ same-length c = search needs
 returns : tie.Need-returns
 returns c = let a = c .before .before .before .before .before .before .before .before .args in
     advanced-by (a .block .now) (c .before .before .before .before .before .get32 .ensures)
-    (c .before .before .before .wrapping-add-u32 .ensures) (c .before .before .put32 .ensures .0) (c .before .before .put32 .ensures .1)
+    (c .before .before .before .wrapping-add-u32 .ensures) (c .before .before .put32 .ensures .0)
+    (c .before .before .put32 .ensures .1)
 
 pub advance-spec : {M : Type 1} → statement M
 advance-spec =

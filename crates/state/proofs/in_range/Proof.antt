@@ -1,5 +1,5 @@
 use mathlib.Core.Path.{sym}
-use Rattle.model.specs.Levels.{range-levels}
+use Rattle.model.specs.LevelsLaws.{range-levels}
 use borrow.Author.Needs.{needs}
 use Rattle.state.proofs.in_range.Statement.{statement}
 use Rattle.state.proofs.in_range.Tie as tie

@@ -5,7 +5,6 @@ use Rattle.state.proofs.lets_through.Tie as tie
 use Rattle.state.proofs.lets_through.Reads as reads
 use Rattle.state.proofs.lets_through.Lts as lts
 
--- src/lib.rt:69:1
 returns : tie.Need-returns
 unfolding letsThrough bit
 returns c = search needs

@@ -6,15 +6,12 @@ use Rattle.state.proofs.level_of.Tie as tie
 use Rattle.state.proofs.level_of.Reads as reads
 use Rattle.state.proofs.level_of.Lts as lts
 
--- src/lib.rt:46:7
 add-result : tie.Need-add-result
 add-result c = search needs
 
--- src/lib.rt:46:5
 cast-result : tie.Need-cast-result
 cast-result c = search needs
 
--- src/lib.rt:42:1
 returns : tie.Need-returns
 unfolding level
 returns c = omega arith

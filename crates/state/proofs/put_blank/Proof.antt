@@ -1,4 +1,4 @@
-use Rattle.state.specs.Start.{blank-not, blank-put}
+use Rattle.state.specs.StartLaws.{blank-not, blank-put}
 use native.Mathlib.Omega.{arith}
 use borrow.Author.Needs.{needs}
 use Rattle.state.proofs.put_blank.Statement.{statement}
@@ -8,29 +8,27 @@ use Rattle.state.proofs.put_blank.Lts as lts
 use Rattle.parts.proofs.fill.Reads as fill-reads
 use Rattle.state.proofs.settings.set_settings.Reads as set-settings-reads
 
--- src/lib.rt:86:9
 returns : tie.Need-returns
 returns c = blank-not (c .before .before .args .block .now) (c .if1 .taken)
 
--- src/lib.rt:89:5
 fill-requires : tie.Need-fill-requires
 fill-requires c κs = search needs
 
--- src/lib.rt:90:46
 slice-aggregate-set-settings : tie.Need-slice-aggregate-set-settings
 slice-aggregate-set-settings c = search needs
 
--- src/lib.rt:90:5
 set-settings-requires : tie.Need-set-settings-requires
 set-settings-requires c κs = search needs
 
--- src/lib.rt:82:1
 same-length : tie.Need-same-length
 same-length c = search needs
 
--- src/lib.rt:82:1
 returns-2 : tie.Need-returns-2
-returns-2 c = blank-put (c .before .before .before .before .before .before .before .before .before .before .before .args .block .now) (omega arith) (c .before .before .before .before .before .before .before .fill .ensures .0) (c .before .before .before .before .before .before .before .fill .ensures .1) (c .before .before .set-settings .ensures)
+returns-2 c = blank-put
+    (c .before .before .before .before .before .before .before .before .before .before .before .args .block .now)
+    (omega arith) (c .before .before .before .before .before .before .before .fill .ensures .0)
+    (c .before .before .before .before .before .before .before .fill .ensures .1)
+    (c .before .before .set-settings .ensures)
 
 pub put-blank-spec : {M : Type 1} → statement M
 put-blank-spec =

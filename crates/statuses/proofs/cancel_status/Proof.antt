@@ -1,4 +1,4 @@
-use Rattle.statuses.specs.Answers.{cancel-good, cancel-dead, cancel-wrong}
+use Rattle.statuses.specs.AnswersLaws.{cancel-good, cancel-dead, cancel-wrong}
 use borrow.Author.Needs.{needs}
 use Rattle.statuses.proofs.cancel_status.Statement.{statement}
 use Rattle.statuses.proofs.cancel_status.Tie as tie

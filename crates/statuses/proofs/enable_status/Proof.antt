@@ -1,4 +1,4 @@
-use Rattle.statuses.specs.Answers.{enable-wrong, enable-above, enable-again, enable-good}
+use Rattle.statuses.specs.AnswersLaws.{enable-wrong, enable-above, enable-again, enable-good}
 use borrow.Author.Needs.{needs}
 use Rattle.statuses.proofs.enable_status.Statement.{statement}
 use Rattle.statuses.proofs.enable_status.Tie as tie

@@ -1,4 +1,4 @@
-use Rattle.statuses.specs.Second.{fault-condition, fault-settings}
+use Rattle.statuses.specs.SecondLaws.{fault-condition, fault-settings}
 use borrow.Author.Needs.{needs}
 use Rattle.statuses.proofs.fault.Statement.{statement}
 use Rattle.statuses.proofs.fault.Tie as tie
@@ -37,10 +37,16 @@ condition-status-requires : tie.Need-condition-status-requires
 condition-status-requires c κs = search needs
 
 returns : tie.Need-returns
-returns c = fault-condition _ (c .before .before .before .before .before .before .before .before .before .before .pre .0) (c .before .before .before .before .before .before .before .before .before .before .pre .2) (c .before .before .before .before .before .settings-good .ensures) (c .before .before .before .before .permitted .ensures) (c .before .before .before .if1 .taken) (c .condition-status .ensures)
+returns c = fault-condition _
+    (c .before .before .before .before .before .before .before .before .before .before .pre .0)
+    (c .before .before .before .before .before .before .before .before .before .before .pre .2)
+    (c .before .before .before .before .before .settings-good .ensures)
+    (c .before .before .before .before .permitted .ensures) (c .before .before .before .if1 .taken)
+    (c .condition-status .ensures)
 
 returns-2 : tie.Need-returns-2
-returns-2 c = fault-settings _ (c .before .before .settings-good .ensures) (c .before .permitted .ensures) (c .if1 .left)
+returns-2 c = fault-settings _ (c .before .before .settings-good .ensures) (c .before .permitted .ensures)
+    (c .if1 .left)
 
 pub fault-spec : {M : Type 1} → statement M
 fault-spec =

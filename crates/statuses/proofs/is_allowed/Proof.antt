@@ -1,4 +1,4 @@
-use Rattle.statuses.specs.Second.{allowed-length, allowed-fields}
+use Rattle.statuses.specs.SecondLaws.{allowed-length, allowed-fields}
 use borrow.Author.Needs.{needs}
 use Rattle.statuses.proofs.is_allowed.Statement.{statement}
 use Rattle.statuses.proofs.is_allowed.Tie as tie
@@ -31,7 +31,8 @@ shared-slice-read-result : tie.Need-shared-slice-read-result
 shared-slice-read-result c = search needs
 
 returns-2 : tie.Need-returns-2
-returns-2 c = allowed-fields (c .before .before .before .before .before .before .before .args .added .now) _ _ (c .before .before .before .before .before .if1 .left) (c .before .before .zeros .ensures)
+returns-2 c = allowed-fields (c .before .before .before .before .before .before .before .args .added .now) _ _
+    (c .before .before .before .before .before .if1 .left) (c .before .before .zeros .ensures)
 
 pub is-allowed-spec : {M : Type 1} → statement M
 is-allowed-spec =

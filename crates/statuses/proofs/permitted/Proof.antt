@@ -1,4 +1,4 @@
-use Rattle.statuses.specs.Second.{permits-first, permits-second}
+use Rattle.statuses.specs.SecondLaws.{permits-first, permits-second}
 use borrow.Author.Needs.{needs}
 use Rattle.statuses.proofs.permitted.Statement.{statement}
 use Rattle.statuses.proofs.permitted.Tie as tie
@@ -25,7 +25,9 @@ is-allowed-requires : tie.Need-is-allowed-requires
 is-allowed-requires c κs = search needs
 
 returns : tie.Need-returns
-returns c = permits-second _ (c .before .before .before .before .before .before .before .pre .0) (c .before .before .before .before .before .before .before .pre .2) (c .before .before .before .before .if1 .taken) (c .is-allowed .ensures)
+returns c = permits-second _ (c .before .before .before .before .before .before .before .pre .0)
+    (c .before .before .before .before .before .before .before .pre .2)
+    (c .before .before .before .before .if1 .taken) (c .is-allowed .ensures)
 
 returns-2 : tie.Need-returns-2
 returns-2 c = permits-first _ (c .if1 .left)

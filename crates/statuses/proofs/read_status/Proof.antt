@@ -1,4 +1,4 @@
-use Rattle.statuses.specs.Answers.{read-good, read-wrong}
+use Rattle.statuses.specs.AnswersLaws.{read-good, read-wrong}
 use borrow.Author.Needs.{needs}
 use Rattle.statuses.proofs.read_status.Statement.{statement}
 use Rattle.statuses.proofs.read_status.Tie as tie

@@ -1,5 +1,5 @@
 use native.Mathlib.Omega.{arith}
-use Rattle.statuses.specs.Lookup.{Left, lookup-hit, lookup-miss, lookup-end}
+use Rattle.statuses.specs.LookupLaws.{Left, lookup-hit, lookup-miss, lookup-end}
 use mathlib.Core.Path.{refl}
 use Prim.Native.Nat.{_≤_, _-_}
 use Rattle.statuses.proofs.row_of.Statement.{statement}

@@ -1,4 +1,4 @@
-use Rattle.model.specs.Levels.{most-levels}
+use Rattle.model.specs.LevelsLaws.{most-levels}
 use Rattle.model.specs.Monitors.{settingsGood, ordered}
 use borrow.Author.Needs.{needs}
 use Rattle.statuses.proofs.settings_good.Statement.{statement}

@@ -1,6 +1,6 @@
 use mathlib.Core.Path.{sym}
 use borrow.Author.Tests.{eq-eqb, ne-eqb}
-use Rattle.laws.specs.Tests.{pick-true, pick-false}
+use Rattle.laws.specs.TestsLaws.{pick-true, pick-false}
 use Rattle.statuses.specs.Statuses.{typeBy}
 use Rattle.statuses.proofs.type_at.Statement.{statement}
 use Rattle.statuses.proofs.type_at.Tie as tie

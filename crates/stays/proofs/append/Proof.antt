@@ -5,7 +5,7 @@ use Rattle.texts.specs.Text.{room, told}
 use mathlib.Core.List.{_++_}
 use lib.ListN.{length, take}
 use lib.Seq.{length-take-le}
-use Rattle.stays.specs.Rows.{cut-long}
+use Rattle.stays.specs.RowsLaws.{cut-long}
 use borrow.Author.Needs.{needs}
 use Rattle.stays.proofs.append.Statement.{statement}
 use Rattle.stays.proofs.append.Tie as tie
@@ -13,35 +13,34 @@ use Rattle.stays.proofs.append.Reads as reads
 use Rattle.stays.proofs.append.Lts as lts
 use Rattle.texts.proofs.words.with.Reads as with-reads
 
--- src/lib.rt:189:31
 array-share-prefix-octets : tie.Need-array-share-prefix-octets
-array-share-prefix-octets c = let l : length (c .before .before .args .value .octets) ≡ 256 = search needs in omega (arith, l)
+array-share-prefix-octets c = let l : length (c .before .before .args .value .octets) ≡ 256 =
+    search needs in omega (arith, l)
 
--- src/lib.rt:189:31
 slice-aggregate-with : tie.Need-slice-aggregate-with
-slice-aggregate-with c = let l : length (c .before .before .before .args .value .octets) ≡ 256 = search needs in sym (length-take-le _ _ (omega (arith, l)))
+slice-aggregate-with c = let l : length (c .before .before .before .args .value .octets) ≡ 256 =
+    search needs in sym (length-take-le _ _ (omega (arith, l)))
 
--- src/lib.rt:189:9
 with-requires : tie.Need-with-requires
 with-requires c κs = search needs
 
--- src/lib.rt:189:9
 returns : tie.Need-returns
 unfolding told
 returns c = c .with .ensures
 
--- src/lib.rt:191:20
 slice-aggregate-with-2 : tie.Need-slice-aggregate-with-2
 slice-aggregate-with-2 c = search needs
 
--- src/lib.rt:191:5
 with-requires-2 : tie.Need-with-requires-2
 with-requires-2 c κs = search needs
 
--- src/lib.rt:183:1
 returns-2 : tie.Need-returns-2
 unfolding told
-returns-2 c = let l : length (c .before .before .before .before .args .value .octets) ≡ 256 = search needs in c .with2 .ensures ∙ ap (λ x. take room (told (c .before .before .before .before .args .t) ++ x)) (sym (cut-long (c .before .before .before .before .args .value .octets) (c .before .before .before .before .args .value .count) l (omega arith)))
+returns-2 c = let l : length (c .before .before .before .before .args .value .octets) ≡ 256 =
+    search needs in c .with2 .ensures
+    ∙ ap (λ x. take room (told (c .before .before .before .before .args .t) ++ x))
+    (sym (cut-long (c .before .before .before .before .args .value .octets)
+    (c .before .before .before .before .args .value .count) l (omega arith)))
 
 pub append-spec : {M : Type 1} → statement M
 append-spec =

@@ -11,19 +11,15 @@ use Rattle.stays.proofs.blanks.Reads as reads
 use Rattle.stays.proofs.blanks.Lts as lts
 use Rattle.texts.proofs.words.with.Reads as with-reads
 
--- src/lib.rt:179:20
 array-share-prefix-all : tie.Need-array-share-prefix-all
 array-share-prefix-all c = search needs
 
--- src/lib.rt:179:20
 slice-aggregate-with : tie.Need-slice-aggregate-with
 slice-aggregate-with c = sym (length-take-le _ _ (omega arith))
 
--- src/lib.rt:179:5
 with-requires : tie.Need-with-requires
 with-requires c κs = search needs
 
--- src/lib.rt:174:1
 returns : tie.Need-returns
 unfolding blanksOf
 returns c = c .with .ensures

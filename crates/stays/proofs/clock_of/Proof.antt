@@ -1,4 +1,4 @@
-use Rattle.stays.specs.Clocks.{clock-so}
+use Rattle.stays.specs.ClocksLaws.{clock-so}
 use borrow.Author.Needs.{needs}
 use Rattle.stays.proofs.clock_of.Statement.{statement}
 use Rattle.stays.proofs.clock_of.Tie as tie
@@ -7,49 +7,40 @@ use Rattle.stays.proofs.clock_of.Lts as lts
 use Rattle.octets.proofs.get8.Reads as get8-reads
 use Rattle.stays.proofs.two_at.Reads as two-at-reads
 
--- src/lib.rt:285:9
 two-at-requires : tie.Need-two-at-requires
 two-at-requires c κs = search needs
 
--- src/lib.rt:286:9
 two-at-requires-2 : tie.Need-two-at-requires-2
 two-at-requires-2 c κs = search needs
 
--- src/lib.rt:287:9
 two-at-requires-3 : tie.Need-two-at-requires-3
 two-at-requires-3 c κs = search needs
 
--- src/lib.rt:288:17
 get8-requires : tie.Need-get8-requires
 get8-requires c κs = search needs
 
--- src/lib.rt:289:18
 get8-requires-2 : tie.Need-get8-requires-2
 get8-requires-2 c κs = search needs
 
--- src/lib.rt:293:16
 mul-t16 : tie.Need-mul-t16
 mul-t16 c = search needs
 
--- src/lib.rt:293:27
 mul-t17 : tie.Need-mul-t17
 mul-t17 c = search needs
 
--- src/lib.rt:293:16
 add-t18 : tie.Need-add-t18
 add-t18 c = search needs
 
--- src/lib.rt:293:16
 add-t19 : tie.Need-add-t19
 add-t19 c = search needs
 
--- src/lib.rt:293:15
 mul-t20 : tie.Need-mul-t20
 mul-t20 c = search needs
 
--- src/lib.rt:282:1
 returns : tie.Need-returns
-returns c = clock-so (c .before .before .before .before .before .before .args .word .now) (c .before .before .before .before .two-at .ensures .0) (c .before .before .before .two-at2 .ensures .0) (c .before .before .two-at3 .ensures .0) (c .before .get8 .ensures) (c .get82 .ensures)
+returns c = clock-so (c .before .before .before .before .before .before .args .word .now)
+    (c .before .before .before .before .two-at .ensures .0) (c .before .before .before .two-at2 .ensures .0)
+    (c .before .before .two-at3 .ensures .0) (c .before .get8 .ensures) (c .get82 .ensures)
 
 pub clock-of-spec : {M : Type 1} → statement M
 clock-of-spec =

@@ -4,21 +4,21 @@ use native.Mathlib.Omega.{arith}
 use Rattle.model.specs.Quoted.{codes}
 use Rattle.texts.specs.Text.{room, told}
 use lib.ListN.{length, take}
-use Rattle.stays.specs.Rows.{long-short, long-long}
+use Rattle.stays.specs.RowsLaws.{long-short, long-long}
 use Rattle.stays.proofs.long.Statement.{statement}
 use Rattle.stays.proofs.long.Tie as tie
 use Rattle.stays.proofs.long.Reads as reads
 use Rattle.stays.proofs.long.Lts as lts
 
--- src/lib.rt:199:9
 returns : tie.Need-returns
 unfolding told
-returns c = let l : length (c .before .before .args .t .octets) ≡ 256 = search needs in long-short (c .before .before .args .t .octets) (c .before .before .args .t .count) l (omega arith)
+returns c = let l : length (c .before .before .args .t .octets) ≡ 256 =
+    search needs in long-short (c .before .before .args .t .octets) (c .before .before .args .t .count) l (omega arith)
 
--- src/lib.rt:195:1
 returns-2 : tie.Need-returns-2
 unfolding told
-returns-2 c = let l : length (c .before .before .args .t .octets) ≡ 256 = search needs in long-long (c .before .before .args .t .octets) (c .before .before .args .t .count) l (omega arith)
+returns-2 c = let l : length (c .before .before .args .t .octets) ≡ 256 =
+    search needs in long-long (c .before .before .args .t .octets) (c .before .before .args .t .count) l (omega arith)
 
 pub long-spec : {M : Type 1} → statement M
 long-spec = tie.close (tie.spec returns returns-2)

@@ -2,7 +2,7 @@ use mathlib.Core.Path.{_≡_, refl, sym, ap, _∙_}
 use native.Mathlib.Omega.{arith}
 use Rattle.model.specs.Quoted.{codes}
 use Rattle.texts.specs.Text.{room, told}
-use Rattle.stays.specs.Rows.{none-table, none-csv, none-json}
+use Rattle.stays.specs.RowsLaws.{none-table, none-csv, none-json}
 use borrow.Author.Needs.{needs}
 use Rattle.stays.proofs.none.Statement.{statement}
 use Rattle.stays.proofs.none.Tie as tie
@@ -10,44 +10,40 @@ use Rattle.stays.proofs.none.Reads as reads
 use Rattle.stays.proofs.none.Lts as lts
 use Rattle.texts.proofs.words.with.Reads as with-reads
 
--- src/lib.rt:56:31
 slice-aggregate-with : tie.Need-slice-aggregate-with
 slice-aggregate-with c = search needs
 
--- src/lib.rt:56:9
 with-requires : tie.Need-with-requires
 with-requires c κs = search needs
 
--- src/lib.rt:56:9
 returns : tie.Need-returns
 unfolding codes
-returns c = none-table (told (c .before .before .before .args .t)) (c .before .before .before .args .style) (c .before .before .if1 .taken) (c .with .ensures)
+returns c = none-table (told (c .before .before .before .args .t)) (c .before .before .before .args .style)
+    (c .before .before .if1 .taken) (c .with .ensures)
 
--- src/lib.rt:59:31
 slice-aggregate-with-2 : tie.Need-slice-aggregate-with-2
 slice-aggregate-with-2 c = search needs
 
--- src/lib.rt:59:9
 with-requires-2 : tie.Need-with-requires-2
 with-requires-2 c κs = search needs
 
--- src/lib.rt:59:9
 returns-2 : tie.Need-returns-2
 unfolding codes
-returns-2 c = none-csv (told (c .before .before .before .before .args .t)) (c .before .before .before .before .args .style) (c .before .before .before .if1 .left) (c .before .before .if2 .taken) (c .with2 .ensures)
+returns-2 c = none-csv (told (c .before .before .before .before .args .t))
+    (c .before .before .before .before .args .style) (c .before .before .before .if1 .left)
+    (c .before .before .if2 .taken) (c .with2 .ensures)
 
--- src/lib.rt:61:20
 slice-aggregate-with-3 : tie.Need-slice-aggregate-with-3
 slice-aggregate-with-3 c = search needs
 
--- src/lib.rt:61:5
 with-requires-3 : tie.Need-with-requires-3
 with-requires-3 c κs = search needs
 
--- src/lib.rt:52:1
 returns-3 : tie.Need-returns-3
 unfolding codes
-returns-3 c = none-json (told (c .before .before .before .before .args .t)) (c .before .before .before .before .args .style) (c .before .before .before .if1 .left) (c .before .before .if2 .left) (c .with3 .ensures)
+returns-3 c = none-json (told (c .before .before .before .before .args .t))
+    (c .before .before .before .before .args .style) (c .before .before .before .if1 .left)
+    (c .before .before .if2 .left) (c .with3 .ensures)
 
 pub none-spec : {M : Type 1} → statement M
 none-spec =

@@ -2,7 +2,7 @@ use mathlib.Core.Path.{_≡_, refl, sym, ap, _∙_}
 use native.Mathlib.Omega.{arith}
 use Rattle.model.specs.Quoted.{codes}
 use Rattle.texts.specs.Text.{room, told}
-use Rattle.stays.specs.Rows.{put-so}
+use Rattle.stays.specs.RowsLaws.{put-so}
 use borrow.Author.Needs.{needs}
 use Rattle.stays.proofs.put.Statement.{statement}
 use Rattle.stays.proofs.put.Tie as tie
@@ -14,29 +14,30 @@ use Rattle.stays.proofs.gap.Reads as gap-reads
 use Rattle.stays.proofs.lead.Reads as lead-reads
 use Rattle.stays.proofs.long.Reads as long-reads
 
--- src/lib.rt:208:9
 lead-requires : tie.Need-lead-requires
 lead-requires c κs = search needs
 
--- src/lib.rt:209:9
 append-requires : tie.Need-append-requires
 append-requires c κs = search needs
 
--- src/lib.rt:210:31
 long-requires : tie.Need-long-requires
 long-requires c κs = search needs
 
--- src/lib.rt:210:9
 gap-requires : tie.Need-gap-requires
 gap-requires c κs = search needs
 
--- src/lib.rt:211:5
 blanks-requires : tie.Need-blanks-requires
 blanks-requires c κs = search needs
 
--- src/lib.rt:205:1
 returns : tie.Need-returns
-returns c = put-so (told (c .before .before .before .before .before .before .before .args .t)) (c .before .before .before .before .before .before .before .args .style) (c .before .before .before .before .before .before .before .args .csv .now) (c .before .before .before .before .before .before .before .args .json .now) (c .before .before .before .before .before .before .before .args .width) (told (c .before .before .before .before .before .before .before .args .value)) _ _ (c .before .before .before .before .lead .ensures) (c .before .before .before .append .ensures) (c .before .before .long .ensures) (c .before .gap .ensures .0) (c .blanks .ensures)
+returns c = put-so (told (c .before .before .before .before .before .before .before .args .t))
+    (c .before .before .before .before .before .before .before .args .style)
+    (c .before .before .before .before .before .before .before .args .csv .now)
+    (c .before .before .before .before .before .before .before .args .json .now)
+    (c .before .before .before .before .before .before .before .args .width)
+    (told (c .before .before .before .before .before .before .before .args .value)) _ _
+    (c .before .before .before .before .lead .ensures) (c .before .before .before .append .ensures)
+    (c .before .before .long .ensures) (c .before .gap .ensures .0) (c .blanks .ensures)
 
 pub put-spec : {M : Type 1} → statement M
 put-spec =

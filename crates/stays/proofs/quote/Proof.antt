@@ -2,7 +2,7 @@ use mathlib.Core.Path.{_≡_, refl, sym, ap, _∙_}
 use native.Mathlib.Omega.{arith}
 use Rattle.model.specs.Quoted.{codes}
 use Rattle.texts.specs.Text.{room, told}
-use Rattle.stays.specs.Rows.{quote-json, quote-none}
+use Rattle.stays.specs.RowsLaws.{quote-json, quote-none}
 use borrow.Author.Needs.{needs}
 use Rattle.stays.proofs.quote.Statement.{statement}
 use Rattle.stays.proofs.quote.Tie as tie
@@ -10,31 +10,27 @@ use Rattle.stays.proofs.quote.Reads as reads
 use Rattle.stays.proofs.quote.Lts as lts
 use Rattle.texts.proofs.words.with.Reads as with-reads
 
--- src/lib.rt:69:31
 slice-aggregate-with : tie.Need-slice-aggregate-with
 slice-aggregate-with c = search needs
 
--- src/lib.rt:69:9
 with-requires : tie.Need-with-requires
 with-requires c κs = search needs
 
--- src/lib.rt:69:9
 returns : tie.Need-returns
 unfolding codes
-returns c = quote-json (told (c .before .before .before .args .t)) (c .before .before .before .args .style) (c .before .before .if1 .taken) (c .with .ensures)
+returns c = quote-json (told (c .before .before .before .args .t)) (c .before .before .before .args .style)
+    (c .before .before .if1 .taken) (c .with .ensures)
 
--- src/lib.rt:71:20
 slice-aggregate-with-2 : tie.Need-slice-aggregate-with-2
 slice-aggregate-with-2 c = search needs
 
--- src/lib.rt:71:5
 with-requires-2 : tie.Need-with-requires-2
 with-requires-2 c κs = search needs
 
--- src/lib.rt:65:1
 returns-2 : tie.Need-returns-2
 unfolding codes
-returns-2 c = quote-none (told (c .before .before .before .args .t)) (c .before .before .before .args .style) (c .before .before .if1 .left) (c .with2 .ensures)
+returns-2 c = quote-none (told (c .before .before .before .args .t)) (c .before .before .before .args .style)
+    (c .before .before .if1 .left) (c .with2 .ensures)
 
 pub quote-spec : {M : Type 1} → statement M
 quote-spec =

@@ -1,6 +1,6 @@
 use Rattle.model.specs.Quoted.{codes}
 use Rattle.texts.specs.Text.{told}
-use Rattle.texts.specs.Words.{colon-so}
+use Rattle.texts.specs.WordsLaws.{colon-so}
 use borrow.Author.Needs.{needs}
 use Rattle.texts.proofs.colon_pair.Statement.{statement}
 use Rattle.texts.proofs.colon_pair.Tie as tie
@@ -10,26 +10,22 @@ use Rattle.texts.proofs.octet.Reads as octet-reads
 use Rattle.texts.proofs.pair.Reads as pair-reads
 use Rattle.texts.proofs.words.with.Reads as with-reads
 
--- src/lib.rt:60:25
 slice-aggregate-with : tie.Need-slice-aggregate-with
 slice-aggregate-with c = search needs
 
--- src/lib.rt:60:10
 with-requires : tie.Need-with-requires
 with-requires c κs = search needs
 
--- src/lib.rt:60:32
 octet-requires : tie.Need-octet-requires
 octet-requires c κs = search needs
 
--- src/lib.rt:60:5
 pair-requires : tie.Need-pair-requires
 pair-requires c κs = search needs
 
--- src/lib.rt:57:1
 returns : tie.Need-returns
 unfolding codes
-returns c = colon-so (told (c .before .before .before .before .args .t)) (c .before .before .before .before .args .v) _ (c .before .octet .ensures) (c .before .before .with .ensures) (c .pair .ensures)
+returns c = colon-so (told (c .before .before .before .before .args .t)) (c .before .before .before .before .args .v)
+    _ (c .before .octet .ensures) (c .before .before .with .ensures) (c .pair .ensures)
 
 pub colon-pair-spec : {M : Type 1} → statement M
 colon-pair-spec =

@@ -1,5 +1,5 @@
 use Rattle.texts.specs.Text.{told}
-use Rattle.texts.specs.Words.{pair-so}
+use Rattle.texts.specs.WordsLaws.{pair-so}
 use borrow.Author.Needs.{needs}
 use Rattle.texts.proofs.pair.Statement.{statement}
 use Rattle.texts.proofs.pair.Tie as tie
@@ -8,25 +8,21 @@ use Rattle.texts.proofs.pair.Lts as lts
 use Rattle.texts.proofs.digit.Reads as digit-reads
 use Rattle.texts.proofs.words.with.Reads as with-reads
 
--- src/lib.rt:52:16
 digit-requires : tie.Need-digit-requires
 digit-requires c κs = search needs
 
--- src/lib.rt:52:31
 digit-requires-2 : tie.Need-digit-requires-2
 digit-requires-2 c κs = search needs
 
--- src/lib.rt:53:20
 slice-aggregate-with : tie.Need-slice-aggregate-with
 slice-aggregate-with c = search needs
 
--- src/lib.rt:53:5
 with-requires : tie.Need-with-requires
 with-requires c κs = search needs
 
--- src/lib.rt:49:1
 returns : tie.Need-returns
-returns c = pair-so (told (c .before .before .before .before .args .t)) (c .before .before .before .before .args .x) _ _ (c .before .before .before .digit .ensures) (c .before .before .digit2 .ensures) (c .with .ensures)
+returns c = pair-so (told (c .before .before .before .before .args .t)) (c .before .before .before .before .args .x) _
+    _ (c .before .before .before .digit .ensures) (c .before .before .digit2 .ensures) (c .with .ensures)
 
 pub pair-spec : {M : Type 1} → statement M
 pair-spec =

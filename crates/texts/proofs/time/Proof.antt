@@ -1,6 +1,6 @@
 use Rattle.model.specs.Quoted.{codes}
 use Rattle.texts.specs.Text.{told}
-use Rattle.texts.specs.Words.{time-so}
+use Rattle.texts.specs.WordsLaws.{time-so}
 use borrow.Author.Needs.{needs}
 use Rattle.texts.proofs.time.Statement.{statement}
 use Rattle.texts.proofs.time.Tie as tie
@@ -10,50 +10,45 @@ use Rattle.texts.proofs.two.Reads as two-reads
 use Rattle.texts.proofs.words.said.Reads as said-reads
 use Rattle.texts.proofs.words.with.Reads as with-reads
 
--- src/lib.rt:100:32
 slice-aggregate-said : tie.Need-slice-aggregate-said
 slice-aggregate-said c = search needs
 
--- src/lib.rt:100:9
 said-requires : tie.Need-said-requires
 said-requires c κs = search needs
 
--- src/lib.rt:101:42
 slice-aggregate-with : tie.Need-slice-aggregate-with
 slice-aggregate-with c = search needs
 
--- src/lib.rt:101:23
 with-requires : tie.Need-with-requires
 with-requires c κs = search needs
 
--- src/lib.rt:101:9
 two-requires : tie.Need-two-requires
 two-requires c κs = search needs
 
--- src/lib.rt:102:44
 slice-aggregate-with-2 : tie.Need-slice-aggregate-with-2
 slice-aggregate-with-2 c = search needs
 
--- src/lib.rt:102:23
 with-requires-2 : tie.Need-with-requires-2
 with-requires-2 c κs = search needs
 
--- src/lib.rt:102:9
 two-requires-2 : tie.Need-two-requires-2
 two-requires-2 c κs = search needs
 
--- src/lib.rt:103:26
 slice-aggregate-said-2 : tie.Need-slice-aggregate-said-2
 slice-aggregate-said-2 c = search needs
 
--- src/lib.rt:103:5
 said-requires-2 : tie.Need-said-requires-2
 said-requires-2 c κs = search needs
 
--- src/lib.rt:97:1
 returns : tie.Need-returns
 unfolding codes
-returns c = time-so (told (c .before .before .before .before .before .before .before .before .before .before .args .t)) (c .before .before .before .before .before .before .before .before .before .before .args .ticks) (c .before .before .before .before .before .before .before .before .said .ensures) (c .before .before .before .before .before .before .with .ensures) (c .before .before .before .before .before .two .ensures) (c .before .before .before .with2 .ensures) (c .before .before .two2 .ensures) (c .said2 .ensures)
+returns c = time-so
+    (told (c .before .before .before .before .before .before .before .before .before .before .args .t))
+    (c .before .before .before .before .before .before .before .before .before .before .args .ticks)
+    (c .before .before .before .before .before .before .before .before .said .ensures)
+    (c .before .before .before .before .before .before .with .ensures)
+    (c .before .before .before .before .before .two .ensures) (c .before .before .before .with2 .ensures)
+    (c .before .before .two2 .ensures) (c .said2 .ensures)
 
 pub time-spec : {M : Type 1} → statement M
 time-spec =

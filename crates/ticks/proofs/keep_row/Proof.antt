@@ -2,7 +2,7 @@ use Rattle.laws.specs.Rows.{row}
 use lib.ListN.{length}
 use Prim.Native.Nat.{_-_}
 use mathlib.Core.Path.{_≡_, refl}
-use Rattle.ticks.specs.Table.{moved-row, kept-row, length-of}
+use Rattle.ticks.specs.TableLaws.{moved-row, kept-row, length-of}
 use native.Mathlib.Omega.{arith}
 use borrow.Author.Needs.{needs}
 use Rattle.ticks.proofs.keep_row.Statement.{statement}
@@ -13,44 +13,39 @@ use Rattle.ticks.proofs.advance.Reads as advance-reads
 use Rattle.ticks.proofs.move_row.Reads as move-row-reads
 use Rattle.model.specs.Layout.{pairSize}
 
--- src/lib.rt:144:5
 move-row-requires : tie.Need-move-row-requires
 move-row-requires c κs = search needs
 
--- src/lib.rt:145:17
 mul-start : tie.Need-mul-start
 mul-start c = search needs
 
--- src/lib.rt:146:15
 add-end : tie.Need-add-end
 add-end c = search needs
 
--- src/lib.rt:147:13
 sub-advance : tie.Need-sub-advance
 sub-advance c = search needs
 
--- src/lib.rt:147:13
 part-advance-start : tie.Need-part-advance-start
 part-advance-start c = search needs
 
--- src/lib.rt:147:13
 part-advance-end : tie.Need-part-advance-end
 part-advance-end c = search needs
 
--- src/lib.rt:147:5
 advance-requires : tie.Need-advance-requires
 advance-requires c κs = let a = c .before .before .before .before .before .before .args in
-    let n : length (row pairSize (a .from) (a .t .now)) ≡ pairSize = length-of (a .from) (a .t .now) (omega arith) (omega arith) in
-    rw (moved-row (a .to) (a .from) (a .period) (a .t .now) (omega arith) (omega arith) (omega arith) (c .before .before .before .move-row .ensures)) (omega arith, omega arith)
+    let n : length (row pairSize (a .from) (a .t .now)) ≡ pairSize =
+    length-of (a .from) (a .t .now) (omega arith) (omega arith) in
+    rw (moved-row (a .to) (a .from) (a .period) (a .t .now) (omega arith) (omega arith) (omega arith)
+    (c .before .before .before .move-row .ensures)) (omega arith, omega arith)
 
--- src/lib.rt:140:1
 same-length : tie.Need-same-length
 same-length c = search needs
 
--- src/lib.rt:140:1
 returns : tie.Need-returns
 returns c = let a = c .before .before .before .before .before .before .before .before .before .args in
-    kept-row (a .to) (a .from) (a .period) (a .t .now) (omega arith) (omega arith) (omega arith) (c .before .before .before .before .before .before .move-row .ensures) (c .before .before .advance .ensures) refl
+    kept-row (a .to) (a .from) (a .period) (a .t .now) (omega arith) (omega arith) (omega arith)
+    (c .before .before .before .before .before .before .move-row .ensures) (c .before .before .advance .ensures)
+    refl
 
 pub keep-row-spec : {M : Type 1} → statement M
 keep-row-spec =

@@ -1,4 +1,4 @@
-use Rattle.ticks.specs.Table.{move-same, move-down}
+use Rattle.ticks.specs.TableLaws.{move-same, move-down}
 use native.Mathlib.Omega.{arith}
 use borrow.Author.Needs.{needs}
 use Rattle.ticks.proofs.move_row.Statement.{statement}
@@ -7,29 +7,26 @@ use Rattle.ticks.proofs.move_row.Reads as reads
 use Rattle.ticks.proofs.move_row.Lts as lts
 use Rattle.parts.proofs.shift.Reads as shift-reads
 
--- src/lib.rt:134:9
 returns : tie.Need-returns
-returns c = let a = c .before .before .args in move-same (a .to) (a .from) (a .t .now) (omega arith) (omega arith) (omega arith)
+returns c = let a =
+    c .before .before .args in move-same (a .to) (a .from) (a .t .now) (omega arith) (omega arith) (omega arith)
 
--- src/lib.rt:136:21
 mul-shift : tie.Need-mul-shift
 mul-shift c = search needs
 
--- src/lib.rt:136:30
 mul-shift-2 : tie.Need-mul-shift-2
 mul-shift-2 c = search needs
 
--- src/lib.rt:136:5
 shift-requires : tie.Need-shift-requires
 shift-requires c κs = search needs
 
--- src/lib.rt:129:1
 same-length : tie.Need-same-length
 same-length c = search needs
 
--- src/lib.rt:129:1
 returns-2 : tie.Need-returns-2
-returns-2 c = let a = c .before .before .before .before .before .before .args in move-down (a .to) (a .from) (a .t .now) (omega arith) (omega arith) (omega arith) (c .before .before .shift .ensures .0) (c .before .before .shift .ensures .1)
+returns-2 c = let a =
+    c .before .before .before .before .before .before .args in move-down (a .to) (a .from) (a .t .now) (omega arith)
+    (omega arith) (omega arith) (c .before .before .shift .ensures .0) (c .before .before .shift .ensures .1)
 
 pub move-row-spec : {M : Type 1} → statement M
 move-row-spec =

@@ -1,5 +1,5 @@
 use Prim.Native.Nat.{_*_}
-use Rattle.ticks.specs.Table.{turn-room, silent-most, turn-stays, turn-ends}
+use Rattle.ticks.specs.TableLaws.{turn-room, silent-most, turn-stays, turn-ends}
 use native.Mathlib.Omega.{arith}
 use borrow.Author.Needs.{needs}
 use Rattle.ticks.proofs.tick_row.Statement.{statement}
@@ -14,107 +14,127 @@ use Rattle.ticks.proofs.tells.tell.Reads as tell-reads
 use Rattle.state.proofs.Seconds.ticks.Reads as ticks-reads
 use Rattle.model.specs.Layout.{pairSize}
 
--- src/lib.rt:171:17
 mul-start : tie.Need-mul-start
 mul-start c = search needs
 
--- src/lib.rt:172:15
 add-end : tie.Need-add-end
 add-end c = search needs
 
--- src/lib.rt:173:18
 slice-read-handle : tie.Need-slice-read-handle
 slice-read-handle c = search needs
 
--- src/lib.rt:173:18
 cast-handle : tie.Need-cast-handle
-cast-handle c = omega (arith, c .slice-known3 .given (pairSize * c .before .before .before .before .before .before .before .args .i))
+cast-handle c = omega
+    (arith, c .slice-known3 .given (pairSize * c .before .before .before .before .before .before .before .args .i))
 
--- src/lib.rt:174:46
 octet-at-requires : tie.Need-octet-at-requires
 octet-at-requires c κs = search needs
 
--- src/lib.rt:174:9
 ticks-requires : tie.Need-ticks-requires
 ticks-requires c κs = search needs
 
--- src/lib.rt:175:9
 octet-at-requires-2 : tie.Need-octet-at-requires-2
 octet-at-requires-2 c κs = search needs
 
--- src/lib.rt:176:35
 add-get16 : tie.Need-add-get16
 add-get16 c = search needs
 
--- src/lib.rt:176:9
 get16-requires : tie.Need-get16-requires
 get16-requires c κs = search needs
 
--- src/lib.rt:177:9
 stays-requires : tie.Need-stays-requires
 stays-requires c κs = search needs
 
--- src/lib.rt:178:27
 sub-tell : tie.Need-sub-tell
 sub-tell c = search needs
 
--- src/lib.rt:178:27
 part-tell-start : tie.Need-part-tell-start
 part-tell-start c = search needs
 
--- src/lib.rt:178:27
 part-tell-end : tie.Need-part-tell-end
 part-tell-end c = search needs
 
--- src/lib.rt:178:22
 tell-requires : tie.Need-tell-requires
 tell-requires c κs = search needs
 
--- src/lib.rt:178:17
 add-wrote : tie.Need-add-wrote
-add-wrote c = let a = c .before .before .before .before .before .before .before .before .before .before .before .before .before .before .before .before .before .before .before .args in
-    let n = turn-room (a .intervals .now) (a .periods .now) (a .filters .now) (a .prefix .now) (a .t .now) (a .out .now) (a .i) (a .kept) (a .at) (omega arith) (omega arith) (omega arith)
-    (c .before .before .before .before .before .before .before .before .before .before .before .octet-at .ensures) (c .before .before .before .before .before .before .before .before .before .before .ticks .ensures) (c .before .before .before .before .before .before .before .before .before .octet-at2 .ensures) (c .before .before .before .before .before .before .before .get16 .ensures) (c .before .before .before .before .before .before .stays .ensures) (c .before .before .tell .ensures) in
-    omega (arith, n, c .before .before .before .before .before .before .before .before .before .before .before .before .before .before .before .before .before .before .before .good .1 .1 .1 .0 .0)
+add-wrote c = let a =
+    c .before .before .before .before .before .before .before .before .before .before .before .before .before .before
+    .before .before .before .before .before .args in
+    let n = turn-room (a .intervals .now) (a .periods .now) (a .filters .now) (a .prefix .now) (a .t .now)
+    (a .out .now) (a .i) (a .kept) (a .at) (omega arith) (omega arith) (omega arith)
+    (c .before .before .before .before .before .before .before .before .before .before .before .octet-at .ensures)
+    (c .before .before .before .before .before .before .before .before .before .before .ticks .ensures)
+    (c .before .before .before .before .before .before .before .before .before .octet-at2 .ensures)
+    (c .before .before .before .before .before .before .before .get16 .ensures)
+    (c .before .before .before .before .before .before .stays .ensures) (c .before .before .tell .ensures) in
+    omega (
+      arith,
+      n,
+      c .before .before .before .before .before .before .before .before .before .before .before .before .before
+          .before .before .before .before .before .before .good .1 .1 .1 .0 .0,
+    )
 
--- src/lib.rt:180:9
 keep-row-requires : tie.Need-keep-row-requires
-keep-row-requires c κs = let a = c .before .before .before .before .before .before .before .before .before .before .before .before .before .before .before .before .before .before .before .before .before .args in
-    let n = silent-most (a .intervals .now) (a .periods .now) (a .filters .now) (a .prefix .now) (a .t .now) (a .out .now) (a .i) (a .kept) (a .at) (omega arith) (omega arith) (omega arith)
-    (c .before .before .before .before .before .before .before .before .before .before .before .before .before .octet-at .ensures) (c .before .before .before .before .before .before .before .before .before .before .before .before .ticks .ensures) (c .before .before .before .before .before .before .before .before .before .before .before .octet-at2 .ensures) (c .before .before .before .before .before .before .before .before .before .get16 .ensures) (c .before .before .before .before .before .before .before .before .stays .ensures) (c .before .before .before .before .tell .ensures) (c .before .if1 .taken) (search needs) in
+keep-row-requires c κs = let a =
+    c .before .before .before .before .before .before .before .before .before .before .before .before .before .before
+    .before .before .before .before .before .before .before .args in
+    let n = silent-most (a .intervals .now) (a .periods .now) (a .filters .now) (a .prefix .now) (a .t .now)
+    (a .out .now) (a .i) (a .kept) (a .at) (omega arith) (omega arith) (omega arith)
+    (c .before .before .before .before .before .before .before .before .before .before .before .before .before
+    .octet-at .ensures)
+    (c .before .before .before .before .before .before .before .before .before .before .before .before .ticks
+    .ensures) (c .before .before .before .before .before .before .before .before .before .before .before
+    .octet-at2 .ensures)
+    (c .before .before .before .before .before .before .before .before .before .get16 .ensures)
+    (c .before .before .before .before .before .before .before .before .stays .ensures)
+    (c .before .before .before .before .tell .ensures) (c .before .if1 .taken) (search needs) in
     (omega arith, omega arith, omega arith, n)
 
--- src/lib.rt:181:29
 add-next : tie.Need-add-next
 add-next c = search needs
 
--- src/lib.rt:181:9
 same-length : tie.Need-same-length
 same-length c = search needs
 
--- src/lib.rt:181:9
 same-length-2 : tie.Need-same-length-2
 same-length-2 c = search needs
 
--- src/lib.rt:181:9
 returns : tie.Need-returns
-returns c = let a = c .before .before .before .before .before .before .before .before .before .before .before .before .before .before .before .before .before .before .before .before .before .before .before .before .args in
-    turn-stays (a .intervals .now) (a .periods .now) (a .filters .now) (a .prefix .now) (a .t .now) (a .out .now) (a .i) (a .kept) (a .at) (omega arith) (omega arith) (omega arith)
-    (c .before .before .before .before .before .before .before .before .before .before .before .before .before .before .before .before .octet-at .ensures) (c .before .before .before .before .before .before .before .before .before .before .before .before .before .before .before .ticks .ensures) (c .before .before .before .before .before .before .before .before .before .before .before .before .before .before .octet-at2 .ensures) (c .before .before .before .before .before .before .before .before .before .before .before .before .get16 .ensures) (c .before .before .before .before .before .before .before .before .before .before .before .stays .ensures) (c .before .before .before .before .before .before .before .tell .ensures) (c .before .before .before .before .if1 .taken) (c .before .before .keep-row .ensures)
+returns c = let a =
+    c .before .before .before .before .before .before .before .before .before .before .before .before .before .before
+    .before .before .before .before .before .before .before .before .before .before .args in
+    turn-stays (a .intervals .now) (a .periods .now) (a .filters .now) (a .prefix .now) (a .t .now) (a .out .now)
+    (a .i) (a .kept) (a .at) (omega arith) (omega arith) (omega arith)
+    (c .before .before .before .before .before .before .before .before .before .before .before .before .before .before
+    .before .before .octet-at .ensures)
+    (c .before .before .before .before .before .before .before .before .before .before .before .before .before
+    .before .before .ticks .ensures)
+    (c .before .before .before .before .before .before .before .before .before .before .before .before .before
+    .before .octet-at2 .ensures)
+    (c .before .before .before .before .before .before .before .before .before .before .before .before .get16
+    .ensures) (c .before .before .before .before .before .before .before .before .before .before .before .stays
+    .ensures) (c .before .before .before .before .before .before .before .tell .ensures)
+    (c .before .before .before .before .if1 .taken) (c .before .before .keep-row .ensures)
 
--- src/lib.rt:167:1
 same-length-3 : tie.Need-same-length-3
 same-length-3 c = search needs
 
--- src/lib.rt:167:1
 same-length-4 : tie.Need-same-length-4
 same-length-4 c = search needs
 
--- src/lib.rt:167:1
 returns-2 : tie.Need-returns-2
-returns-2 c = let a = c .before .before .before .before .before .before .before .before .before .before .before .before .before .before .before .before .before .before .before .before .args in
-    turn-ends (a .intervals .now) (a .periods .now) (a .filters .now) (a .prefix .now) (a .t .now) (a .out .now) (a .i) (a .kept) (a .at) (omega arith) (omega arith) (omega arith)
-    (c .before .before .before .before .before .before .before .before .before .before .before .before .octet-at .ensures) (c .before .before .before .before .before .before .before .before .before .before .before .ticks .ensures) (c .before .before .before .before .before .before .before .before .before .before .octet-at2 .ensures) (c .before .before .before .before .before .before .before .before .get16 .ensures) (c .before .before .before .before .before .before .before .stays .ensures) (c .before .before .before .tell .ensures) (c .if1 .left)
+returns-2 c = let a =
+    c .before .before .before .before .before .before .before .before .before .before .before .before .before .before
+    .before .before .before .before .before .before .args in
+    turn-ends (a .intervals .now) (a .periods .now) (a .filters .now) (a .prefix .now) (a .t .now) (a .out .now)
+    (a .i) (a .kept) (a .at) (omega arith) (omega arith) (omega arith)
+    (c .before .before .before .before .before .before .before .before .before .before .before .before .octet-at
+    .ensures) (c .before .before .before .before .before .before .before .before .before .before .before .ticks
+    .ensures) (c .before .before .before .before .before .before .before .before .before .before .octet-at2
+    .ensures) (c .before .before .before .before .before .before .before .before .get16 .ensures)
+    (c .before .before .before .before .before .before .before .stays .ensures)
+    (c .before .before .before .tell .ensures) (c .if1 .left)
 
 pub tick-row-spec : {M : Type 1} → statement M
 tick-row-spec =

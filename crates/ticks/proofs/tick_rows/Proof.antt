@@ -1,4 +1,4 @@
-use Rattle.ticks.specs.Calm.{calm-first}
+use Rattle.ticks.specs.CalmLaws.{calm-first}
 use borrow.Author.Needs.{needs}
 use Rattle.ticks.proofs.tick_rows.Statement.{statement}
 use Rattle.ticks.proofs.tick_rows.Tie as tie
@@ -7,26 +7,30 @@ use Rattle.ticks.proofs.tick_rows.Lts as lts
 use Rattle.ticks.proofs.calm.calm_rows.Reads as calm-rows-reads
 use Rattle.ticks.proofs.tick_rest.Reads as tick-rest-reads
 
--- src/lib.rt:170:9
 calm-rows-requires : tie.Need-calm-rows-requires
 calm-rows-requires c κs = search needs
 
--- src/lib.rt:171:5
 tick-rest-requires : tie.Need-tick-rest-requires
 tick-rest-requires c κs = search needs
 
--- src/lib.rt:158:1
 same-length : tie.Need-same-length
 same-length c = search needs
 
--- src/lib.rt:158:1
 same-length-2 : tie.Need-same-length-2
 same-length-2 c = search needs
 
--- src/lib.rt:158:1
 returns : tie.Need-returns
-returns c = let a = c .before .before .before .before .before .before .before .before .before .before .before .before .before .before .before .before .before .args in let x = c .before .before .before .before .tick-rest in let y = c .before .before .before .before .before .before .before .before .before .calm-rows in
-    (x .ensures .0, x .ensures .1, x .ensures .2 (a .t .now) (calm-first (a .intervals .now) (a .periods .now) (a .t .now) (a .out .now) (a .filters .now) (a .prefix .now) (y .result) (c .before .before .before .before .before .before .before .before .before .before .before .before .before .before .before .before .before .pre .3) (y .ensures .2)))
+returns c = let a =
+    c .before .before .before .before .before .before .before .before .before .before .before .before .before .before
+    .before .before .before .args in let x = c .before .before .before .before .tick-rest in let y = c .before .before
+    .before .before .before .before .before .before .before .calm-rows in (
+      x .ensures .0,
+      x .ensures .1,
+      x .ensures .2 (a .t .now)
+          (calm-first (a .intervals .now) (a .periods .now) (a .t .now) (a .out .now) (a .filters .now) (a .prefix .now)
+          (y .result) (c .before .before .before .before .before .before .before .before .before .before .before .before
+          .before .before .before .before .before .pre .3) (y .ensures .2)),
+    )
 
 pub tick-rows-spec : {M : Type 1} → statement M
 tick-rows-spec =

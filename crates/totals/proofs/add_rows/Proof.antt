@@ -1,6 +1,6 @@
 use mathlib.Core.Path.{sym, _∙_}
 use borrow.Author.Needs.{needs}
-use Rattle.totals.specs.Table.{added-fits, added-passes}
+use Rattle.totals.specs.TableLaws.{added-fits, added-passes}
 use Rattle.totals.proofs.add_rows.Statement.{statement}
 use Rattle.totals.proofs.add_rows.Tie as tie
 use Rattle.totals.proofs.add_rows.Reads as reads
@@ -8,19 +8,17 @@ use Rattle.totals.proofs.add_rows.Lts as lts
 use Rattle.totals.proofs.all_fit.Reads as all-fit-reads
 use Rattle.totals.proofs.all_summed.Reads as all-summed-reads
 
--- src/lib.rt:148:8
 all-fit-requires : tie.Need-all-fit-requires
 all-fit-requires c κs = search needs
 
--- src/lib.rt:149:13
 all-summed-requires : tie.Need-all-summed-requires
 all-summed-requires c κs = sym (c .before .all-fit .ensures) ∙ c .if1 .taken
 
--- src/lib.rt:150:9
 returns : tie.Need-returns
-returns c = let e = sym (c .before .before .all-fit .ensures) ∙ c .before .if1 .taken in (sym e, added-fits _ _ e (c .all-summed .ensures))
+returns c = let e =
+    sym (c .before .before .all-fit .ensures)
+    ∙ c .before .if1 .taken in (sym e, added-fits _ _ e (c .all-summed .ensures))
 
--- src/lib.rt:145:1
 returns-2 : tie.Need-returns-2
 returns-2 c = let e = sym (c .before .all-fit .ensures) ∙ c .if1 .left in (sym e, added-passes _ _ e)
 

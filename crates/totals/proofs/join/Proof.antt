@@ -1,5 +1,5 @@
 use mathlib.Core.Path.{sym, _∙_}
-use Rattle.totals.specs.Join.{join-fits, join-passes}
+use Rattle.totals.specs.JoinLaws.{join-fits, join-passes}
 use borrow.Author.Needs.{needs}
 use Rattle.totals.proofs.join.Statement.{statement}
 use Rattle.totals.proofs.join.Tie as tie
@@ -9,25 +9,22 @@ use Rattle.totals.proofs.fits.Reads as fits-reads
 use Rattle.totals.proofs.no_row.Reads as no-row-reads
 use Rattle.totals.proofs.summed.Reads as summed-reads
 
--- src/lib.rt:97:8
 fits-requires : tie.Need-fits-requires
 fits-requires c κs = search needs
 
--- src/lib.rt:98:13
 summed-requires : tie.Need-summed-requires
 summed-requires c κs = sym (c .before .fits2 .ensures) ∙ c .if1 .taken
 
--- src/lib.rt:99:9
 returns : tie.Need-returns
-returns c = let e = sym (c .before .before .fits2 .ensures) ∙ c .before .if1 .taken in (sym e, join-fits _ _ e (c .summed .ensures))
+returns c = let e =
+    sym (c .before .before .fits2 .ensures) ∙ c .before .if1 .taken in (sym e, join-fits _ _ e (c .summed .ensures))
 
--- src/lib.rt:101:9
 no-row-requires : tie.Need-no-row-requires
 no-row-requires c κs = search needs
 
--- src/lib.rt:94:1
 returns-2 : tie.Need-returns-2
-returns-2 c = let e = sym (c .before .before .fits2 .ensures) ∙ c .before .if1 .left in (sym e, join-passes _ _ e (c .no-row .ensures))
+returns-2 c = let e =
+    sym (c .before .before .fits2 .ensures) ∙ c .before .if1 .left in (sym e, join-passes _ _ e (c .no-row .ensures))
 
 pub join-spec : {M : Type 1} → statement M
 join-spec = tie.close (tie.spec fits-requires summed-requires returns no-row-requires returns-2)

@@ -8,11 +8,9 @@ use Rattle.totals.proofs.no_gains.Reads as reads
 use Rattle.totals.proofs.no_gains.Lts as lts
 use Rattle.totals.proofs.no_gain.Reads as no-gain-reads
 
--- src/lib.rt:195:9
 no-gain-requires : tie.Need-no-gain-requires
 no-gain-requires c κs = search needs
 
--- src/lib.rt:192:1
 returns : tie.Need-returns
 returns c = ap (replicate tableRows) (c .no-gain .ensures)
 

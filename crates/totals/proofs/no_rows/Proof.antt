@@ -8,11 +8,9 @@ use Rattle.totals.proofs.no_rows.Reads as reads
 use Rattle.totals.proofs.no_rows.Lts as lts
 use Rattle.totals.proofs.no_row.Reads as no-row-reads
 
--- src/lib.rt:84:6
 no-row-requires : tie.Need-no-row-requires
 no-row-requires c κs = search needs
 
--- src/lib.rt:81:1
 returns : tie.Need-returns
 returns c = ap (replicate tableRows) (c .no-row .ensures)
 

@@ -1,7 +1,7 @@
 use mathlib.Core.Path.{_≡_, sym, ap, _∙_}
 use mathlib.Core.Bool.{true, false}
 use Rattle.totals.specs.Table.{rowFits, rowSum}
-use Rattle.totals.specs.Gains.{turn-added, turn-asked, turn-passes}
+use Rattle.totals.specs.GainsLaws.{turn-added, turn-asked, turn-passes}
 use borrow.Author.Needs.{needs}
 use Rattle.totals.proofs.turn.Statement.{statement}
 use Rattle.totals.proofs.turn.Tie as tie
@@ -11,35 +11,33 @@ use Rattle.totals.proofs.fits.Reads as fits-reads
 use Rattle.totals.proofs.summed.Reads as summed-reads
 use Rattle.totals.proofs.wide.Reads as wide-reads
 
--- src/lib.rt:248:9
 wide-requires : tie.Need-wide-requires
 wide-requires c κs = search needs
 
--- src/lib.rt:249:8
 fits-requires : tie.Need-fits-requires
 fits-requires c κs = search needs
 
--- src/lib.rt:251:17
 summed-requires : tie.Need-summed-requires
 summed-requires c κs = sym (c .before .before .fits2 .ensures) ∙ c .before .if1 .taken
 
--- src/lib.rt:252:13
 returns : tie.Need-returns
 returns c = let a = c .before .before .before .before .before .args in
     let e = c .before .before .before .before .wide .ensures in
-    turn-added (a .a) _ (a .fitted) (ap (rowFits (a .a)) (sym e) ∙ sym (c .before .before .before .fits2 .ensures) ∙ c .before .before .if1 .taken) (c .before .if2 .taken) (c .summed .ensures ∙ ap (rowSum (a .a)) e)
+    turn-added (a .a) _ (a .fitted)
+    (ap (rowFits (a .a)) (sym e) ∙ sym (c .before .before .before .fits2 .ensures)
+    ∙ c .before .before .if1 .taken) (c .before .if2 .taken) (c .summed .ensures ∙ ap (rowSum (a .a)) e)
 
--- src/lib.rt:257:9
 returns-2 : tie.Need-returns-2
 returns-2 c = let a = c .before .before .before .before .args in
     let e = c .before .before .before .wide .ensures in
-    turn-asked (a .a) _ (a .fitted) (ap (rowFits (a .a)) (sym e) ∙ sym (c .before .before .fits2 .ensures) ∙ c .before .if1 .taken) (c .if2 .left)
+    turn-asked (a .a) _ (a .fitted)
+    (ap (rowFits (a .a)) (sym e) ∙ sym (c .before .before .fits2 .ensures) ∙ c .before .if1 .taken) (c .if2 .left)
 
--- src/lib.rt:245:1
 returns-3 : tie.Need-returns-3
 returns-3 c = let a = c .before .before .before .args in
     let e = c .before .before .wide .ensures in
-    turn-passes (a .a) _ (a .goes) (a .fitted) (ap (rowFits (a .a)) (sym e) ∙ sym (c .before .fits2 .ensures) ∙ c .if1 .left)
+    turn-passes (a .a) _ (a .goes) (a .fitted)
+    (ap (rowFits (a .a)) (sym e) ∙ sym (c .before .fits2 .ensures) ∙ c .if1 .left)
 
 pub turn-spec : {M : Type 1} → statement M
 turn-spec =

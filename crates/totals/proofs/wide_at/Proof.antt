@@ -1,7 +1,8 @@
 use mathlib.Core.Path.{_≡_, ap, _∙_}
 use native.Mathlib.Omega.{arith}
 use lib.ListN.{length}
-use Rattle.totals.specs.Gains.{wideRow, gain-within, gain-past}
+use Rattle.totals.specs.Gains.{wideRow}
+use Rattle.totals.specs.GainsLaws.{gain-within, gain-past}
 use borrow.Author.Needs.{needs}
 use Rattle.totals.proofs.wide_at.Statement.{statement}
 use Rattle.totals.proofs.wide_at.Tie as tie
@@ -10,33 +11,29 @@ use Rattle.totals.proofs.wide_at.Lts as lts
 use Rattle.totals.proofs.no_gain.Reads as no-gain-reads
 use Rattle.totals.proofs.wide.Reads as wide-reads
 
--- src/lib.rt:217:17
 mul-g : tie.Need-mul-g
 mul-g c = search needs
 
--- src/lib.rt:217:17
 array-copy-out-g : tie.Need-array-copy-out-g
 array-copy-out-g c = search needs
 
--- src/lib.rt:218:9
 wide-requires : tie.Need-wide-requires
 wide-requires c κs = search needs
 
--- src/lib.rt:218:9
 returns : tie.Need-returns
-returns c = let a = c .before .before .before .args in let n : length (a .t1) ≡ 16 = search needs in c .wide .ensures ∙ ap wideRow (gain-within (a .t1) (a .i) _ (omega arith))
+returns c = let a = c .before .before .before .args in let n : length (a .t1) ≡ 16 =
+    search needs in c .wide .ensures ∙ ap wideRow (gain-within (a .t1) (a .i) _ (omega arith))
 
--- src/lib.rt:220:9
 no-gain-requires : tie.Need-no-gain-requires
 no-gain-requires c κs = search needs
 
--- src/lib.rt:221:5
 wide-requires-2 : tie.Need-wide-requires-2
 wide-requires-2 c κs = search needs
 
--- src/lib.rt:213:1
 returns-2 : tie.Need-returns-2
-returns-2 c = let a = c .before .before .before .args in let n : length (a .t1) ≡ 16 = search needs in c .wide2 .ensures ∙ ap wideRow (c .before .no-gain .ensures ∙ gain-past (a .t1) (a .i) (omega arith))
+returns-2 c = let a = c .before .before .before .args in let n : length (a .t1) ≡ 16 =
+    search needs in c .wide2 .ensures
+    ∙ ap wideRow (c .before .no-gain .ensures ∙ gain-past (a .t1) (a .i) (omega arith))
 
 pub wide-at-spec : {M : Type 1} → statement M
 wide-at-spec =

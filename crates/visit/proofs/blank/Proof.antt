@@ -7,11 +7,9 @@ use Rattle.visit.proofs.blank.Reads as reads
 use Rattle.visit.proofs.blank.Lts as lts
 use Rattle.visit.proofs.nobody_there.Reads as nobody-there-reads
 
--- src/lib.rt:63:9
 nobody-there-requires : tie.Need-nobody-there-requires
 nobody-there-requires c κs = search needs
 
--- src/lib.rt:60:1
 returns : tie.Need-returns
 returns c = ap (λ v. replicate 64 v) (c .nobody-there .ensures)
 

@@ -4,7 +4,8 @@ use lib.ListN.{length, drop, getD, take}
 use mathlib.Core.Path.{_≡_, refl, sym, ap, _∙_}
 use borrow.Author.Needs.{needs}
 use native.Mathlib.Omega.{arith}
-use Rattle.visit.specs.Book.{isIn, isFree, placeIn, freeIn, placeOf, place-hit, place-miss, place-end, nobody}
+use Rattle.visit.specs.Book.{isIn, isFree, placeIn, freeIn, placeOf, nobody}
+use Rattle.visit.specs.BookLaws.{place-hit, place-miss, place-end}
 use Rattle.visit.proofs.free.Statement.{statement}
 use Rattle.visit.proofs.free.Tie as tie
 use Rattle.visit.proofs.free.Reads as reads
@@ -16,40 +17,47 @@ Inv-loop rows i₀ i = (i ≤ 64) × (placeOf (isFree) rows ≡ i + placeOf (isF
 abbrev μ-loop : tie.MeasureT-loop
 μ-loop rows i₀ i = 64 - i
 
--- src/lib.rt:112:5
 loop-holds : tie.Need-loop-holds Inv-loop μ-loop
 loop-holds c = (omega arith, sym (zero-add _))
 
--- src/lib.rt:113:17
 mul-v : tie.Need-mul-v Inv-loop μ-loop
 mul-v c = omega arith
 
--- src/lib.rt:113:17
 array-copy-out-v : tie.Need-array-copy-out-v Inv-loop μ-loop
 array-copy-out-v c = omega arith
 
--- src/lib.rt:115:13
 returns : tie.Need-returns Inv-loop μ-loop
 unfolding freeIn isFree
-returns c = let rows = c .before .before .before .before .before .args .t1 in let n : length rows ≡ 64 = search needs in (place-hit isFree rows (c .before .before .before .before .loop .i) _ (c .before .before .before .before .loop .inv .1) (omega arith) (c .if1 .taken), omega arith)
+returns c = let rows = c .before .before .before .before .before .args .t1 in let n : length rows ≡ 64 =
+    search needs in (
+      place-hit isFree rows (c .before .before .before .before .loop .i) _
+          (c .before .before .before .before .loop .inv .1) (omega arith) (c .if1 .taken),
+      omega arith,
+    )
 
--- src/lib.rt:117:9
 add-i : tie.Need-add-i Inv-loop μ-loop
 add-i c = omega arith
 
--- src/lib.rt:112:5
 loop-less : tie.Need-loop-less Inv-loop μ-loop
 loop-less c = omega arith
 
--- src/lib.rt:112:5
 loop-again : tie.Need-loop-again Inv-loop μ-loop
 unfolding isFree
-loop-again c = let rows = c .before .before .before .before .before .args .t1 in let n : length rows ≡ 64 = search needs in (omega arith, place-miss isFree rows (c .before .before .before .before .loop .i) _ (c .before .before .before .before .loop .inv .1) (omega arith) (c .if1 .left))
+loop-again c = let rows = c .before .before .before .before .before .args .t1 in let n : length rows ≡ 64 =
+    search needs in (
+      omega arith,
+      place-miss isFree rows (c .before .before .before .before .loop .i) _
+          (c .before .before .before .before .loop .inv .1) (omega arith) (c .if1 .left),
+    )
 
--- src/lib.rt:108:1
 returns-2 : tie.Need-returns-2 Inv-loop μ-loop
 unfolding freeIn
-returns-2 c = let rows = c .before .before .args .t1 in let n : length rows ≡ 64 = search needs in (place-end isFree rows (c .before .loop .i) nobody (c .before .loop .inv .1) (omega arith), omega arith)
+returns-2 c = let rows = c .before .before .args .t1 in let n : length rows ≡ 64 =
+    search needs in (
+      place-end isFree rows (c .before .loop .i) nobody (c .before .loop .inv .1) (omega arith),
+      omega
+          arith,
+    )
 
 pub free-spec : {M : Type 1} → statement M
 free-spec =

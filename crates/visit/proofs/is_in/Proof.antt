@@ -5,7 +5,6 @@ use Rattle.visit.proofs.is_in.Tie as tie
 use Rattle.visit.proofs.is_in.Reads as reads
 use Rattle.visit.proofs.is_in.Lts as lts
 
--- src/lib.rt:86:1
 returns : tie.Need-returns
 unfolding isIn
 returns c = refl

@@ -1,23 +1,19 @@
-use Rattle.visit.specs.Book.{mean-none, mean-some}
+use Rattle.visit.specs.BookLaws.{mean-none, mean-some}
 use borrow.Author.Needs.{needs}
 use Rattle.visit.proofs.mean.Statement.{statement}
 use Rattle.visit.proofs.mean.Tie as tie
 use Rattle.visit.proofs.mean.Reads as reads
 use Rattle.visit.proofs.mean.Lts as lts
 
--- src/lib.rt:224:9
 returns : tie.Need-returns
 returns c = mean-none (c .before .args .packets) (c .before .args .sum) (c .if1 .taken)
 
--- src/lib.rt:226:6
 div-result : tie.Need-div-result
 div-result c = search needs
 
--- src/lib.rt:226:5
 cast-result : tie.Need-cast-result
 cast-result c = search needs
 
--- src/lib.rt:220:1
 returns-2 : tie.Need-returns-2
 returns-2 c = mean-some (c .before .args .packets) (c .before .args .sum) (c .if1 .left)
 

@@ -5,7 +5,6 @@ use Rattle.visit.proofs.nobody_there.Tie as tie
 use Rattle.visit.proofs.nobody_there.Reads as reads
 use Rattle.visit.proofs.nobody_there.Lts as lts
 
--- src/lib.rt:46:1
 returns : tie.Need-returns
 unfolding nobody
 returns c = refl

@@ -1,6 +1,7 @@
 use mathlib.Core.Path.{_≡_, refl, sym, ap, _∙_}
 use native.Mathlib.Omega.{arith}
-use Rattle.visit.specs.Book.{start-some, start-none, begunAt}
+use Rattle.visit.specs.Book.{begunAt}
+use Rattle.visit.specs.BookLaws.{start-some, start-none}
 use borrow.Author.Needs.{needs}
 use Rattle.visit.proofs.start.Statement.{statement}
 use Rattle.visit.proofs.start.Tie as tie
@@ -8,26 +9,23 @@ use Rattle.visit.proofs.start.Reads as reads
 use Rattle.visit.proofs.start.Lts as lts
 use Rattle.visit.proofs.free.Reads as free-reads
 
--- src/lib.rt:126:9
 free-requires : tie.Need-free-requires
 free-requires c κs = search needs
 
--- src/lib.rt:129:9
 mul-all : tie.Need-mul-all
 mul-all c = search needs
 
--- src/lib.rt:129:9
 array-set-from-all : tie.Need-array-set-from-all
 array-set-from-all c = search needs
 
--- src/lib.rt:123:1
 returns : tie.Need-returns
 unfolding begunAt
-returns c = start-some (c .before .before .args .rows) (c .before .free .result) (c .before .before .args .key) (c .before .before .args .frame) (c .before .before .args .tick) (c .before .free .ensures .0) (omega arith)
+returns c = start-some (c .before .before .args .rows) (c .before .free .result) (c .before .before .args .key)
+    (c .before .before .args .frame) (c .before .before .args .tick) (c .before .free .ensures .0) (omega arith)
 
--- src/lib.rt:123:1
 returns-2 : tie.Need-returns-2
-returns-2 c = start-none (c .before .before .args .rows) (c .before .free .result) (c .before .before .args .key) (c .before .before .args .frame) (c .before .before .args .tick) (c .before .free .ensures .0) (omega arith)
+returns-2 c = start-none (c .before .before .args .rows) (c .before .free .result) (c .before .before .args .key)
+    (c .before .before .args .frame) (c .before .before .args .tick) (c .before .free .ensures .0) (omega arith)
 
 pub start-spec : {M : Type 1} → statement M
 start-spec = tie.close (tie.spec free-requires mul-all array-set-from-all returns returns-2)

@@ -1,5 +1,5 @@
 use native.Mathlib.Omega.{arith}
-use Rattle.walks.specs.Walk.{behind-none, behind-cut, behind-whole}
+use Rattle.walks.specs.WalkLaws.{behind-none, behind-cut, behind-whole}
 use borrow.Author.Needs.{needs}
 use Rattle.walks.proofs.behind.Statement.{statement}
 use Rattle.walks.proofs.behind.Tie as tie
@@ -7,45 +7,39 @@ use Rattle.walks.proofs.behind.Reads as reads
 use Rattle.walks.proofs.behind.Lts as lts
 use Rattle.walks.proofs.wide.Reads as wide-reads
 
--- src/lib.rt:19:9
 returns : tie.Need-returns
 returns c = let a = c .before .before .args in behind-none (a .octets .now) (a .at) (omega arith)
 
--- src/lib.rt:22:9
 returns-2 : tie.Need-returns-2
 returns-2 c = let a = c .before .before .before .args in behind-none (a .octets .now) (a .at) (omega arith)
 
--- src/lib.rt:24:28
 add-wide : tie.Need-add-wide
 add-wide c = search needs
 
--- src/lib.rt:24:21
 shared-slice-read-wide : tie.Need-shared-slice-read-wide
 shared-slice-read-wide c = search needs
 
--- src/lib.rt:24:9
 wide-requires : tie.Need-wide-requires
 wide-requires c κs = search needs
 
--- src/lib.rt:25:16
 add-head : tie.Need-add-head
 add-head c = search needs
 
--- src/lib.rt:26:8
 sub-if3 : tie.Need-sub-if3
 sub-if3 c = search needs
 
--- src/lib.rt:27:9
 returns-3 : tie.Need-returns-3
-returns-3 c = let a = c .before .before .before .before .before .before .args in behind-cut (a .octets .now) (a .at) _ (omega arith) (c .before .wide .ensures .0) (omega arith)
+returns-3 c = let a =
+    c .before .before .before .before .before .before .args in behind-cut (a .octets .now) (a .at) _ (omega arith)
+    (c .before .wide .ensures .0) (omega arith)
 
--- src/lib.rt:29:5
 add-result : tie.Need-add-result
 add-result c = search needs
 
--- src/lib.rt:14:1
 returns-4 : tie.Need-returns-4
-returns-4 c = let a = c .before .before .before .before .before .before .args in behind-whole (a .octets .now) (a .at) _ (omega arith) (c .before .wide .ensures .0) (omega arith)
+returns-4 c = let a =
+    c .before .before .before .before .before .before .args in behind-whole (a .octets .now) (a .at) _ (omega arith)
+    (c .before .wide .ensures .0) (omega arith)
 
 pub behind-spec : {M : Type 1} → statement M
 behind-spec =

@@ -9,23 +9,20 @@ use Rattle.watchers.proofs.put.Reads as reads
 use Rattle.watchers.proofs.put.Lts as lts
 use Rattle.io.proofs.write_all.Reads as write-all-reads
 
--- src/main.rt:18:31
 array-share-prefix-octets : tie.Need-array-share-prefix-octets
-array-share-prefix-octets c = let l : length (c .before .before .args .text .octets) ≡ 256 = search needs in omega (arith, l)
+array-share-prefix-octets c = let l : length (c .before .before .args .text .octets) ≡ 256 =
+    search needs in omega (arith, l)
 
--- src/main.rt:18:31
 slice-aggregate-write-all : tie.Need-slice-aggregate-write-all
-slice-aggregate-write-all c = let l : length (c .before .before .before .args .text .octets) ≡ 256 = search needs in sym (length-take-le _ _ (omega (arith, l)))
+slice-aggregate-write-all c = let l : length (c .before .before .before .args .text .octets) ≡ 256 =
+    search needs in sym (length-take-le _ _ (omega (arith, l)))
 
--- src/main.rt:18:13
 write-all-requires : tie.Need-write-all-requires
 write-all-requires c κs = search needs
 
--- src/main.rt:14:1
 returns : tie.Need-returns
 returns c = search needs
 
--- src/main.rt:14:1
 returns-2 : tie.Need-returns-2
 returns-2 c = search needs
 

@@ -9,29 +9,24 @@ use Rattle.words.proofs.behind.Tie as tie
 use Rattle.words.proofs.behind.Reads as reads
 use Rattle.words.proofs.behind.Lts as lts
 
--- src/lib.rt:59:9
 slice-aggregate-result : tie.Need-slice-aggregate-result
 slice-aggregate-result c = search needs
 
--- src/lib.rt:59:9
 returns : tie.Need-returns
 returns c = sym (drop-of-length-le (c .before .before .args .s .now) {i = c .before .before .args .from} (omega arith))
 
--- src/lib.rt:61:5
 sub-result : tie.Need-sub-result
 sub-result c = search needs
 
--- src/lib.rt:61:5
 part-result-start : tie.Need-part-result-start
 part-result-start c = search needs
 
--- src/lib.rt:61:5
 part-result-end : tie.Need-part-result-end
 part-result-end c = search needs
 
--- src/lib.rt:54:1
 returns-2 : tie.Need-returns-2
-returns-2 c = take-all (length (c .before .before .args .s .now) - c .before .before .args .from) (drop (c .before .before .args .from) (c .before .before .args .s .now)) (simp length-drop (omega arith))
+returns-2 c = take-all (length (c .before .before .args .s .now) - c .before .before .args .from)
+    (drop (c .before .before .args .from) (c .before .before .args .s .now)) (simp length-drop (omega arith))
 
 pub behind-spec : {M : Type 1} → statement M
 behind-spec =

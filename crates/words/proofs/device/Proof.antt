@@ -1,5 +1,6 @@
-use Rattle.words.specs.Says.{same, then}
-use Rattle.words.specs.Pieces.{deviceText, kind-held, address-held}
+use Rattle.words.specs.SaysLaws.{same, then}
+use Rattle.words.specs.Pieces.{deviceText}
+use Rattle.words.specs.PiecesLaws.{kind-held, address-held}
 use Rattle.model.specs.Quoted.{codes}
 use borrow.Author.Needs.{needs}
 use Rattle.words.proofs.device.Statement.{statement}
@@ -12,46 +13,47 @@ use Rattle.texts.proofs.words.blank.Reads as blank-reads
 use Rattle.words.proofs.put.Reads as put-reads
 use Rattle.words.proofs.text.Reads as text-reads
 
--- src/lib.rt:164:9
 put-requires : tie.Need-put-requires
 put-requires c κs = search needs
 
--- src/lib.rt:165:38
 blank-requires : tie.Need-blank-requires
 blank-requires c κs = search needs
 
--- src/lib.rt:165:26
 kind-requires : tie.Need-kind-requires
 kind-requires c κs = search needs
 
--- src/lib.rt:165:9
 text-requires : tie.Need-text-requires
 text-requires c κs = search needs
 
--- src/lib.rt:166:25
 slice-aggregate-put : tie.Need-slice-aggregate-put
 slice-aggregate-put c = search needs
 
--- src/lib.rt:166:9
 put-requires-2 : tie.Need-put-requires-2
 put-requires-2 c κs = search needs
 
--- src/lib.rt:167:33
 blank-requires-2 : tie.Need-blank-requires-2
 blank-requires-2 c κs = search needs
 
--- src/lib.rt:167:18
 address-requires : tie.Need-address-requires
 address-requires c κs = search needs
 
--- src/lib.rt:167:5
 text-requires-2 : tie.Need-text-requires-2
 text-requires-2 c κs = search needs
 
--- src/lib.rt:161:1
 returns : tie.Need-returns
 unfolding deviceText codes
-returns c = then (c .before .before .before .before .before .before .before .before .before .before .before .put .ensures) (then (then (same (kind-held (c .before .before .before .before .before .before .before .before .before .before .before .before .before .before .args .d) (c .before .before .before .before .before .before .before .before .before .blank .ensures) (c .before .before .before .before .before .before .before .before .kind .ensures)) (c .before .before .before .before .before .before .before .text .ensures)) (c .before .before .before .before .put2 .ensures)) (same (address-held (c .before .before .before .before .before .before .before .before .before .before .before .before .before .before .args .d) (c .before .before .blank2 .ensures) (c .before .address .ensures)) (c .text2 .ensures)))
+returns c = then
+    (c .before .before .before .before .before .before .before .before .before .before .before .put .ensures)
+    (then (then (same
+    (kind-held (c .before .before .before .before .before .before .before .before .before .before .before .before
+    .before .before .args .d)
+    (c .before .before .before .before .before .before .before .before .before .blank .ensures)
+    (c .before .before .before .before .before .before .before .before .kind .ensures))
+    (c .before .before .before .before .before .before .before .text .ensures))
+    (c .before .before .before .before .put2 .ensures))
+    (same (address-held
+    (c .before .before .before .before .before .before .before .before .before .before .before .before .before .before
+    .args .d) (c .before .before .blank2 .ensures) (c .before .address .ensures)) (c .text2 .ensures)))
 
 pub device-spec : {M : Type 1} → statement M
 device-spec =

@@ -1,4 +1,4 @@
-use Rattle.words.specs.Says.{then}
+use Rattle.words.specs.SaysLaws.{then}
 use Rattle.words.specs.Pieces.{groupsText}
 use Rattle.model.specs.Quoted.{codes}
 use borrow.Author.Needs.{needs}
@@ -9,70 +9,66 @@ use Rattle.words.proofs.groups.Lts as lts
 use Rattle.words.proofs.number.Reads as number-reads
 use Rattle.words.proofs.part.Reads as part-reads
 
--- src/lib.rt:174:29
 slice-aggregate-number : tie.Need-slice-aggregate-number
 slice-aggregate-number c = search needs
 
--- src/lib.rt:174:34
 part-requires : tie.Need-part-requires
 part-requires c κs = search needs
 
--- src/lib.rt:174:9
 number-requires : tie.Need-number-requires
 number-requires c κs = search needs
 
--- src/lib.rt:175:28
 slice-aggregate-number-2 : tie.Need-slice-aggregate-number-2
 slice-aggregate-number-2 c = search needs
 
--- src/lib.rt:175:34
 part-requires-2 : tie.Need-part-requires-2
 part-requires-2 c κs = search needs
 
--- src/lib.rt:175:9
 number-requires-2 : tie.Need-number-requires-2
 number-requires-2 c κs = search needs
 
--- src/lib.rt:176:28
 slice-aggregate-number-3 : tie.Need-slice-aggregate-number-3
 slice-aggregate-number-3 c = search needs
 
--- src/lib.rt:176:34
 part-requires-3 : tie.Need-part-requires-3
 part-requires-3 c κs = search needs
 
--- src/lib.rt:176:9
 number-requires-3 : tie.Need-number-requires-3
 number-requires-3 c κs = search needs
 
--- src/lib.rt:177:28
 slice-aggregate-number-4 : tie.Need-slice-aggregate-number-4
 slice-aggregate-number-4 c = search needs
 
--- src/lib.rt:177:34
 part-requires-4 : tie.Need-part-requires-4
 part-requires-4 c κs = search needs
 
--- src/lib.rt:177:9
 number-requires-4 : tie.Need-number-requires-4
 number-requires-4 c κs = search needs
 
--- src/lib.rt:178:20
 slice-aggregate-number-5 : tie.Need-slice-aggregate-number-5
 slice-aggregate-number-5 c = search needs
 
--- src/lib.rt:178:26
 part-requires-5 : tie.Need-part-requires-5
 part-requires-5 c κs = search needs
 
--- src/lib.rt:178:5
 number-requires-5 : tie.Need-number-requires-5
 number-requires-5 c κs = search needs
 
--- src/lib.rt:171:1
 returns : tie.Need-returns
 unfolding groupsText codes
-returns c = then (then (then (then (rw (c .before .before .before .before .before .before .before .before .before .before .before .before .before .before .before .before .before .part .ensures) at (c .before .before .before .before .before .before .before .before .before .before .before .before .before .before .before .before .number .ensures)) (rw (c .before .before .before .before .before .before .before .before .before .before .before .before .before .part2 .ensures) at (c .before .before .before .before .before .before .before .before .before .before .before .before .number2 .ensures))) (rw (c .before .before .before .before .before .before .before .before .before .part3 .ensures) at (c .before .before .before .before .before .before .before .before .number3 .ensures))) (rw (c .before .before .before .before .before .part4 .ensures) at (c .before .before .before .before .number4 .ensures))) (rw (c .before .part5 .ensures) at (c .number5 .ensures))
+returns c = then
+    (then (then (then
+    (rw (c .before .before .before .before .before .before .before .before .before .before .before .before .before
+    .before .before .before .before .part .ensures) at
+    (c .before .before .before .before .before .before .before .before .before .before .before .before .before .before
+    .before .before .number .ensures))
+    (rw (c .before .before .before .before .before .before .before .before .before .before .before .before .before
+    .part2 .ensures) at
+    (c .before .before .before .before .before .before .before .before .before .before .before .before .number2
+    .ensures))) (rw (c .before .before .before .before .before .before .before .before .before .part3 .ensures) at
+    (c .before .before .before .before .before .before .before .before .number3 .ensures)))
+    (rw (c .before .before .before .before .before .part4 .ensures) at
+    (c .before .before .before .before .number4 .ensures))) (rw (c .before .part5 .ensures) at (c .number5 .ensures))
 
 pub groups-spec : {M : Type 1} → statement M
 groups-spec =

@@ -2,8 +2,9 @@ use Prim.Native.Nat.{_-_, _≤_}
 use mathlib.Core.Path.{_≡_, refl, ap}
 use native.Mathlib.Omega.{arith}
 use borrow.Author.Needs.{needs}
-use Rattle.words.specs.Says.{Says, same, nothing, then}
-use Rattle.words.specs.Pieces.{hex-turn}
+use Rattle.words.specs.Says.{Says}
+use Rattle.words.specs.SaysLaws.{same, nothing, then}
+use Rattle.words.specs.PiecesLaws.{hex-turn}
 use lib.ListN.{length, take}
 use lib.Seq.{take-all}
 use Rattle.lines.specs.Hex.{hexOf}
@@ -20,38 +21,40 @@ Inv-loop out₀ at words s end₀ n i₀ out end i = (n ≡ length s) × (i ≤ 
 abbrev μ-loop : tie.MeasureT-loop
 μ-loop out₀ at words s end₀ n i₀ out end i = n - i
 
--- src/lib.rt:106:9
 put-requires : tie.Need-put-requires Inv-loop μ-loop
 put-requires c κs = search needs
 
--- src/lib.rt:109:5
 loop-holds : tie.Need-loop-holds Inv-loop μ-loop
 unfolding hexOf
 loop-holds c = (refl, omega arith, nothing _ _)
 
--- src/lib.rt:110:30
 shared-slice-read-pair : tie.Need-shared-slice-read-pair Inv-loop μ-loop
 shared-slice-read-pair c = search needs
 
--- src/lib.rt:110:9
 pair-requires : tie.Need-pair-requires Inv-loop μ-loop
 pair-requires c κs = search needs
 
--- src/lib.rt:111:9
 add-i : tie.Need-add-i Inv-loop μ-loop
 add-i c = search needs
 
--- src/lib.rt:109:5
 loop-less : tie.Need-loop-less Inv-loop μ-loop
 loop-less c = search needs
 
--- src/lib.rt:109:5
 loop-again : tie.Need-loop-again Inv-loop μ-loop
-loop-again c = (refl, omega arith, hex-turn (c .before .before .before .before .before .before .before .before .before .args .s .now) (c .before .before .before .before .loop .i) (omega arith) (c .before .before .before .before .loop .inv .2) (c .pair .ensures))
+loop-again c = (
+  refl,
+  omega arith,
+  hex-turn
+      (c .before .before .before .before .before .before .before .before .before .args .s .now)
+      (c .before .before .before .before .loop .i) (omega arith) (c .before .before .before .before .loop .inv .2)
+      (c .pair .ensures),
+)
 
--- src/lib.rt:103:1
 returns : tie.Need-returns Inv-loop μ-loop
-returns c = let e : take (c .before .loop .i) (c .before .before .before .before .before .before .args .s .now) ≡ c .before .before .before .before .before .before .args .s .now = take-all (c .before .loop .i) (c .before .before .before .before .before .before .args .s .now) (omega arith) in then (c .before .before .put .ensures) (same (ap hexOf e) (c .before .loop .inv .2))
+returns c = let e : take (c .before .loop .i) (c .before .before .before .before .before .before .args .s .now)
+    ≡ c .before .before .before .before .before .before .args .s .now = take-all (c .before .loop .i)
+    (c .before .before .before .before .before .before .args .s .now) (omega arith) in then
+    (c .before .before .put .ensures) (same (ap hexOf e) (c .before .loop .inv .2))
 
 pub hex-spec : {M : Type 1} → statement M
 hex-spec =

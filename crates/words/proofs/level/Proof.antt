@@ -1,6 +1,7 @@
 use mathlib.Core.Path.{ap, _∙_}
-use Rattle.words.specs.Says.{same, then}
-use Rattle.words.specs.Pieces.{dbm, level-held}
+use Rattle.words.specs.SaysLaws.{same, then}
+use Rattle.words.specs.Pieces.{dbm}
+use Rattle.words.specs.PiecesLaws.{level-held}
 use Rattle.model.specs.Quoted.{codes}
 use Rattle.texts.specs.Words.{levelText}
 use borrow.Author.Needs.{needs}
@@ -15,42 +16,39 @@ use Rattle.texts.proofs.words.blank.Reads as blank-reads
 use Rattle.words.proofs.put.Reads as put-reads
 use Rattle.words.proofs.text.Reads as text-reads
 
--- src/lib.rt:133:9
 put-requires : tie.Need-put-requires
 put-requires c κs = search needs
 
--- src/lib.rt:134:29
 get8-requires : tie.Need-get8-requires
 get8-requires c κs = search needs
 
--- src/lib.rt:134:9
 level-of-requires : tie.Need-level-of-requires
 level-of-requires c κs = search needs
 
--- src/lib.rt:135:39
 blank-requires : tie.Need-blank-requires
 blank-requires c κs = search needs
 
--- src/lib.rt:135:26
 level-requires : tie.Need-level-requires
 level-requires c κs = search needs
 
--- src/lib.rt:135:9
 text-requires : tie.Need-text-requires
 text-requires c κs = search needs
 
--- src/lib.rt:136:17
 slice-aggregate-put : tie.Need-slice-aggregate-put
 slice-aggregate-put c = search needs
 
--- src/lib.rt:136:5
 put-requires-2 : tie.Need-put-requires-2
 put-requires-2 c κs = search needs
 
--- src/lib.rt:130:1
 returns : tie.Need-returns
 unfolding dbm codes
-returns c = then (c .before .before .before .before .before .before .before .before .before .put .ensures) (then (same (level-held _ (c .before .before .before .before .before .blank .ensures) (c .before .before .before .before .level .ensures) ∙ ap levelText (c .before .before .before .before .before .before .before .level-of .ensures ∙ ap Rattle.model.specs.Level.level (c .before .before .before .before .before .before .before .before .get8 .ensures))) (c .before .before .before .text .ensures)) (c .put2 .ensures))
+returns c = then (c .before .before .before .before .before .before .before .before .before .put .ensures)
+    (then (same (level-held _ (c .before .before .before .before .before .blank .ensures)
+    (c .before .before .before .before .level .ensures)
+    ∙ ap levelText (c .before .before .before .before .before .before .before .level-of .ensures
+    ∙ ap Rattle.model.specs.Level.level
+    (c .before .before .before .before .before .before .before .before .get8 .ensures)))
+    (c .before .before .before .text .ensures)) (c .put2 .ensures))
 
 pub level-spec : {M : Type 1} → statement M
 level-spec =

@@ -6,19 +6,15 @@ use Rattle.words.proofs.long.Lts as lts
 use Rattle.octets.proofs.get32.Reads as get32-reads
 use Rattle.words.proofs.said.Reads as said-reads
 
--- src/lib.rt:92:26
 get32-requires : tie.Need-get32-requires
 get32-requires c κs = search needs
 
--- src/lib.rt:92:26
 cast-said : tie.Need-cast-said
 cast-said c = search needs
 
--- src/lib.rt:92:5
 said-requires : tie.Need-said-requires
 said-requires c κs = search needs
 
--- src/lib.rt:89:1
 returns : tie.Need-returns
 returns c = rw (c .before .get32 .ensures) at (c .said .ensures)
 

@@ -6,19 +6,15 @@ use Rattle.words.proofs.octet.Lts as lts
 use Rattle.octets.proofs.get8.Reads as get8-reads
 use Rattle.words.proofs.said.Reads as said-reads
 
--- src/lib.rt:85:26
 get8-requires : tie.Need-get8-requires
 get8-requires c κs = search needs
 
--- src/lib.rt:85:26
 cast-said : tie.Need-cast-said
 cast-said c = search needs
 
--- src/lib.rt:85:5
 said-requires : tie.Need-said-requires
 said-requires c κs = search needs
 
--- src/lib.rt:82:1
 returns : tie.Need-returns
 returns c = rw (c .before .get8 .ensures) at (c .said .ensures)
 

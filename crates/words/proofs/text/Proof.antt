@@ -1,7 +1,7 @@
 use mathlib.Core.Path.{_≡_, sym}
 use native.Mathlib.Omega.{arith}
-use Rattle.words.specs.Says.{same}
-use Rattle.words.specs.Pieces.{told-cut}
+use Rattle.words.specs.SaysLaws.{same}
+use Rattle.words.specs.PiecesLaws.{told-cut}
 use lib.ListN.{length}
 use lib.Seq.{length-take-le}
 use borrow.Author.Needs.{needs}
@@ -12,26 +12,29 @@ use Rattle.words.proofs.text.Lts as lts
 use Rattle.words.proofs.least.Reads as least-reads
 use Rattle.words.proofs.put.Reads as put-reads
 
--- src/lib.rt:69:9
 least-requires : tie.Need-least-requires
 least-requires c κs = search needs
 
--- src/lib.rt:70:18
 array-share-prefix-octets : tie.Need-array-share-prefix-octets
-array-share-prefix-octets c = let l : length (c .before .before .before .args .t .octets) ≡ 256 = search needs in omega (arith, l, c .before .least .ensures)
+array-share-prefix-octets c = let l : length (c .before .before .before .args .t .octets) ≡ 256 =
+    search needs in omega (arith, l, c .before .least .ensures)
 
--- src/lib.rt:70:18
 slice-aggregate-put : tie.Need-slice-aggregate-put
-slice-aggregate-put c = let l : length (c .before .before .before .before .args .t .octets) ≡ 256 = search needs in sym (length-take-le (c .before .before .least .result) (c .before .before .before .before .args .t .octets) (omega (arith, l, c .before .before .least .ensures)))
+slice-aggregate-put c = let l : length (c .before .before .before .before .args .t .octets) ≡ 256 =
+    search needs in sym
+    (length-take-le (c .before .before .least .result) (c .before .before .before .before .args .t .octets)
+    (omega (arith, l, c .before .before .least .ensures)))
 
--- src/lib.rt:70:5
 put-requires : tie.Need-put-requires
 put-requires c κs = search needs
 
--- src/lib.rt:65:1
 returns : tie.Need-returns
 unfolding Rattle.texts.specs.Text.told
-returns c = let l : length (c .before .before .before .before .before .args .t .octets) ≡ 256 = search needs in same (told-cut (c .before .before .before .before .before .args .t .octets) (c .before .before .before .before .before .args .t .count) (c .before .before .before .least .result) l (c .before .before .before .least .ensures)) (c .put .ensures)
+returns c = let l : length (c .before .before .before .before .before .args .t .octets) ≡ 256 =
+    search needs in same
+    (told-cut (c .before .before .before .before .before .args .t .octets)
+    (c .before .before .before .before .before .args .t .count) (c .before .before .before .least .result) l
+    (c .before .before .before .least .ensures)) (c .put .ensures)
 
 pub text-spec : {M : Type 1} → statement M
 text-spec =

@@ -1,4 +1,4 @@
-use Rattle.words.specs.Says.{then, taken, left}
+use Rattle.words.specs.SaysLaws.{then, taken, left}
 use Rattle.words.specs.Pieces.{uuidNumber}
 use Rattle.model.specs.Quoted.{codes}
 use borrow.Author.Tests.{eq-eqb, ne-eqb}
@@ -12,44 +12,40 @@ use Rattle.words.proofs.hex.Reads as hex-reads
 use Rattle.words.proofs.number.Reads as number-reads
 use Rattle.words.proofs.put.Reads as put-reads
 
--- src/lib.rt:186:9
 put-requires : tie.Need-put-requires
 put-requires c κs = search needs
 
--- src/lib.rt:188:9
 groups-requires : tie.Need-groups-requires
 groups-requires c κs = search needs
 
--- src/lib.rt:188:9
 returns : tie.Need-returns
 unfolding uuidNumber codes
-returns c = then (c .before .before .before .put .ensures) (taken _ _ (eq-eqb _ _ (c .before .before .if1 .taken)) (c .groups .ensures))
+returns c = then (c .before .before .before .put .ensures)
+    (taken _ _ (eq-eqb _ _ (c .before .before .if1 .taken)) (c .groups .ensures))
 
--- src/lib.rt:191:31
 slice-aggregate-number : tie.Need-slice-aggregate-number
 slice-aggregate-number c = search needs
 
--- src/lib.rt:191:9
 number-requires : tie.Need-number-requires
 number-requires c κs = search needs
 
--- src/lib.rt:191:9
 returns-2 : tie.Need-returns-2
 unfolding uuidNumber codes
-returns-2 c = then (c .before .before .before .before .before .put .ensures) (left _ _ (ne-eqb _ _ (c .before .before .before .before .if1 .left)) (taken _ _ (c .before .before .before .if2 .taken) (c .number .ensures)))
+returns-2 c = then (c .before .before .before .before .before .put .ensures)
+    (left _ _ (ne-eqb _ _ (c .before .before .before .before .if1 .left))
+    (taken _ _ (c .before .before .before .if2 .taken) (c .number .ensures)))
 
--- src/lib.rt:193:17
 slice-aggregate-hex : tie.Need-slice-aggregate-hex
 slice-aggregate-hex c = search needs
 
--- src/lib.rt:193:5
 hex-requires : tie.Need-hex-requires
 hex-requires c κs = search needs
 
--- src/lib.rt:182:1
 returns-3 : tie.Need-returns-3
 unfolding uuidNumber codes
-returns-3 c = then (c .before .before .before .before .before .put .ensures) (left _ _ (ne-eqb _ _ (c .before .before .before .before .if1 .left)) (left _ _ (c .before .before .before .if2 .left) (c .hex .ensures)))
+returns-3 c = then (c .before .before .before .before .before .put .ensures)
+    (left _ _ (ne-eqb _ _ (c .before .before .before .before .if1 .left))
+    (left _ _ (c .before .before .before .if2 .left) (c .hex .ensures)))
 
 pub uuid-number-spec : {M : Type 1} → statement M
 uuid-number-spec =

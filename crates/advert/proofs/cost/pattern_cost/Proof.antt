@@ -1,6 +1,6 @@
 use native.Mathlib.Omega.{arith}
-use Rattle.advert.specs.Pattern.{pattern-of}
-use Rattle.advert.specs.Cost.{cost-of}
+use Rattle.advert.specs.PatternLaws.{pattern-of}
+use Rattle.advert.specs.CostLaws.{cost-of}
 use borrow.Author.Needs.{needs}
 use Rattle.advert.proofs.cost.pattern_cost.Statement.{statement}
 use Rattle.advert.proofs.cost.pattern_cost.Tie as tie

@@ -1,7 +1,9 @@
-use Rattle.advert.specs.Either.{textOf, both, left, rest, costLeft, left-all, rest-all, seen-most, tried-none, tried-hit, tried-miss, tried-done}
+use Rattle.advert.specs.Either.{textOf, both, left, rest, costLeft}
+use Rattle.advert.specs.EitherLaws.{left-all, rest-all, seen-most, tried-none, tried-hit, tried-miss, tried-done}
 use Rattle.advert.specs.Pattern.{holdsAt}
-use Rattle.advert.specs.Cost.{octetsCost, bothCost, count-all, count-none, count-hit, count-miss, count-done}
-use Rattle.advert.specs.CostMost.{compared-most}
+use Rattle.advert.specs.Cost.{octetsCost, bothCost}
+use Rattle.advert.specs.CostLaws.{count-all, count-none, count-hit, count-miss, count-done}
+use Rattle.advert.specs.CostMostLaws.{compared-most}
 use Rattle.laws.specs.Loops.{some}
 use borrow.Author.Needs.{needs}
 use borrow.Author.Tests.{not-true, not-false}
@@ -39,7 +41,8 @@ next-section-requires : tie.Need-next-section-requires Inv-loop μ-loop
 next-section-requires c κs = c .before .before .before .loop .inv .0
 
 add-count : tie.Need-add-count Inv-loop μ-loop
-add-count c = let h = c .before .before .before .before .loop .inv .3 in let s = seen-most (c .next-section .ensures) in omega arith
+add-count c = let h = c .before .before .before .before .loop .inv .3 in let s =
+    seen-most (c .next-section .ensures) in omega arith
 
 returns : tie.Need-returns Inv-loop μ-loop
 returns c = let l = c .before .before .before .before .before .loop in let p = c .before .next-section .ensures in (
@@ -60,35 +63,49 @@ compare-requires : tie.Need-compare-requires Inv-loop μ-loop
 compare-requires c κs = search needs
 
 add-count-2 : tie.Need-add-count-2 Inv-loop μ-loop
-add-count-2 c = let l = c .before .before .before .before .before .before .before .before .loop in let p = c .before .before .before .before .next-section .ensures in
-    let k = compared-most _ _ (c .before .before .before .before .next-section .result .now) (c .before .compare .ensures .1) in
+add-count-2 c = let l = c .before .before .before .before .before .before .before .before .loop in let p =
+    c .before .before .before .before .next-section .ensures in
+    let k = compared-most _ _ (c .before .before .before .before .next-section .result .now)
+    (c .before .compare .ensures .1) in
     let h = l .inv .3 in let w = p .less (c .before .before .before .if1 .left) in omega arith
 
 returns-2 : tie.Need-returns-2 Inv-loop μ-loop
-returns-2 c = let l = c .before .before .before .before .before .before .before .before .before .loop in let p = c .before .before .before .before .before .next-section .ensures in
+returns-2 c = let l = c .before .before .before .before .before .before .before .before .before .loop in let p =
+    c .before .before .before .before .before .next-section .ensures in
     let y = sym (c .before .before .compare .ensures .0) ∙ c .if2 .taken in (
       tried-hit _ _ _ _ _ _ _ (l .inv .1) p (c .before .before .before .before .if1 .left) y,
-      count-hit _ _ _ _ _ _ _ _ _ (l .inv .2) p (c .before .before .before .before .if1 .left) (c .before .before .compare .ensures .1) y,
+      count-hit _ _ _ _ _ _ _ _ _ (l .inv .2) p (c .before .before .before .before .if1 .left)
+          (c .before .before .compare .ensures .1) y,
     )
 
 has-more-requires : tie.Need-has-more-requires Inv-loop μ-loop
 has-more-requires c κs = search needs
 
 returns-3 : tie.Need-returns-3 Inv-loop μ-loop
-returns-3 c = let l = c .before .before .before .before .before .before .before .before .before .before .before .loop in let p = c .before .before .before .before .before .before .before .next-section .ensures in
-    let n = c .before .before .before .before .before .before .if1 .left in let y = sym (c .before .before .before .before .compare .ensures .0) ∙ c .before .before .if2 .left in
+returns-3 c = let l =
+    c .before .before .before .before .before .before .before .before .before .before .before .loop in let p = c
+    .before .before .before .before .before .before .before .next-section .ensures in
+    let n = c .before .before .before .before .before .before .if1 .left in let y =
+    sym (c .before .before .before .before .compare .ensures .0) ∙ c .before .before .if2 .left in
     let z = c .before .has-more .ensures (not-true _ (c .if3 .taken)) in (
       tried-done _ _ _ _ _ _ _ (tried-miss _ _ _ _ _ _ _ (l .inv .1) p n y) z,
-      count-done _ _ _ _ _ _ _ _ _ (count-miss _ _ _ _ _ _ _ _ _ (l .inv .2) p n (c .before .before .before .before .compare .ensures .1) y) z,
+      count-done _ _ _ _ _ _ _ _ _
+          (count-miss _ _ _ _ _ _ _ _ _ (l .inv .2) p n (c .before .before .before .before .compare .ensures .1) y) z,
     )
 
 loop-less : tie.Need-loop-less Inv-loop μ-loop
-loop-less c = let w = c .before .before .before .before .before .before .before .next-section .ensures .less (c .before .before .before .before .before .before .if1 .left) in omega arith
+loop-less c = let w =
+    c .before .before .before .before .before .before .before .next-section .ensures .less
+    (c .before .before .before .before .before .before .if1 .left) in omega arith
 
 loop-again : tie.Need-loop-again Inv-loop μ-loop
-loop-again c = let l = c .before .before .before .before .before .before .before .before .before .before .before .loop in let p = c .before .before .before .before .before .before .before .next-section .ensures in
-    let n = c .before .before .before .before .before .before .if1 .left in let y = sym (c .before .before .before .before .compare .ensures .0) ∙ c .before .before .if2 .left in
-    let k = compared-most _ _ (c .before .before .before .before .before .before .before .next-section .result .now) (c .before .before .before .before .compare .ensures .1) in (
+loop-again c = let l =
+    c .before .before .before .before .before .before .before .before .before .before .before .loop in let p = c
+    .before .before .before .before .before .before .before .next-section .ensures in
+    let n = c .before .before .before .before .before .before .if1 .left in let y =
+    sym (c .before .before .before .before .compare .ensures .0) ∙ c .before .before .if2 .left in
+    let k = compared-most _ _ (c .before .before .before .before .before .before .before .next-section .result .now)
+    (c .before .before .before .before .compare .ensures .1) in (
       p .high,
       tried-miss _ _ _ _ _ _ _ (l .inv .1) p n y,
       count-miss _ _ _ _ _ _ _ _ _ (l .inv .2) p n (c .before .before .before .before .compare .ensures .1) y,

@@ -3,7 +3,8 @@ use mathlib.Core.Path.{_≡_}
 use native.Mathlib.Omega.{arith}
 use borrow.Author.Needs.{needs}
 use lib.ListN.{length}
-use Rattle.advert.specs.Sections.{isType, Passed, passed-none, passed-skip, lookup-none, lookup-end, lookup-hit}
+use Rattle.advert.specs.Sections.{isType}
+use Rattle.advert.specs.SectionsLaws.{Passed, passed-none, passed-skip, lookup-none, lookup-end, lookup-hit}
 use Rattle.advert.proofs.lookup.find_section.Statement.{statement}
 use Rattle.advert.proofs.lookup.find_section.Tie as tie
 use Rattle.advert.proofs.lookup.find_section.Reads as reads
@@ -23,7 +24,9 @@ part-end-requires : tie.Need-part-end-requires Inv-loop μ-loop
 part-end-requires c κs = search needs
 
 returns : tie.Need-returns Inv-loop μ-loop
-returns c = let l = c .before .before .before .loop in lookup-none _ _ _ _ (l .i) (l .seen) (l .inv .3) _ _ (omega arith) (c .before .part-end .ensures) (c .if1 .taken)
+returns c = let l =
+    c .before .before .before .loop in lookup-none _ _ _ _ (l .i) (l .seen) (l .inv .3) _ _ (omega arith)
+    (c .before .part-end .ensures) (c .if1 .taken)
 
 add-x : tie.Need-add-x Inv-loop μ-loop
 add-x c = omega arith
@@ -39,7 +42,9 @@ add-t15 c = omega arith
 
 returns-2 : tie.Need-returns-2 Inv-loop μ-loop
 unfolding isType
-returns-2 c = let l = c .before .before .before .before .before .loop in lookup-hit _ _ _ _ (l .i) (l .seen) (l .inv .3) _ (omega arith) (c .before .before .before .part-end .ensures) (omega arith) (c .if2 .taken)
+returns-2 c = let l =
+    c .before .before .before .before .before .loop in lookup-hit _ _ _ _ (l .i) (l .seen) (l .inv .3) _ (omega arith)
+    (c .before .before .before .part-end .ensures) (omega arith) (c .if2 .taken)
 
 loop-less : tie.Need-loop-less Inv-loop μ-loop
 loop-less c = omega arith

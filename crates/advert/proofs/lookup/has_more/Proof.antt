@@ -1,4 +1,4 @@
-use Rattle.advert.specs.Either.{none-second, none-first}
+use Rattle.advert.specs.EitherLaws.{none-second, none-first}
 use Rattle.advert.proofs.lookup.has_more.Statement.{statement}
 use Rattle.advert.proofs.lookup.has_more.Tie as tie
 use Rattle.advert.proofs.lookup.has_more.Reads as reads

@@ -1,5 +1,6 @@
-use Rattle.advert.specs.Either.{textOf, text-second, text-first, found-here, found-there, found-second, handed-none, handed}
-use Rattle.advert.specs.Sections.{seen-short}
+use Rattle.advert.specs.Either.{textOf}
+use Rattle.advert.specs.EitherLaws.{text-second, text-first, found-here, found-there, found-second, handed-none, handed}
+use Rattle.advert.specs.SectionsLaws.{seen-short}
 use Prim.Native.Nat.{ℕ, _-_}
 use mathlib.Core.List.{List}
 use mathlib.Core.Path.{_≡_, refl, ap, _∙_}
@@ -33,9 +34,14 @@ part-result-end : tie.Need-part-result-end
 part-result-end c = c .before .before .find-section .ensures .high (c .before .if1 .taken)
 
 returns : tie.Need-returns
-returns c = let a = c .before .before .before .before .before .before .before .before .args in let s = c .before .before .before .find-section .result in
-    handed _ _ _ _ _ _ (found-here _ _ (a .adv .now) (a .scan .now) (a .second .now) _ _ _ _ (c .before .before .if1 .taken) (rw (c .before .before .before .before .before .text-of .ensures) at (c .before .before .before .find-section .ensures))) refl
-    (ap (λ (x : List ℕ). take (s .to - (s .from - 1)) (drop (s .from - 1) x)) (c .before .before .before .before .before .text-of .ensures))
+returns c = let a = c .before .before .before .before .before .before .before .before .args in let s =
+    c .before .before .before .find-section .result in
+    handed _ _ _ _ _ _
+    (found-here _ _ (a .adv .now) (a .scan .now) (a .second .now) _ _ _ _ (c .before .before .if1 .taken)
+    (rw (c .before .before .before .before .before .text-of .ensures) at
+    (c .before .before .before .find-section .ensures))) refl
+    (ap (λ (x : List ℕ). take (s .to - (s .from - 1)) (drop (s .from - 1) x))
+    (c .before .before .before .before .before .text-of .ensures))
 
 sub-result-2 : tie.Need-sub-result-2
 sub-result-2 c = search needs
@@ -48,15 +54,22 @@ part-result-end-2 c = search needs
 
 returns-2 : tie.Need-returns-2
 returns-2 c = let y = c .before .if2 .taken in
-    handed-none _ _ _ _ _ _ (found-there _ _ _ _ _ _ _ _ _ (rw (c .before .before .before .before .before .text-of .ensures ∙ text-second _ _ y) at (c .before .before .before .find-section .ensures)) y) (c .before .before .before .before .before .before .before .before .pre)
+    handed-none _ _ _ _ _ _
+    (found-there _ _ _ _ _ _ _ _ _
+    (rw (c .before .before .before .before .before .text-of .ensures ∙ text-second _ _ y) at
+    (c .before .before .before .find-section .ensures)) y)
+    (c .before .before .before .before .before .before .before .before .pre)
     (c .before .before .if1 .left) refl
 
 find-section-requires-2 : tie.Need-find-section-requires-2
 find-section-requires-2 c κs = search needs
 
 add-seen : tie.Need-add-seen
-add-seen c = let e = c .before .before .before .before .before .before .before .text-of .ensures ∙ text-first _ _ (c .before .before .before .if2 .left) in
-    let p = seen-short (rw e at (c .before .before .before .before .before .find-section .ensures)) in let q = seen-short (c .before .before .find-section2 .ensures) in omega arith
+add-seen c = let e =
+    c .before .before .before .before .before .before .before .text-of .ensures
+    ∙ text-first _ _ (c .before .before .before .if2 .left) in
+    let p = seen-short (rw e at (c .before .before .before .before .before .find-section .ensures)) in let q =
+    seen-short (c .before .before .find-section2 .ensures) in omega arith
 
 sub-from-2 : tie.Need-sub-from-2
 sub-from-2 c = omega (arith, c .before .before .before .before .find-section2 .ensures .low (c .before .if3 .taken))
@@ -65,15 +78,23 @@ sub-result-3 : tie.Need-sub-result-3
 sub-result-3 c = omega (arith, c .before .before .before .before .find-section2 .ensures .order (c .before .if3 .taken))
 
 part-result-start-3 : tie.Need-part-result-start-3
-part-result-start-3 c = omega (arith, c .before .before .before .before .find-section2 .ensures .order (c .before .if3 .taken))
+part-result-start-3 c =
+    omega (arith, c .before .before .before .before .find-section2 .ensures .order (c .before .if3 .taken))
 
 part-result-end-3 : tie.Need-part-result-end-3
 part-result-end-3 c = c .before .before .before .before .find-section2 .ensures .high (c .before .if3 .taken)
 
 returns-3 : tie.Need-returns-3
 unfolding textOf pick
-returns-3 c = let n = c .before .before .before .before .before .before .if2 .left in let e = c .before .before .before .before .before .before .before .before .before .before .text-of .ensures ∙ text-first _ _ n in
-    handed _ _ _ _ _ _ (found-second _ _ _ _ _ _ _ _ _ _ (rw (text-first _ _ n) at (c .before .before .before .before .before .before .before .before .before .before .before .before .before .pre)) (c .before .before .before .before .before .before .before .if1 .left) (rw e at (c .before .before .before .before .before .before .before .before .find-section .ensures))
+returns-3 c = let n = c .before .before .before .before .before .before .if2 .left in let e =
+    c .before .before .before .before .before .before .before .before .before .before .text-of .ensures
+    ∙ text-first _ _ n in
+    handed _ _ _ _ _ _
+    (found-second _ _ _ _ _ _ _ _ _ _
+    (rw (text-first _ _ n) at
+    (c .before .before .before .before .before .before .before .before .before .before .before .before .before
+    .pre)) (c .before .before .before .before .before .before .before .if1 .left)
+    (rw e at (c .before .before .before .before .before .before .before .before .find-section .ensures))
     (c .before .before .before .before .before .find-section2 .ensures) n) (c .before .before .if3 .taken) refl
 
 sub-result-4 : tie.Need-sub-result-4
@@ -86,9 +107,17 @@ part-result-end-4 : tie.Need-part-result-end-4
 part-result-end-4 c = search needs
 
 returns-4 : tie.Need-returns-4
-returns-4 c = let n = c .before .before .before .before .before .if2 .left in let e = c .before .before .before .before .before .before .before .before .before .text-of .ensures ∙ text-first _ _ n in
-    handed-none _ _ _ _ _ _ (found-second _ _ _ _ _ _ _ _ _ _ (rw (text-first _ _ n) at (c .before .before .before .before .before .before .before .before .before .before .before .before .pre)) (c .before .before .before .before .before .before .if1 .left) (rw e at (c .before .before .before .before .before .before .before .find-section .ensures))
-    (c .before .before .before .before .find-section2 .ensures) n) (c .before .before .before .before .before .before .before .before .before .before .before .before .pre) (c .before .if3 .left) refl
+returns-4 c = let n = c .before .before .before .before .before .if2 .left in let e =
+    c .before .before .before .before .before .before .before .before .before .text-of .ensures ∙ text-first _ _ n in
+    handed-none _ _ _ _ _ _
+    (found-second _ _ _ _ _ _ _ _ _ _
+    (rw (text-first _ _ n) at
+    (c .before .before .before .before .before .before .before .before .before .before .before .before .pre))
+    (c .before .before .before .before .before .before .if1 .left)
+    (rw e at (c .before .before .before .before .before .before .before .find-section .ensures))
+    (c .before .before .before .before .find-section2 .ensures) n)
+    (c .before .before .before .before .before .before .before .before .before .before .before .before .pre)
+    (c .before .if3 .left) refl
 
 pub next-section-spec : {M : Type 1} → statement M
 next-section-spec =

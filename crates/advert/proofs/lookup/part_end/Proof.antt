@@ -1,6 +1,6 @@
 use native.Mathlib.Omega.{arith}
 use borrow.Author.Needs.{needs}
-use Rattle.advert.specs.Parts.{part-end, part-short, part-past, part-found}
+use Rattle.advert.specs.PartsLaws.{part-end, part-short, part-past, part-found}
 use Rattle.advert.proofs.lookup.part_end.Statement.{statement}
 use Rattle.advert.proofs.lookup.part_end.Tie as tie
 

@@ -1,5 +1,5 @@
 use mathlib.Core.Path.{sym}
-use Rattle.advert.specs.Either.{text-second, text-first}
+use Rattle.advert.specs.EitherLaws.{text-second, text-first}
 use Rattle.advert.proofs.lookup.text_of.Statement.{statement}
 use Rattle.advert.proofs.lookup.text_of.Tie as tie
 use Rattle.advert.proofs.lookup.text_of.Reads as reads

@@ -3,8 +3,10 @@ use mathlib.Core.Path.{_≡_}
 use native.Mathlib.Omega.{arith}
 use lib.ListN.{length, take, drop}
 use Rattle.laws.specs.Tests.{sames}
-use Rattle.advert.specs.Pattern.{holdsAt, holds-past, holds-start, holds-end, holds-step, holds-stop}
-use Rattle.advert.specs.Cost.{octetsCost, sameCost, cost-past, cost-start, cost-end, cost-step, cost-stop}
+use Rattle.advert.specs.Pattern.{holdsAt}
+use Rattle.advert.specs.PatternLaws.{holds-past, holds-start, holds-end, holds-step, holds-stop}
+use Rattle.advert.specs.Cost.{octetsCost, sameCost}
+use Rattle.advert.specs.CostLaws.{cost-past, cost-start, cost-end, cost-step, cost-stop}
 use Rattle.advert.proofs.patterns.compare.Statement.{statement}
 use Rattle.advert.proofs.patterns.compare.Tie as tie
 use Rattle.advert.proofs.patterns.compare.Reads as reads

@@ -1,6 +1,6 @@
 use native.Mathlib.Omega.{arith}
 use borrow.Author.Needs.{needs}
-use Rattle.advert.specs.Pattern.{pattern-of}
+use Rattle.advert.specs.PatternLaws.{pattern-of}
 use Rattle.advert.proofs.patterns.pattern_meets.Statement.{statement}
 use Rattle.advert.proofs.patterns.pattern_meets.Tie as tie
 

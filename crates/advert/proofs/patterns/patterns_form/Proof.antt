@@ -4,17 +4,8 @@ use native.Mathlib.Omega.{arith}
 use borrow.Author.Needs.{needs}
 use lib.ListN.{length, drop}
 use Rattle.advert.specs.Parts.{parts}
-use Rattle.advert.specs.Pattern.{
-  patternsForm,
-  fills,
-  form-none,
-  form-zero,
-  form-start,
-  filled-end,
-  filled-none,
-  filled-over,
-  filled-more,
-}
+use Rattle.advert.specs.Pattern.{patternsForm, fills}
+use Rattle.advert.specs.PatternLaws.{form-none, form-zero, form-start, filled-end, filled-none, filled-over, filled-more}
 use Rattle.advert.proofs.patterns.patterns_form.Statement.{statement}
 use Rattle.advert.proofs.patterns.patterns_form.Tie as tie
 

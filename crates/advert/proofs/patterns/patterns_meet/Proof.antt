@@ -4,22 +4,16 @@ use native.Mathlib.Omega.{arith}
 use borrow.Author.Needs.{needs}
 use lib.ListN.{length, drop}
 use Rattle.laws.specs.Loops.{some}
-use Rattle.advert.specs.Parts.{part-least}
+use Rattle.advert.specs.PartsLaws.{part-least}
 use Rattle.advert.specs.Parts.{parts}
-use Rattle.advert.specs.Pattern.{
-  patternsMeet,
-  patterns,
-  patternMeets,
-  asked-end,
-  asked-none,
-  asked-hit,
-  asked-miss,
-}
+use Rattle.advert.specs.Pattern.{patternsMeet, patterns, patternMeets}
+use Rattle.advert.specs.PatternLaws.{asked-end, asked-none, asked-hit, asked-miss}
 use Rattle.advert.proofs.patterns.patterns_meet.Statement.{statement}
 use Rattle.advert.proofs.patterns.patterns_meet.Tie as tie
 
 abbrev Inv-loop : tie.InvT-loop
-Inv-loop condition adv scan i₀ i = patternsMeet condition adv scan ≡ some (patternMeets adv scan) (parts 3 (drop i condition))
+Inv-loop condition adv scan i₀ i =
+    patternsMeet condition adv scan ≡ some (patternMeets adv scan) (parts 3 (drop i condition))
 
 abbrev μ-loop : tie.MeasureT-loop
 μ-loop condition adv scan i₀ i = length condition - i

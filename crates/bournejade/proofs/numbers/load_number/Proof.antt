@@ -1,4 +1,4 @@
-use Rattle.bournejade.specs.Gives.{load-accepted, load-rejected}
+use Rattle.bournejade.specs.GivesLaws.{load-accepted, load-rejected}
 use borrow.Author.Needs.{needs}
 use Rattle.bournejade.proofs.numbers.load_number.Statement.{statement}
 use Rattle.bournejade.proofs.numbers.load_number.Tie as tie
@@ -6,23 +6,18 @@ use Rattle.bournejade.proofs.numbers.load_number.Reads as reads
 use Rattle.bournejade.proofs.numbers.load_number.Lts as lts
 use Rattle.refusals.proofs.number_of.Reads as number-of-reads
 
--- src/lib.rt:67:29
 enum-told : tie.Need-enum-told
 enum-told c = search needs
 
--- src/lib.rt:68:26
 enum-known-a : tie.Need-enum-known-a
 enum-known-a c = search needs
 
--- src/lib.rt:68:32
 number-of-requires : tie.Need-number-of-requires
 number-of-requires c κs = search needs
 
--- src/lib.rt:63:1
 returns : tie.Need-returns
 returns c = load-accepted _ (c .enum-told .given .1)
 
--- src/lib.rt:63:1
 returns-2 : tie.Need-returns-2
 returns-2 c = load-rejected _ _ _ (c .before .before .a .given .1) (c .number-of .ensures)
 

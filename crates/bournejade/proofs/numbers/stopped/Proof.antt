@@ -1,4 +1,4 @@
-use Rattle.bournejade.specs.Gives.{stop-end, stop-refused}
+use Rattle.bournejade.specs.GivesLaws.{stop-end, stop-refused}
 use borrow.Author.Needs.{needs}
 use Rattle.bournejade.proofs.numbers.stopped.Statement.{statement}
 use Rattle.bournejade.proofs.numbers.stopped.Tie as tie
@@ -6,23 +6,18 @@ use Rattle.bournejade.proofs.numbers.stopped.Reads as reads
 use Rattle.bournejade.proofs.numbers.stopped.Lts as lts
 use Rattle.refusals.proofs.number_of.Reads as number-of-reads
 
--- src/lib.rt:48:22
 enum-told : tie.Need-enum-told
 enum-told c = search needs
 
--- src/lib.rt:49:23
 enum-known-s : tie.Need-enum-known-s
 enum-known-s c = search needs
 
--- src/lib.rt:49:29
 number-of-requires : tie.Need-number-of-requires
 number-of-requires c κs = search needs
 
--- src/lib.rt:44:1
 returns : tie.Need-returns
 returns c = stop-end _ (c .enum-told .given .1)
 
--- src/lib.rt:44:1
 returns-2 : tie.Need-returns-2
 returns-2 c = stop-refused _ _ _ (c .before .before .s .given .1) (c .number-of .ensures)
 

@@ -1,23 +1,19 @@
-use Rattle.index.specs.Asked.{told-by, told-nobody}
+use Rattle.index.specs.AskedLaws.{told-by, told-nobody}
 use borrow.Author.Needs.{needs}
 use Rattle.bournejade.proofs.numbers.watch_told.Statement.{statement}
 use Rattle.bournejade.proofs.numbers.watch_told.Tie as tie
 use Rattle.bournejade.proofs.numbers.watch_told.Reads as reads
 use Rattle.bournejade.proofs.numbers.watch_told.Lts as lts
 
--- src/lib.rt:97:28
 enum-known-w : tie.Need-enum-known-w
 enum-known-w c = search needs
 
--- src/lib.rt:102:13
 enum-told : tie.Need-enum-told
 enum-told c = search needs
 
--- src/lib.rt:93:1
 returns : tie.Need-returns
 returns c = told-by _ _ _ (c .before .w .given .1)
 
--- src/lib.rt:93:1
 returns-2 : tie.Need-returns-2
 returns-2 c = told-nobody _ (c .enum-told .given .1)
 

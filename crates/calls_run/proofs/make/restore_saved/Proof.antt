@@ -10,31 +10,24 @@ use Rattle.calls_run.proofs.seen.closed.Reads as closed-reads
 use Rattle.calls_run.proofs.seen.opened.Reads as opened-reads
 use Rattle.calls_run.proofs.seen.took.Reads as took-reads
 
--- src/make.rt:79:43
 opened-requires : tie.Need-opened-requires
 opened-requires c κs = search needs
 
--- src/make.rt:79:32
 took-requires : tie.Need-took-requires
 took-requires c κs = search needs
 
--- src/make.rt:79:9
 closed-requires : tie.Need-closed-requires
 closed-requires c κs = search needs
 
--- src/make.rt:79:9
 returns : tie.Need-returns
 returns c = search needs
 
--- src/make.rt:81:20
 slice-aggregate-restore : tie.Need-slice-aggregate-restore
 slice-aggregate-restore c = simp length-take (omega arith)
 
--- src/make.rt:81:5
 restore-requires : tie.Need-restore-requires
 restore-requires c κs = search needs
 
--- src/make.rt:77:1
 returns-2 : tie.Need-returns-2
 returns-2 c = search needs
 

@@ -14,31 +14,24 @@ Inv-loop block₀ packed p₀ i₀ block p i = i ≤ length packed
 abbrev μ-loop : tie.MeasureT-loop
 μ-loop block₀ packed p₀ i₀ block p i = length packed - i
 
--- src/make.rt:134:5
 loop-holds : tie.Need-loop-holds Inv-loop μ-loop
 loop-holds c = omega arith
 
--- src/make.rt:135:24
 shared-slice-read-lay : tie.Need-shared-slice-read-lay Inv-loop μ-loop
 shared-slice-read-lay c = omega arith
 
--- src/make.rt:135:9
 lay-requires : tie.Need-lay-requires Inv-loop μ-loop
 lay-requires c κs = search needs
 
--- src/make.rt:136:9
 add-i : tie.Need-add-i Inv-loop μ-loop
 add-i c = omega arith
 
--- src/make.rt:134:5
 loop-less : tie.Need-loop-less Inv-loop μ-loop
 loop-less c = omega arith
 
--- src/make.rt:134:5
 loop-again : tie.Need-loop-again Inv-loop μ-loop
 loop-again c = omega arith
 
--- src/make.rt:128:1
 returns : tie.Need-returns Inv-loop μ-loop
 returns c = search needs
 

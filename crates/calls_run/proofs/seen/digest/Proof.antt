@@ -15,35 +15,27 @@ Inv-loop from s d₀ i₀ d i = i ≤ length s
 abbrev μ-loop : tie.MeasureT-loop
 μ-loop from s d₀ i₀ d i = length s - i
 
--- src/seen.rt:43:5
 loop-holds : tie.Need-loop-holds Inv-loop μ-loop
 loop-holds c = omega arith
 
--- src/seen.rt:44:25
 shared-slice-read-wide : tie.Need-shared-slice-read-wide Inv-loop μ-loop
 shared-slice-read-wide c = omega arith
 
--- src/seen.rt:44:20
 wide-requires : tie.Need-wide-requires Inv-loop μ-loop
 wide-requires c κs = search needs
 
--- src/seen.rt:44:9
 mix-requires : tie.Need-mix-requires Inv-loop μ-loop
 mix-requires c κs = search needs
 
--- src/seen.rt:45:9
 add-i : tie.Need-add-i Inv-loop μ-loop
 add-i c = omega arith
 
--- src/seen.rt:43:5
 loop-less : tie.Need-loop-less Inv-loop μ-loop
 loop-less c = omega arith
 
--- src/seen.rt:43:5
 loop-again : tie.Need-loop-again Inv-loop μ-loop
 loop-again c = omega arith
 
--- src/seen.rt:40:1
 returns : tie.Need-returns Inv-loop μ-loop
 returns c = search needs
 

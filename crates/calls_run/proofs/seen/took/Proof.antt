@@ -9,43 +9,33 @@ use Rattle.calls_run.proofs.seen.add.Reads as add-reads
 use Rattle.calls_run.proofs.seen.digest.Reads as digest-reads
 use Rattle.calls_run.proofs.seen.untouched.Reads as untouched-reads
 
--- src/seen.rt:110:9
 returns : tie.Need-returns
 returns c = search needs
 
--- src/seen.rt:117:34
 slice-aggregate-digest : tie.Need-slice-aggregate-digest
 slice-aggregate-digest c = simp length-take (omega arith)
 
--- src/seen.rt:117:17
 digest-requires : tie.Need-digest-requires
 digest-requires c κs = search needs
 
--- src/seen.rt:118:16
 add-requires : tie.Need-add-requires
 add-requires c κs = search needs
 
--- src/seen.rt:119:25
 sub-untouched : tie.Need-sub-untouched
 sub-untouched c = search needs
 
--- src/seen.rt:119:25
 part-untouched-start : tie.Need-part-untouched-start
 part-untouched-start c = search needs
 
--- src/seen.rt:119:25
 part-untouched-end : tie.Need-part-untouched-end
 part-untouched-end c = search needs
 
--- src/seen.rt:119:15
 untouched-requires : tie.Need-untouched-requires
 untouched-requires c κs = search needs
 
--- src/seen.rt:108:1
 returns-2 : tie.Need-returns-2
 returns-2 c = search needs
 
--- src/seen.rt:108:1
 returns-3 : tie.Need-returns-3
 returns-3 c = search needs
 

@@ -1,4 +1,4 @@
-use Rattle.commands.specs.Replies.{head-put}
+use Rattle.commands.specs.RepliesLaws.{head-put}
 use native.Mathlib.Omega.{arith}
 use mathlib.Core.Path.{_≡_}
 use lib.ListN.{length, length-set}

@@ -1,4 +1,4 @@
-use Rattle.commands.specs.Replies.{reply-two}
+use Rattle.commands.specs.RepliesLaws.{reply-two}
 use native.Mathlib.Omega.{arith}
 use mathlib.Core.Path.{_≡_}
 use lib.ListN.{length, length-set}

@@ -1,4 +1,5 @@
-use Rattle.commands.specs.Replies.{headOf, reply-two}
+use Rattle.commands.specs.Replies.{headOf}
+use Rattle.commands.specs.RepliesLaws.{reply-two}
 use Rattle.laws.specs.Put.{put}
 use Prim.Native.Nat.{ℕ}
 use native.Mathlib.Omega.{arith}

@@ -1,4 +1,5 @@
-use Rattle.commands.specs.Replies.{prefixCount, headOf, answer-features, reply-features}
+use Rattle.commands.specs.Replies.{prefixCount, headOf}
+use Rattle.commands.specs.RepliesLaws.{answer-features, reply-features}
 use Rattle.model.specs.Commands.{features}
 use Rattle.laws.specs.Put.{put}
 use native.Mathlib.Omega.{arith}

@@ -11,7 +11,7 @@ use Rattle.counts.specs.Given.{Given}
 use Rattle.packets.specs.Moves.{AtPair}
 use Rattle.packets.specs.Starts.{Holding}
 use Rattle.counts.specs.Room.{weak}
-use Rattle.counts.specs.Search.{weak-none, weak-turn, weak-end, pair-read}
+use Rattle.counts.specs.SearchLaws.{weak-none, weak-turn, weak-end, pair-read}
 use Rattle.counts.proofs.packet.count_weak.Statement.{statement}
 use Rattle.counts.proofs.packet.count_weak.Tie as tie
 use Rattle.counts.proofs.packet.count_weak.Reads as reads
@@ -27,43 +27,37 @@ Inv-loop s n acts dev least k₀ i₀ k i =
 abbrev μ-loop : tie.MeasureT-loop
 μ-loop s n acts dev least k₀ i₀ k i = n - i
 
--- src/packet.rt:167:5
 loop-holds : tie.Need-loop-holds Inv-loop μ-loop
 loop-holds c = (omega arith, omega arith, λ m p w g e. weak-none (m .mons) p (m .pairs))
 
--- src/packet.rt:168:13
 is-weak-requires : tie.Need-is-weak-requires Inv-loop μ-loop
 is-weak-requires c κs = search needs
 
--- src/packet.rt:169:14
 flag-requires : tie.Need-flag-requires Inv-loop μ-loop
 flag-requires c κs = search needs
 
--- src/packet.rt:169:9
 add-k : tie.Need-add-k Inv-loop μ-loop
 add-k c = omega arith
 
--- src/packet.rt:170:9
 add-i : tie.Need-add-i Inv-loop μ-loop
 add-i c = omega arith
 
--- src/packet.rt:167:5
 loop-less : tie.Need-loop-less Inv-loop μ-loop
 loop-less c = omega arith
 
--- src/packet.rt:167:5
 loop-again : tie.Need-loop-again Inv-loop μ-loop
-loop-again c = let a = c .before .before .before .before .before .before .args in let l = c .before .before .before .loop in (
-  omega arith,
-  omega (arith, c .flag .ensures .1),
-  λ m p w g e.
-      let x : AtPair m (a .s .now) (l .i) = record { measured = w .measured; block = w .block; within = omega (arith, w .count) } in
-      ap (λ (k : ℕ). l .k + k) (c .flag .ensures .0)
-      ∙ weak-turn (m .mons) p (m .pairs) (l .i) (l .k) (c .before .is-weak .result) (x .within) (l .inv .2 m p w g e)
-      (pair-read m (l .i) p (c .before .is-weak .ensures m p x g e)),
-)
+loop-again c = let a = c .before .before .before .before .before .before .args in let l =
+    c .before .before .before .loop in (
+      omega arith,
+      omega (arith, c .flag .ensures .1),
+      λ m p w g e.
+          let x : AtPair m (a .s .now) (l .i) =
+          record { measured = w .measured; block = w .block; within = omega (arith, w .count) } in
+          ap (λ (k : ℕ). l .k + k) (c .flag .ensures .0)
+          ∙ weak-turn (m .mons) p (m .pairs) (l .i) (l .k) (c .before .is-weak .result) (x .within) (l .inv .2 m p w g e)
+          (pair-read m (l .i) p (c .before .is-weak .ensures m p x g e)),
+    )
 
--- src/packet.rt:161:1
 returns : tie.Need-returns Inv-loop μ-loop
 returns c = let l = c .before .loop in (
   omega arith,

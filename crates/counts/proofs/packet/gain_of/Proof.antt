@@ -7,25 +7,22 @@ use Rattle.counts.proofs.packet.gain_of.Lts as lts
 use Rattle.state.proofs.level_of.Reads as level-of-reads
 use Rattle.counts.proofs.packet.reports_if.Reads as reports-if-reads
 
--- src/packet.rt:212:9
 reports-if-requires : tie.Need-reports-if-requires
 reports-if-requires c κs = search needs
 
--- src/packet.rt:213:16
 sub-last : tie.Need-sub-last
 sub-last c = search needs
 
--- src/packet.rt:214:22
 shared-slice-read-level-of : tie.Need-shared-slice-read-level-of
 shared-slice-read-level-of c = search needs
 
--- src/packet.rt:214:9
 level-of-requires : tie.Need-level-of-requires
 level-of-requires c κs = search needs
 
--- src/packet.rt:208:1
 returns : tie.Need-returns
-returns c = let a = c .before .before .before .before .args in gain-made (a .cause) (a .payload .now) (c .before .before .reports-if .ensures) (c .level-of .ensures)
+returns c = let a =
+    c .before .before .before .before .args in gain-made (a .cause) (a .payload .now)
+    (c .before .before .reports-if .ensures) (c .level-of .ensures)
 
 pub gain-of-spec : {M : Type 1} → statement M
 gain-of-spec =

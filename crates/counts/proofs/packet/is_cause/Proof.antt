@@ -9,21 +9,20 @@ use Rattle.counts.proofs.packet.is_cause.Statement.{statement}
 use Rattle.counts.proofs.packet.is_cause.Tie as tie
 use Rattle.counts.proofs.packet.is_cause.Reads as reads
 use Rattle.counts.proofs.packet.is_cause.Lts as lts
-use Rattle.counts.proofs.packet.is_wanted.Reads as is-wanted-reads
+use Rattle.counts.proofs.reasons.is_wanted.Reads as is-wanted-reads
 
--- src/packet.rt:242:8
 is-wanted-requires : tie.Need-is-wanted-requires
 is-wanted-requires c κs = search needs
 
--- src/packet.rt:243:9
 returns : tie.Need-returns
 returns c = let a = c .before .before .before .before .args in λ m h dev acts w g low is o.
-    ap (λ (t : Bool). t || (a .start && allowed (a .a))) (sym (c .if1 .taken) ∙ c .before .is-wanted .ensures m h dev acts w g low is o)
+    ap (λ (t : Bool). t || (a .start && allowed (a .a)))
+    (sym (c .if1 .taken) ∙ c .before .is-wanted .ensures m h dev acts w g low is o)
 
--- src/packet.rt:238:1
 returns-2 : tie.Need-returns-2
 returns-2 c = let a = c .before .before .before .before .args in λ m h dev acts w g low is o.
-    allowed-by (a .a) (a .start) (wanted m (packetOf (a .payload .now)) h) (sym (c .before .is-wanted .ensures m h dev acts w g low is o) ∙ c .if1 .left)
+    allowed-by (a .a) (a .start) (wanted m (packetOf (a .payload .now)) h)
+    (sym (c .before .is-wanted .ensures m h dev acts w g low is o) ∙ c .if1 .left)
 
 pub is-cause-spec : {M : Type 1} → statement M
 is-cause-spec = tie.close (tie.spec is-wanted-requires returns returns-2)

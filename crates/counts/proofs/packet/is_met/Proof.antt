@@ -2,28 +2,28 @@ use mathlib.Core.Path.{refl}
 use native.Mathlib.Omega.{arith}
 use lib.ListN.{getD}
 use Prim.Native.Nat.{_%_}
-use Rattle.counts.specs.Search.{met-other, met-high, met-own}
+use Rattle.counts.specs.SearchLaws.{met-other, met-high, met-own}
 use borrow.Author.Needs.{needs}
 use Rattle.counts.proofs.packet.is_met.Statement.{statement}
 use Rattle.counts.proofs.packet.is_met.Tie as tie
 use Rattle.counts.proofs.packet.is_met.Reads as reads
 use Rattle.counts.proofs.packet.is_met.Lts as lts
 
--- src/packet.rt:128:9
 returns : tie.Need-returns
-returns c = let a = c .before .args in λ m p s i w g e. met-other m s i p (a .acts .now) (a .dev) (a .key) w g e (c .if1 .taken)
+returns c = let a =
+    c .before .args in λ m p s i w g e. met-other m s i p (a .acts .now) (a .dev) (a .key) w g e (c .if1 .taken)
 
--- src/packet.rt:132:9
 returns-2 : tie.Need-returns-2
-returns-2 c = let a = c .before .before .args in λ m p s i w g e. met-high m s i p (a .acts .now) (a .dev) (a .key) w g e (omega arith)
+returns-2 c = let a =
+    c .before .before .args in λ m p s i w g e. met-high m s i p (a .acts .now) (a .dev) (a .key) w g e (omega arith)
 
--- src/packet.rt:134:23
 shared-slice-read-result : tie.Need-shared-slice-read-result
 shared-slice-read-result c = search needs
 
--- src/packet.rt:123:1
 returns-3 : tie.Need-returns-3
-returns-3 c = let a = c .before .before .before .args in λ m p s i w g e. met-own m s i p (a .acts .now) (a .dev) (a .key) w g e (getD (a .acts .now) (a .key % 256) 0) (c .before .before .if1 .left) refl
+returns-3 c = let a =
+    c .before .before .before .args in λ m p s i w g e. met-own m s i p (a .acts .now) (a .dev) (a .key) w g e
+    (getD (a .acts .now) (a .key % 256) 0) (c .before .before .if1 .left) refl
 
 pub is-met-spec : {M : Type 1} → statement M
 is-met-spec = tie.close (tie.spec returns returns-2 shared-slice-read-result returns-3)

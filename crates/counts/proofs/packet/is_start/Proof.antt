@@ -6,23 +6,25 @@ use Rattle.counts.proofs.packet.is_start.Statement.{statement}
 use Rattle.counts.proofs.packet.is_start.Tie as tie
 use Rattle.counts.proofs.packet.is_start.Reads as reads
 use Rattle.counts.proofs.packet.is_start.Lts as lts
-use Rattle.counts.proofs.packet.is_held.Reads as is-held-reads
+use Rattle.counts.proofs.reasons.is_held.Reads as is-held-reads
 
--- src/packet.rt:229:9
 returns : tie.Need-returns
-returns c = let a = c .before .before .args in λ m p h w x. begun-weak (a .a) (a .left) (holds (m .pairs) h (deviceOf p)) (c .if1 .taken)
+returns c = let a =
+    c .before .before .args in λ m p h w x. begun-weak (a .a) (a .left) (holds (m .pairs) h (deviceOf p))
+    (c .if1 .taken)
 
--- src/packet.rt:232:9
 returns-2 : tie.Need-returns-2
-returns-2 c = let a = c .before .before .before .args in λ m p h w x. begun-none (a .a) (a .left) (holds (m .pairs) h (deviceOf p)) (c .if2 .taken)
+returns-2 c = let a =
+    c .before .before .before .args in λ m p h w x. begun-none (a .a) (a .left) (holds (m .pairs) h (deviceOf p))
+    (c .if2 .taken)
 
--- src/packet.rt:234:6
 is-held-requires : tie.Need-is-held-requires
 is-held-requires c κs = search needs
 
--- src/packet.rt:224:1
 returns-3 : tie.Need-returns-3
-returns-3 c = let a = c .before .before .before .before .args in λ m p h w x. begun-by (a .a) (a .left) (c .before .before .if1 .left) (c .before .if2 .left) (c .is-held .ensures m p h w x)
+returns-3 c = let a =
+    c .before .before .before .before .args in λ m p h w x. begun-by (a .a) (a .left) (c .before .before .if1 .left)
+    (c .before .if2 .left) (c .is-held .ensures m p h w x)
 
 pub is-start-spec : {M : Type 1} → statement M
 is-start-spec = tie.close (tie.spec returns returns-2 is-held-requires returns-3)

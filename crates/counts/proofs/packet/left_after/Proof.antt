@@ -7,19 +7,15 @@ use Rattle.counts.proofs.packet.left_after.Tie as tie
 use Rattle.counts.proofs.packet.left_after.Reads as reads
 use Rattle.counts.proofs.packet.left_after.Lts as lts
 
--- src/packet.rt:253:9
 returns : tie.Need-returns
 returns c = search needs
 
--- src/packet.rt:256:16
 sub-result : tie.Need-sub-result
 sub-result c = search needs
 
--- src/packet.rt:256:9
 returns-2 : tie.Need-returns-2
 returns-2 c = (left-yes (c .before .before .args .left) (c .if2 .taken), omega arith)
 
--- src/packet.rt:249:1
 returns-3 : tie.Need-returns-3
 returns-3 c = (left-no (c .before .before .args .left) (c .if2 .left), omega arith)
 

@@ -7,25 +7,22 @@ use Rattle.counts.proofs.packet.reports_of.Reads as reads
 use Rattle.counts.proofs.packet.reports_of.Lts as lts
 use Rattle.octets.proofs.wide.Reads as wide-reads
 
--- src/packet.rt:189:33
 shared-slice-read-wide : tie.Need-shared-slice-read-wide
 shared-slice-read-wide c = search needs
 
--- src/packet.rt:189:20
 wide-requires : tie.Need-wide-requires
 wide-requires c κs = search needs
 
--- src/packet.rt:189:15
 add-end : tie.Need-add-end
 add-end c = search needs
 
--- src/packet.rt:191:9
 returns : tie.Need-returns
-returns c = reports-one (c .before .before .before .before .args .payload .now) (omega (arith, c .before .wide .ensures))
+returns c = reports-one (c .before .before .before .before .args .payload .now)
+    (omega (arith, c .before .wide .ensures))
 
--- src/packet.rt:185:1
 returns-2 : tie.Need-returns-2
-returns-2 c = reports-two (c .before .before .before .before .args .payload .now) (omega (arith, c .before .wide .ensures))
+returns-2 c = reports-two (c .before .before .before .before .args .payload .now)
+    (omega (arith, c .before .wide .ensures))
 
 pub reports-of-spec : {M : Type 1} → statement M
 reports-of-spec =

@@ -23,59 +23,66 @@ use Rattle.totals.proofs.no_gains.Reads as no-gains-reads
 
 abbrev Inv-loop : tie.InvT-loop
 Inv-loop s n acts dev payload room gains₀ left₀ h₀ gains left h =
-    (h ≤ mostMonitors) × (length gains ≡ mostMonitors) × ((m : Model) → Holding m s n → Given (m .mons) (packetOf payload) acts dev → room ≡ leftAt m (packetOf payload) 0
-    → (left ≡ leftAt m (packetOf payload) h) × (take h (map wideRow gains) ≡ tableOf (rowIn m (packetFrame (packetOf payload))) h))
+    (h ≤ mostMonitors) × (length gains ≡ mostMonitors)
+    × ((m : Model) → Holding m s n → Given (m .mons) (packetOf payload) acts dev
+    → room ≡ leftAt m (packetOf payload) 0
+    → (left ≡ leftAt m (packetOf payload) h)
+    × (take h (map wideRow gains) ≡ tableOf (rowIn m (packetFrame (packetOf payload))) h))
 
 abbrev μ-loop : tie.MeasureT-loop
 μ-loop s n acts dev payload room gains₀ left₀ h₀ gains left h = mostMonitors - h
 
--- src/packet.rt:283:20
 no-gains-requires : tie.Need-no-gains-requires Inv-loop μ-loop
 no-gains-requires c κs = tt
 
--- src/packet.rt:286:5
 loop-holds : tie.Need-loop-holds Inv-loop μ-loop
-loop-holds c = (omega arith, ap length (c .no-gains .ensures), λ m w g e. (e, table-none (rowIn m (packetFrame (packetOf (c .before .before .before .before .args .payload .now)))) (c .no-gains .result)))
+loop-holds c = (
+  omega arith,
+  ap length (c .no-gains .ensures),
+  λ m w g e. (
+    e,
+    table-none (rowIn m (packetFrame (packetOf (c .before .before .before .before .args .payload .now))))
+        (c .no-gains .result),
+  ),
+)
 
--- src/packet.rt:287:37
 shared-slice-read-turn-at : tie.Need-shared-slice-read-turn-at Inv-loop μ-loop
 shared-slice-read-turn-at c = omega arith
 
--- src/packet.rt:287:13
 turn-at-requires : tie.Need-turn-at-requires Inv-loop μ-loop
 turn-at-requires c κs = search needs
 
--- src/packet.rt:289:9
 mul-gains : tie.Need-mul-gains Inv-loop μ-loop
 mul-gains c = search needs
 
--- src/packet.rt:289:9
 array-set-from-gains : tie.Need-array-set-from-gains Inv-loop μ-loop
 array-set-from-gains c = search needs
 
--- src/packet.rt:291:9
 add-h : tie.Need-add-h Inv-loop μ-loop
 add-h c = omega arith
 
--- src/packet.rt:286:5
 loop-less : tie.Need-loop-less Inv-loop μ-loop
 loop-less c = omega arith
 
--- src/packet.rt:286:5
 loop-again : tie.Need-loop-again Inv-loop μ-loop
-loop-again c = let a = c .before .before .before .before .before .before .before .before .before .args in let l = c .before .before .before .before .loop in (
-  omega arith,
-  simp length-set (l .inv .1),
-  λ m w g e.
-      let x = l .inv .2 m w g e in
-      let t = c .before .turn-at .ensures .1 m (a .acts .now) w g refl (x .0) in
-      (t .1, table-turn (rowIn m (packetFrame (packetOf (a .payload .now)))) (l .h) (l .gains) _ (t .0) (omega (arith, l .inv .1)) (x .1)),
-)
+loop-again c = let a = c .before .before .before .before .before .before .before .before .before .args in let l =
+    c .before .before .before .before .loop in (
+      omega arith,
+      simp length-set (l .inv .1),
+      λ m w g e.
+          let x = l .inv .2 m w g e in
+          let t = c .before .turn-at .ensures .1 m (a .acts .now) w g refl (x .0) in (
+            t .1,
+            table-turn (rowIn m (packetFrame (packetOf (a .payload .now)))) (l .h) (l .gains) _ (t .0)
+                (omega (arith, l .inv .1)) (x .1),
+          ),
+    )
 
--- src/packet.rt:279:1
 returns : tie.Need-returns Inv-loop μ-loop
 returns c = let l = c .before .loop in λ m w g e.
-    table-end (rowIn m (packetFrame (packetOf (c .before .before .before .before .before .before .args .payload .now)))) (l .h) (l .gains) (omega arith) (l .inv .1) (l .inv .2 m w g e .1)
+    table-end (rowIn m
+    (packetFrame (packetOf (c .before .before .before .before .before .before .args .payload .now)))) (l .h)
+    (l .gains) (omega arith) (l .inv .1) (l .inv .2 m w g e .1)
 
 pub turn-all-spec : {M : Type 1} → statement M
 turn-all-spec =

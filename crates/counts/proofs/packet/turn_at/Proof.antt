@@ -4,7 +4,8 @@ use native.Mathlib.Omega.{arith}
 use Rattle.model.specs.Frames.{packetOf}
 use Rattle.packets.specs.Starts.{Sought}
 use Rattle.counts.specs.Turns.{row-none, left-none, row-matched, left-matched}
-use Rattle.totals.specs.Gains.{wideRow, no-gain-wide}
+use Rattle.totals.specs.Gains.{wideRow}
+use Rattle.totals.specs.GainsLaws.{no-gain-wide}
 use borrow.Author.Needs.{needs}
 use Rattle.counts.proofs.packet.turn_at.Statement.{statement}
 use Rattle.counts.proofs.packet.turn_at.Tie as tie
@@ -16,55 +17,51 @@ use Rattle.counts.proofs.packet.left_after.Reads as left-after-reads
 use Rattle.counts.proofs.packet.gain_of.Reads as gain-of-reads
 use Rattle.totals.proofs.no_gain.Reads as no-gain-reads
 
--- src/packet.rt:267:13
 no-gain-requires : tie.Need-no-gain-requires
 no-gain-requires c κs = search needs
 
--- src/packet.rt:268:9
 returns : tie.Need-returns
 returns c = let a = c .before .before .before .before .args in (
   omega arith,
   λ m acts w g o l.
       let p = packetOf (a .payload .now) in (
-        ap wideRow (c .no-gain .ensures) ∙ no-gain-wide ∙ row-none m p (a .h) acts (a .dev) (a .a) g (c .before .before .before .before .pre .2) o (omega (arith, c .before .if1 .taken)),
-        left-none m p (a .h) acts (a .dev) (a .a) g (c .before .before .before .before .pre .2) o (omega (arith, c .before .if1 .taken)) l,
+        ap wideRow (c .no-gain .ensures) ∙ no-gain-wide
+            ∙ row-none m p (a .h) acts (a .dev) (a .a) g (c .before .before .before .before .pre .2) o
+            (omega (arith, c .before .if1 .taken)),
+        left-none m p (a .h) acts (a .dev) (a .a) g (c .before .before .before .before .pre .2) o
+            (omega (arith, c .before .if1 .taken)) l,
       ),
 )
 
--- src/packet.rt:270:26
 mul-key : tie.Need-mul-key
 mul-key c = search needs
 
--- src/packet.rt:270:15
 add-key : tie.Need-add-key
 add-key c = search needs
 
--- src/packet.rt:271:9
 is-start-requires : tie.Need-is-start-requires
 is-start-requires c κs = search needs
 
--- src/packet.rt:272:9
 is-cause-requires : tie.Need-is-cause-requires
 is-cause-requires c κs = search needs
 
--- src/packet.rt:273:9
 gain-of-requires : tie.Need-gain-of-requires
 gain-of-requires c κs = search needs
 
--- src/packet.rt:274:9
 left-after-requires : tie.Need-left-after-requires
 left-after-requires c κs = search needs
 
--- src/packet.rt:262:1
 returns-2 : tie.Need-returns-2
 returns-2 c = let a = c .before .before .before .before .before .before .before .args in (
   c .left-after .ensures .1,
   λ m acts w g o l.
       let p = packetOf (a .payload .now) in
       let low = c .before .before .before .before .before .before .before .pre .2 in
-      let x : Sought p (a .h) (a .h + 256 * a .dev) = record { sent = g .sent; low = low; number = ap (λ (k : ℕ). a .h + 256 * k) (g .number) } in
+      let x : Sought p (a .h) (a .h + 256 * a .dev) =
+      record { sent = g .sent; low = low; number = ap (λ (k : ℕ). a .h + 256 * k) (g .number) } in
       let s = c .before .before .before .is-start .ensures m p (a .h) w x in (
-        row-matched m p (a .h) acts (a .dev) (a .a) g low o (omega arith) l s (c .before .before .is-cause .ensures m (a .h) (a .dev) acts w g low refl o) (c .before .gain-of .ensures),
+        row-matched m p (a .h) acts (a .dev) (a .a) g low o (omega arith) l s
+            (c .before .before .is-cause .ensures m (a .h) (a .dev) acts w g low refl o) (c .before .gain-of .ensures),
         left-matched m p (a .h) acts (a .dev) (a .a) g low o l s (c .left-after .ensures .0),
       ),
 )

@@ -1,4 +1,4 @@
-use Rattle.ticks.specs.Written.{closes-past}
+use Rattle.ticks.specs.WrittenLaws.{closes-past}
 use Rattle.ticks.specs.Row.{closesAt}
 use Prim.Native.Nat.{_+_}
 use lib.Dec.{leb}
@@ -11,22 +11,20 @@ use Rattle.counts.proofs.tick.closes.Reads as reads
 use Rattle.counts.proofs.tick.closes.Lts as lts
 use Rattle.counts.proofs.tick.windowed.Reads as windowed-reads
 
--- src/lib.rt:39:9
 windowed-requires : tie.Need-windowed-requires
 windowed-requires c κs = search needs
 
--- src/lib.rt:41:34
 add-result : tie.Need-add-result
 add-result c = search needs
 
--- src/lib.rt:41:9
 returns : tie.Need-returns
 unfolding closesAt
-returns c = ap (λ (b : Bool). b && leb (c .before .before .args .period) (c .before .before .args .ticks + 1)) (c .before .windowed .ensures)
+returns c = ap (λ (b : Bool). b && leb (c .before .before .args .period) (c .before .before .args .ticks + 1))
+    (c .before .windowed .ensures)
 
--- src/lib.rt:36:1
 returns-2 : tie.Need-returns-2
-returns-2 c = c .before .windowed .ensures ∙ closes-past (c .before .before .args .period) (c .before .before .args .ticks) (c .if1 .left)
+returns-2 c = c .before .windowed .ensures
+    ∙ closes-past (c .before .before .args .period) (c .before .before .args .ticks) (c .if1 .left)
 
 pub closes-spec : {M : Type 1} → statement M
 closes-spec = tie.close (tie.spec windowed-requires add-result returns returns-2)

@@ -8,11 +8,12 @@ use borrow.Author.Needs.{needs}
 use Rattle.model.specs.Types.{Model}
 use Rattle.model.specs.Frames.{tick}
 use Rattle.model.specs.Layout.{mostMonitors}
-use Rattle.marks.specs.Fields.{clamped}
+use Rattle.marks.specs.FieldsLaws.{clamped}
 use Rattle.packets.specs.Starts.{Holding}
 use Rattle.months.specs.Counts.{rowIn}
 use Rattle.months.specs.Tables.{tableOf}
-use Rattle.counts.specs.Ticks.{Known, known}
+use Rattle.counts.specs.Ticks.{Known}
+use Rattle.counts.specs.TicksLaws.{known}
 use Rattle.counts.specs.Turns.{table-none, table-turn, table-end}
 use Rattle.counts.proofs.tick.gains_of.Statement.{statement}
 use Rattle.counts.proofs.tick.gains_of.Tie as tie
@@ -24,56 +25,47 @@ use Rattle.totals.proofs.no_gains.Reads as no-gains-reads
 
 abbrev Inv-loop : tie.InvT-loop
 Inv-loop s n gains₀ h₀ gains h =
-    (h ≤ mostMonitors) × (length gains ≡ mostMonitors) × ((m : Model) → Known m s → Holding m s n → take h (map wideRow gains) ≡ tableOf (rowIn m tick) h)
+    (h ≤ mostMonitors) × (length gains ≡ mostMonitors)
+    × ((m : Model) → Known m s → Holding m s n → take h (map wideRow gains) ≡ tableOf (rowIn m tick) h)
 
 abbrev μ-loop : tie.MeasureT-loop
 μ-loop s n gains₀ h₀ gains h = mostMonitors - h
 
--- src/tick.rt:172:29
 shared-slice-read-at-most : tie.Need-shared-slice-read-at-most Inv-loop μ-loop
 shared-slice-read-at-most c = omega arith
 
--- src/tick.rt:172:9
 at-most-requires : tie.Need-at-most-requires Inv-loop μ-loop
 at-most-requires c κs = tt
 
--- src/tick.rt:173:20
 no-gains-requires : tie.Need-no-gains-requires Inv-loop μ-loop
 no-gains-requires c κs = tt
 
--- src/tick.rt:175:5
 loop-holds : tie.Need-loop-holds Inv-loop μ-loop
 loop-holds c = (omega arith, ap length (c .no-gains .ensures), λ m k w. table-none (rowIn m tick) (c .no-gains .result))
 
--- src/tick.rt:176:13
 gain-at-requires : tie.Need-gain-at-requires Inv-loop μ-loop
 gain-at-requires c κs = search needs
 
--- src/tick.rt:177:9
 mul-gains : tie.Need-mul-gains Inv-loop μ-loop
 mul-gains c = search needs
 
--- src/tick.rt:177:9
 array-set-from-gains : tie.Need-array-set-from-gains Inv-loop μ-loop
 array-set-from-gains c = search needs
 
--- src/tick.rt:178:9
 add-h : tie.Need-add-h Inv-loop μ-loop
 add-h c = omega arith
 
--- src/tick.rt:175:5
 loop-less : tie.Need-loop-less Inv-loop μ-loop
 loop-less c = omega arith
 
--- src/tick.rt:175:5
 loop-again : tie.Need-loop-again Inv-loop μ-loop
 loop-again c = let l = c .before .before .loop in (
   omega arith,
   simp length-set (l .inv .1),
-  λ m k w. table-turn (rowIn m tick) (l .h) (l .gains) _ (c .gain-at .ensures m k w) (omega (arith, l .inv .1)) (l .inv .2 m k w),
+  λ m k w. table-turn (rowIn m tick) (l .h) (l .gains) _ (c .gain-at .ensures m k w) (omega (arith, l .inv .1))
+      (l .inv .2 m k w),
 )
 
--- src/tick.rt:168:1
 returns : tie.Need-returns Inv-loop μ-loop
 returns c = let a = c .before .before .before .before .before .before .args in let l = c .before .loop in λ m e b.
     let x = known m (a .s .now) e b (clamped (c .before .before .before .at-most .ensures)) in

@@ -1,4 +1,4 @@
-use Rattle.counts.specs.Ticks.{other-watched, own-watched}
+use Rattle.counts.specs.TicksLaws.{other-watched, own-watched}
 use borrow.Author.Needs.{needs}
 use Rattle.counts.proofs.tick.is_watched.Statement.{statement}
 use Rattle.counts.proofs.tick.is_watched.Tie as tie
@@ -7,33 +7,30 @@ use Rattle.counts.proofs.tick.is_watched.Lts as lts
 use Rattle.counts.proofs.tick.goes_on.Reads as goes-on-reads
 use Rattle.octets.proofs.wide.Reads as wide-reads
 
--- src/tick.rt:104:41
 mul-wide : tie.Need-mul-wide
 mul-wide c = search needs
 
--- src/tick.rt:104:23
 add-wide : tie.Need-add-wide
 add-wide c = search needs
 
--- src/tick.rt:104:21
 shared-slice-read-wide : tie.Need-shared-slice-read-wide
 shared-slice-read-wide c = search needs
 
--- src/tick.rt:104:8
 wide-requires : tie.Need-wide-requires
 wide-requires c κs = search needs
 
--- src/tick.rt:105:9
 returns : tie.Need-returns
-returns c = let a = c .before .before .before .before .args in λ m w. other-watched m (a .s .now) (a .i) w (c .before .wide .ensures .0) (a .h) (c .if1 .taken)
+returns c = let a =
+    c .before .before .before .before .args in λ m w. other-watched m (a .s .now) (a .i) w
+    (c .before .wide .ensures .0) (a .h) (c .if1 .taken)
 
--- src/tick.rt:107:5
 goes-on-requires : tie.Need-goes-on-requires
 goes-on-requires c κs = search needs
 
--- src/tick.rt:100:1
 returns-2 : tie.Need-returns-2
-returns-2 c = let a = c .before .before .before .before .before .args in λ m w. own-watched m (a .s .now) (a .i) w (c .before .before .wide .ensures .0) (a .h) (c .before .if1 .left) (c .goes-on .ensures m w)
+returns-2 c = let a =
+    c .before .before .before .before .before .args in λ m w. own-watched m (a .s .now) (a .i) w
+    (c .before .before .wide .ensures .0) (a .h) (c .before .if1 .left) (c .goes-on .ensures m w)
 
 pub is-watched-spec : {M : Type 1} → statement M
 is-watched-spec =

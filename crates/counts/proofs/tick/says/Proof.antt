@@ -1,9 +1,9 @@
 use Prim.Native.Nat.{_+_, _*_}
 use mathlib.Core.Path.{refl, sym, _∙_}
 use native.Mathlib.Omega.{arith}
-use Rattle.octets.specs.Numbers.{number-of}
+use Rattle.octets.specs.NumbersLaws.{number-of}
 use Rattle.model.specs.Layout.{packetsAt, pairSize, pairsAt}
-use Rattle.counts.specs.Ticks.{not-yes, not-no, no-handle, says-open, says-empty, says-full}
+use Rattle.counts.specs.TicksLaws.{not-yes, not-no, no-handle, says-open, says-empty, says-full}
 use borrow.Author.Needs.{needs}
 use Rattle.counts.proofs.tick.says.Statement.{statement}
 use Rattle.counts.proofs.tick.says.Tie as tie
@@ -14,84 +14,78 @@ use Rattle.counts.proofs.tick.is_through.Reads as is-through-reads
 use Rattle.octets.proofs.get32.Reads as get32-reads
 use Rattle.octets.proofs.wide.Reads as wide-reads
 
--- src/tick.rt:85:32
 mul-at : tie.Need-mul-at
 mul-at c = search needs
 
--- src/tick.rt:85:14
 add-at : tie.Need-add-at
 add-at c = search needs
 
--- src/tick.rt:86:26
 shared-slice-read-wide : tie.Need-shared-slice-read-wide
 shared-slice-read-wide c = search needs
 
--- src/tick.rt:86:9
 wide-requires : tie.Need-wide-requires
 wide-requires c κs = search needs
 
--- src/tick.rt:88:9
 returns : tie.Need-returns
-returns c = let a = c .before .before .before .before .args in λ m k w. no-handle m (a .s .now) (a .i) w (c .before .wide .ensures .0) (omega arith)
+returns c = let a =
+    c .before .before .before .before .args in λ m k w. no-handle m (a .s .now) (a .i) w (c .before .wide .ensures .0)
+    (omega arith)
 
--- src/tick.rt:90:38
 mul-closes : tie.Need-mul-closes
 mul-closes c = search needs
 
--- src/tick.rt:90:18
 add-closes : tie.Need-add-closes
 add-closes c = search needs
 
--- src/tick.rt:90:16
 shared-slice-read-closes : tie.Need-shared-slice-read-closes
 shared-slice-read-closes c = search needs
 
--- src/tick.rt:90:65
 add-closes-2 : tie.Need-add-closes-2
 add-closes-2 c = search needs
 
--- src/tick.rt:90:63
 shared-slice-read-closes-2 : tie.Need-shared-slice-read-closes-2
 shared-slice-read-closes-2 c = search needs
 
--- src/tick.rt:90:9
 closes-requires : tie.Need-closes-requires
 closes-requires c κs = search needs
 
--- src/tick.rt:91:9
 returns-2 : tie.Need-returns-2
-returns-2 c = let a = c .before .before .before .before .before .before .before .before .args in λ m k w. says-open m (a .s .now) (a .i) w (c .before .before .before .before .before .wide .ensures .0) (omega arith) (c .before .closes .ensures) (not-yes _ (c .if2 .taken))
+returns-2 c = let a =
+    c .before .before .before .before .before .before .before .before .args in λ m k w. says-open m (a .s .now) (a .i)
+    w (c .before .before .before .before .before .wide .ensures .0) (omega arith) (c .before .closes .ensures)
+    (not-yes _ (c .if2 .taken))
 
--- src/tick.rt:93:25
 add-get32 : tie.Need-add-get32
 add-get32 c = search needs
 
--- src/tick.rt:93:8
 get32-requires : tie.Need-get32-requires
 get32-requires c κs = search needs
 
--- src/tick.rt:94:9
 returns-3 : tie.Need-returns-3
-returns-3 c = let a = c .before .before .before .before .before .before .before .before .before .before .args in λ m k w.
-    says-empty m (a .s .now) (a .i) w (c .before .before .before .before .before .before .before .wide .ensures .0) (omega arith) (number-of 4 (a .s .now) (pairsAt + pairSize * a .i + packetsAt) (c .before .get32 .ensures) (omega arith)) (c .if3 .taken)
+returns-3 c = let a =
+    c .before .before .before .before .before .before .before .before .before .before .args in λ m k w.
+    says-empty m (a .s .now) (a .i) w (c .before .before .before .before .before .before .before .wide .ensures .0)
+    (omega arith) (number-of 4 (a .s .now) (pairsAt + pairSize * a .i + packetsAt) (c .before .get32 .ensures)
+    (omega arith)) (c .if3 .taken)
 
--- src/tick.rt:96:24
 add-is-through : tie.Need-add-is-through
 add-is-through c = search needs
 
--- src/tick.rt:96:22
 shared-slice-read-is-through : tie.Need-shared-slice-read-is-through
 shared-slice-read-is-through c = search needs
 
--- src/tick.rt:96:5
 is-through-requires : tie.Need-is-through-requires
 is-through-requires c κs = search needs
 
--- src/tick.rt:81:1
 returns-4 : tie.Need-returns-4
-returns-4 c = let a = c .before .before .before .before .before .before .before .before .before .before .before .before .args in λ m k w.
-    says-full m (a .s .now) (a .i) w (c .before .before .before .before .before .before .before .before .before .wide .ensures .0) (omega arith) (c .before .before .before .before .before .closes .ensures) (not-no _ (c .before .before .before .before .if2 .left))
-    (number-of 4 (a .s .now) (pairsAt + pairSize * a .i + packetsAt) (c .before .before .before .get32 .ensures) (omega arith)) (c .before .before .if3 .left) (c .is-through .ensures m k)
+returns-4 c = let a =
+    c .before .before .before .before .before .before .before .before .before .before .before .before .args in λ m k w.
+    says-full m (a .s .now) (a .i) w
+    (c .before .before .before .before .before .before .before .before .before .wide .ensures .0) (omega arith)
+    (c .before .before .before .before .before .closes .ensures)
+    (not-no _ (c .before .before .before .before .if2 .left))
+    (number-of 4 (a .s .now) (pairsAt + pairSize * a .i + packetsAt) (c .before .before .before .get32 .ensures)
+    (omega arith)) (c .before .before .if3 .left) (c .is-through .ensures m k)
 
 pub says-spec : {M : Type 1} → statement M
 says-spec =

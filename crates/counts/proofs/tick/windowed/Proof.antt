@@ -5,7 +5,6 @@ use Rattle.counts.proofs.tick.windowed.Tie as tie
 use Rattle.counts.proofs.tick.windowed.Reads as reads
 use Rattle.counts.proofs.tick.windowed.Lts as lts
 
--- src/lib.rt:29:1
 returns : tie.Need-returns
 unfolding windowedBy
 returns c = refl

@@ -5,7 +5,7 @@ use lib.Seq.{length-take-le}
 use Rattle.sessions.specs.Machine.{octets}
 use Rattle.model.specs.Layout.{blockSize}
 use Rattle.wholes.specs.Whole.{heldWhole}
-use Rattle.engine.specs.Loose.{loose-stands, head-core, called-in}
+use Rattle.engine.specs.LooseLaws.{loose-stands, head-core, called-in}
 use borrow.Author.Needs.{needs}
 use Rattle.engine.proofs.forces.judge.Statement.{statement}
 use Rattle.engine.proofs.forces.judge.Tie as tie
@@ -16,63 +16,80 @@ use Rattle.engine.proofs.forces.turn_to.Reads as turn-to-reads
 use Rattle.octets.proofs.get32.Reads as get32-reads
 use Rattle.prefixes.proofs.starts.Reads as starts-reads
 
--- src/forces.rt:35:16
 get32-requires : tie.Need-get32-requires
 get32-requires c κs = search needs
 
--- src/forces.rt:35:16
 cast-next : tie.Need-cast-next
 cast-next c = search needs
 
--- src/forces.rt:35:16
 add-next : tie.Need-add-next
 add-next c = search needs
 
--- src/forces.rt:36:9
 starts-requires : tie.Need-starts-requires
 starts-requires c κs = search needs
 
--- src/forces.rt:37:5
 turn-to-requires : tie.Need-turn-to-requires
 turn-to-requires c κs = search needs
 
--- src/forces.rt:38:29
 slice-relend-prefix-judge : tie.Need-slice-relend-prefix-judge
 slice-relend-prefix-judge c = search needs
 
--- src/forces.rt:38:29
 slice-aggregate-judge : tie.Need-slice-aggregate-judge
-slice-aggregate-judge c = let k = c .before .before .before .turn-to .kept .0 in let a = c .before .before .before .before .before .before .before .before .before .before .before .before in sym (length-take-le blockSize (c .before .before .before .turn-to .last .0) (omega arith))
+slice-aggregate-judge c = let k = c .before .before .before .turn-to .kept .0 in let a =
+    c .before .before .before .before .before .before .before .before .before .before .before .before in sym
+    (length-take-le blockSize (c .before .before .before .turn-to .last .0) (omega arith))
 
--- src/forces.rt:38:9
 judge-requires : tie.Need-judge-requires
 unfolding heldWhole
-judge-requires c κs = let a = c .before .before .before .before .before .before .before .before .before .before .before .before .before in (head-core (a .args .s .now) (a .pre .1) (a .pre .0) (c .before .before .before .before .before .before .starts .result) (c .before .before .before .before .before .before .before .before .get32 .result + 1) (ap (λ k. k + 1) (loose-stands (a .args .s .now) (a .pre .1) (a .pre .0) (c .before .before .before .before .before .before .before .before .get32 .ensures))) (c .before .before .before .before .turn-to .last .0) (c .before .before .before .before .turn-to .ensures), omega arith)
+judge-requires c κs = let a =
+    c .before .before .before .before .before .before .before .before .before .before .before .before
+    .before in (
+      head-core (a .args .s .now) (a .pre .1) (a .pre .0)
+          (c .before .before .before .before .before .before .starts .result)
+          (c .before .before .before .before .before .before .before .before .get32 .result + 1)
+          (ap (λ k. k + 1)
+          (loose-stands (a .args .s .now) (a .pre .1) (a .pre .0)
+          (c .before .before .before .before .before .before .before .before .get32 .ensures)))
+          (c .before .before .before .before .turn-to .last .0) (c .before .before .before .before .turn-to .ensures),
+      omega
+          arith,
+    )
 
--- src/forces.rt:39:19
 get32-requires-2 : tie.Need-get32-requires-2
 get32-requires-2 c κs = search needs
 
--- src/forces.rt:39:19
 cast-reached : tie.Need-cast-reached
 cast-reached c = search needs
 
--- src/forces.rt:40:5
 turn-to-requires-2 : tie.Need-turn-to-requires-2
 turn-to-requires-2 c κs = search needs
 
--- src/forces.rt:31:1
 same-length : tie.Need-same-length
 same-length c = search needs
 
--- src/forces.rt:31:1
 same-length-2 : tie.Need-same-length-2
 same-length-2 c = search needs
 
--- src/forces.rt:31:1
 returns : tie.Need-returns
 unfolding heldWhole
-returns c = let a = c .before .before .before .before .before .before .before .before .before .before .before .before .before .before .before .before .before .before .before .before .before .before .before .before in let j = c .before .before .before .before .before .before .before .before .before .before .judge in let n = c .before .before .before .before .before .before .before .before .before .before .before .before .before .before .before .before .before .before .before .get32 in called-in (a .args .s .now) (a .pre .1) (a .pre .0) octets (a .args .frame .now) (a .args .out .now) (c .before .before .before .before .before .before .before .before .before .before .before .before .before .before .before .before .before .starts .result) (n .result + 1) (ap (λ k. k + 1) (loose-stands (a .args .s .now) (a .pre .1) (a .pre .0) (n .ensures))) (c .before .before .before .before .before .before .before .before .before .before .before .before .before .before .before .before .before .starts .ensures) (c .before .before .before .before .before .before .before .before .before .before .before .before .before .before .before .turn-to .last .0) (j .last .0) (j .last .1 .1 .0) _ (j .result) (c .before .before .before .before .get322 .result) (c .before .before .before .before .before .before .before .before .before .before .before .before .before .before .before .turn-to .ensures) (j .ensures) (c .before .before .before .before .get322 .ensures) (c .before .before .turn-to2 .ensures)
+returns c = let a =
+    c .before .before .before .before .before .before .before .before .before .before .before .before .before .before
+    .before .before .before .before .before .before .before .before .before .before in let j = c .before .before
+    .before .before .before .before .before .before .before .before .judge in let n = c .before .before .before
+    .before .before .before .before .before .before .before .before .before .before .before .before .before .before
+    .before .before .get32 in called-in (a .args .s .now) (a .pre .1) (a .pre .0) octets (a .args .frame .now)
+    (a .args .out .now)
+    (c .before .before .before .before .before .before .before .before .before .before .before .before .before .before
+    .before .before .before .starts .result) (n .result + 1)
+    (ap (λ k. k + 1) (loose-stands (a .args .s .now) (a .pre .1) (a .pre .0) (n .ensures)))
+    (c .before .before .before .before .before .before .before .before .before .before .before .before .before .before
+    .before .before .before .starts .ensures)
+    (c .before .before .before .before .before .before .before .before .before .before .before .before .before .before
+    .before .turn-to .last .0) (j .last .0) (j .last .1 .1 .0) _ (j .result)
+    (c .before .before .before .before .get322 .result)
+    (c .before .before .before .before .before .before .before .before .before .before .before .before .before .before
+    .before .turn-to .ensures) (j .ensures) (c .before .before .before .before .get322 .ensures)
+    (c .before .before .turn-to2 .ensures)
 
 pub judge-spec : {M : Type 1} → statement M
 judge-spec =

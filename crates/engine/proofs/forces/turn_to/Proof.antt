@@ -1,5 +1,6 @@
 use mathlib.Core.Path.{sym, _∙_}
-use Rattle.laws.specs.Tests.{pick, pick-true, pick-false}
+use Rattle.laws.specs.Tests.{pick}
+use Rattle.laws.specs.TestsLaws.{pick-true, pick-false}
 use borrow.Author.Needs.{needs}
 use Rattle.engine.proofs.forces.turn_to.Statement.{statement}
 use Rattle.engine.proofs.forces.turn_to.Tie as tie
@@ -7,19 +8,15 @@ use Rattle.engine.proofs.forces.turn_to.Reads as reads
 use Rattle.engine.proofs.forces.turn_to.Lts as lts
 use Rattle.prefixes.proofs.enforce.Reads as enforce-reads
 
--- src/forces.rt:25:9
 enforce-requires : tie.Need-enforce-requires
 enforce-requires c κs = search needs
 
--- src/forces.rt:21:1
 same-length : tie.Need-same-length
 same-length c = search needs
 
--- src/forces.rt:21:1
 returns : tie.Need-returns
 returns c = c .before .before .enforce .ensures ∙ sym (pick-true _ _ (c .before .before .before .before .if1 .taken))
 
--- src/forces.rt:21:1
 returns-2 : tie.Need-returns-2
 returns-2 c = sym (pick-false _ _ (c .if1 .left))
 

@@ -1,5 +1,5 @@
 use mathlib.Core.Path.{sym, _∙_}
-use Rattle.words.specs.Says.{taken, left}
+use Rattle.words.specs.SaysLaws.{taken, left}
 use Rattle.words.specs.Pieces.{numberText}
 use Rattle.fields.specs.Data.{characterText}
 use Rattle.model.specs.Quoted.{codes}
@@ -12,39 +12,35 @@ use Rattle.fields.proofs.data.is_plain.Reads as is-plain-reads
 use Rattle.words.proofs.number.Reads as number-reads
 use Rattle.words.proofs.put.Reads as put-reads
 
--- src/data.rt:77:8
 is-plain-requires : tie.Need-is-plain-requires
 is-plain-requires c κs = search needs
 
--- src/data.rt:78:36
 slice-aggregate-put : tie.Need-slice-aggregate-put
 slice-aggregate-put c = search needs
 
--- src/data.rt:78:9
 put-requires : tie.Need-put-requires
 put-requires c κs = search needs
 
--- src/data.rt:78:9
 returns : tie.Need-returns
 unfolding characterText numberText codes
-returns c = taken _ _ (sym (c .before .before .before .before .is-plain .ensures) ∙ c .before .before .before .if1 .taken) (c .put .ensures)
+returns c = taken _ _
+    (sym (c .before .before .before .before .is-plain .ensures) ∙ c .before .before .before .if1 .taken)
+    (c .put .ensures)
 
--- src/data.rt:80:28
 slice-aggregate-number : tie.Need-slice-aggregate-number
 slice-aggregate-number c = search needs
 
--- src/data.rt:80:36
 slice-aggregate-number-2 : tie.Need-slice-aggregate-number-2
 slice-aggregate-number-2 c = search needs
 
--- src/data.rt:80:5
 number-requires : tie.Need-number-requires
 number-requires c κs = search needs
 
--- src/data.rt:73:1
 returns-2 : tie.Need-returns-2
 unfolding characterText numberText codes
-returns-2 c = left _ _ (sym (c .before .before .before .before .before .is-plain .ensures) ∙ c .before .before .before .before .if1 .left) (c .number .ensures)
+returns-2 c = left _ _
+    (sym (c .before .before .before .before .before .is-plain .ensures)
+    ∙ c .before .before .before .before .if1 .left) (c .number .ensures)
 
 pub character-spec : {M : Type 1} → statement M
 character-spec =

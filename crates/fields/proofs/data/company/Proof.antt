@@ -1,4 +1,4 @@
-use Rattle.words.specs.Says.{then, taken, left}
+use Rattle.words.specs.SaysLaws.{then, taken, left}
 use Rattle.fields.specs.Data.{companyText}
 use Rattle.model.specs.Quoted.{codes}
 use borrow.Author.Tests.{lt-ltb, le-ltb}
@@ -12,39 +12,33 @@ use Rattle.words.proofs.behind.Reads as behind-reads
 use Rattle.words.proofs.part.Reads as part-reads
 use Rattle.words.proofs.number.Reads as number-reads
 
--- src/data.rt:153:9
 plain-requires : tie.Need-plain-requires
 plain-requires c κs = search needs
 
--- src/data.rt:153:9
 returns : tie.Need-returns
 unfolding companyText
 returns c = taken _ _ (lt-ltb _ _ (c .before .before .if1 .taken)) (c .plain .ensures)
 
--- src/data.rt:155:34
 slice-aggregate-number : tie.Need-slice-aggregate-number
 slice-aggregate-number c = search needs
 
--- src/data.rt:155:40
 part-requires : tie.Need-part-requires
 part-requires c κs = search needs
 
--- src/data.rt:155:9
 number-requires : tie.Need-number-requires
 number-requires c κs = search needs
 
--- src/data.rt:156:19
 behind-requires : tie.Need-behind-requires
 behind-requires c κs = search needs
 
--- src/data.rt:156:5
 plain-requires-2 : tie.Need-plain-requires-2
 plain-requires-2 c κs = search needs
 
--- src/data.rt:149:1
 returns-2 : tie.Need-returns-2
 unfolding companyText codes
-returns-2 c = left _ _ (le-ltb _ _ (c .before .before .before .before .before .before .before .if1 .left)) (then (rw (c .before .before .before .before .part .ensures) at (c .before .before .before .number .ensures)) (rw (c .before .behind .ensures) at (c .plain2 .ensures)))
+returns-2 c = left _ _ (le-ltb _ _ (c .before .before .before .before .before .before .before .if1 .left))
+    (then (rw (c .before .before .before .before .part .ensures) at (c .before .before .before .number .ensures))
+    (rw (c .before .behind .ensures) at (c .plain2 .ensures)))
 
 pub company-spec : {M : Type 1} → statement M
 company-spec =

@@ -1,4 +1,4 @@
-use Rattle.words.specs.Says.{taken, left}
+use Rattle.words.specs.SaysLaws.{taken, left}
 use Rattle.fields.specs.Data.{isPlain}
 use Rattle.laws.specs.Tests.{pick}
 use Rattle.fields.proofs.data.is_plain.Statement.{statement}
@@ -6,12 +6,10 @@ use Rattle.fields.proofs.data.is_plain.Tie as tie
 use Rattle.fields.proofs.data.is_plain.Reads as reads
 use Rattle.fields.proofs.data.is_plain.Lts as lts
 
--- src/data.rt:67:9
 returns : tie.Need-returns
 unfolding isPlain Rattle.laws.specs.Tests.pick
 returns c = rw (c .if1 .taken)
 
--- src/data.rt:63:1
 returns-2 : tie.Need-returns-2
 unfolding isPlain Rattle.laws.specs.Tests.pick
 returns-2 c = rw (c .if1 .left)

@@ -1,5 +1,5 @@
 use mathlib.Core.Path.{_≡_, sym, _∙_}
-use Rattle.words.specs.Says.{taken, left}
+use Rattle.words.specs.SaysLaws.{taken, left}
 use Rattle.fields.specs.Data.{isWhole}
 use borrow.Author.Tests.{lt-ltb, le-ltb}
 use Rattle.laws.specs.Tests.{pick}
@@ -12,27 +12,24 @@ use Rattle.fields.proofs.data.is_whole.Lts as lts
 use Rattle.octets.proofs.get8.Reads as get8-reads
 use Rattle.octets.proofs.wide.Reads as wide-reads
 
--- src/data.rt:55:26
 get8-requires : tie.Need-get8-requires
 get8-requires c κs = search needs
 
--- src/data.rt:55:9
 wide-requires : tie.Need-wide-requires
 wide-requires c κs = search needs
 
--- src/data.rt:57:9
 returns : tie.Need-returns
 unfolding isWhole Rattle.laws.specs.Tests.pick
-returns c = let e : c .before .wide .result ≡ numberAt 1 (c .before .before .before .before .args .piece .now) 0 = c .before .wide .ensures .0 ∙ c .before .before .get8 .ensures in rw (sym e, lt-ltb _ _ (c .if1 .taken))
+returns c = let e : c .before .wide .result ≡ numberAt 1 (c .before .before .before .before .args .piece .now) 0 =
+    c .before .wide .ensures .0 ∙ c .before .before .get8 .ensures in rw (sym e, lt-ltb _ _ (c .if1 .taken))
 
--- src/data.rt:59:20
 add-result : tie.Need-add-result
 add-result c = search needs
 
--- src/data.rt:52:1
 returns-2 : tie.Need-returns-2
 unfolding isWhole Rattle.laws.specs.Tests.pick
-returns-2 c = let e : c .before .wide .result ≡ numberAt 1 (c .before .before .before .before .args .piece .now) 0 = c .before .wide .ensures .0 ∙ c .before .before .get8 .ensures in rw (sym e, le-ltb _ _ (c .if1 .left))
+returns-2 c = let e : c .before .wide .result ≡ numberAt 1 (c .before .before .before .before .args .piece .now) 0 =
+    c .before .wide .ensures .0 ∙ c .before .before .get8 .ensures in rw (sym e, le-ltb _ _ (c .if1 .left))
 
 pub is-whole-spec : {M : Type 1} → statement M
 is-whole-spec = tie.close (tie.spec get8-requires wide-requires returns add-result returns-2)

@@ -7,15 +7,12 @@ use Rattle.fields.proofs.data.next_uuid.Reads as reads
 use Rattle.fields.proofs.data.next_uuid.Lts as lts
 use Rattle.words.proofs.uuid.Reads as uuid-reads
 
--- src/data.rt:126:26
 slice-aggregate-uuid : tie.Need-slice-aggregate-uuid
 slice-aggregate-uuid c = search needs
 
--- src/data.rt:126:5
 uuid-requires : tie.Need-uuid-requires
 uuid-requires c κs = search needs
 
--- src/data.rt:123:1
 returns : tie.Need-returns
 unfolding uuidIn codes
 returns c = c .uuid .ensures

@@ -1,4 +1,4 @@
-use Rattle.words.specs.Says.{nothing, taken, left}
+use Rattle.words.specs.SaysLaws.{nothing, taken, left}
 use Rattle.fields.specs.Data.{plainText}
 use Rattle.model.specs.Quoted.{codes}
 use borrow.Author.Tests.{eq-eqb, ne-eqb}
@@ -9,20 +9,16 @@ use Rattle.fields.proofs.data.plain.Reads as reads
 use Rattle.fields.proofs.data.plain.Lts as lts
 use Rattle.words.proofs.hex.Reads as hex-reads
 
--- src/data.rt:143:9
 returns : tie.Need-returns
 unfolding plainText codes
 returns c = taken _ _ (eq-eqb _ _ (c .if1 .taken)) (nothing _ _)
 
--- src/data.rt:145:25
 slice-aggregate-hex : tie.Need-slice-aggregate-hex
 slice-aggregate-hex c = search needs
 
--- src/data.rt:145:5
 hex-requires : tie.Need-hex-requires
 hex-requires c κs = search needs
 
--- src/data.rt:139:1
 returns-2 : tie.Need-returns-2
 unfolding plainText codes
 returns-2 c = left _ _ (ne-eqb _ _ (c .before .before .before .if1 .left)) (c .hex .ensures)

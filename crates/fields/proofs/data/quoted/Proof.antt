@@ -1,4 +1,4 @@
-use Rattle.words.specs.Says.{then}
+use Rattle.words.specs.SaysLaws.{then}
 use Rattle.fields.specs.Data.{quotedText}
 use Rattle.model.specs.Quoted.{codes}
 use borrow.Author.Needs.{needs}
@@ -9,30 +9,26 @@ use Rattle.fields.proofs.data.quoted.Lts as lts
 use Rattle.fields.proofs.data.characters.Reads as characters-reads
 use Rattle.words.proofs.put.Reads as put-reads
 
--- src/data.rt:101:33
 slice-aggregate-put : tie.Need-slice-aggregate-put
 slice-aggregate-put c = search needs
 
--- src/data.rt:101:9
 put-requires : tie.Need-put-requires
 put-requires c κs = search needs
 
--- src/data.rt:102:9
 characters-requires : tie.Need-characters-requires
 characters-requires c κs = search needs
 
--- src/data.rt:103:24
 slice-aggregate-put-2 : tie.Need-slice-aggregate-put-2
 slice-aggregate-put-2 c = search needs
 
--- src/data.rt:103:5
 put-requires-2 : tie.Need-put-requires-2
 put-requires-2 c κs = search needs
 
--- src/data.rt:98:1
 returns : tie.Need-returns
 unfolding quotedText codes
-returns c = then (then (c .before .before .before .before .before .put .ensures) (c .before .before .before .characters .ensures)) (c .put2 .ensures)
+returns c = then
+    (then (c .before .before .before .before .before .put .ensures) (c .before .before .before .characters .ensures))
+    (c .put2 .ensures)
 
 pub quoted-spec : {M : Type 1} → statement M
 quoted-spec =

@@ -1,5 +1,5 @@
 use mathlib.Core.Path.{sym, _∙_}
-use Rattle.words.specs.Says.{then, taken, left}
+use Rattle.words.specs.SaysLaws.{then, taken, left}
 use Rattle.fields.specs.Data.{structureText}
 use Rattle.model.specs.Quoted.{codes}
 use borrow.Author.Needs.{needs}
@@ -15,51 +15,51 @@ use Rattle.words.proofs.behind.Reads as behind-reads
 use Rattle.words.proofs.hex.Reads as hex-reads
 use Rattle.words.proofs.put.Reads as put-reads
 
--- src/data.rt:193:9
 get8-requires : tie.Need-get8-requires
 get8-requires c κs = search needs
 
--- src/data.rt:194:8
 is-whole-requires : tie.Need-is-whole-requires
 is-whole-requires c κs = search needs
 
--- src/data.rt:195:37
 slice-aggregate-put : tie.Need-slice-aggregate-put
 slice-aggregate-put c = search needs
 
--- src/data.rt:195:13
 put-requires : tie.Need-put-requires
 put-requires c κs = search needs
 
--- src/data.rt:196:13
 ad-requires : tie.Need-ad-requires
 ad-requires c κs = search needs
 
--- src/data.rt:197:36
 behind-requires : tie.Need-behind-requires
 behind-requires c κs = search needs
 
--- src/data.rt:197:9
 value-requires : tie.Need-value-requires
 value-requires c κs = search needs
 
--- src/data.rt:197:9
 returns : tie.Need-returns
 unfolding structureText codes
-returns c = taken _ _ (sym (c .before .before .before .before .before .before .before .before .before .is-whole .ensures) ∙ c .before .before .before .before .before .before .before .before .if1 .taken) (then (then (c .before .before .before .before .before .put .ensures) (rw (c .before .before .before .before .before .before .before .before .before .before .get8 .ensures) at (c .before .before .before .ad .ensures))) (rw (c .before .before .before .before .before .before .before .before .before .before .get8 .ensures, c .before .behind .ensures) at (c .value .ensures)))
+returns c = taken _ _
+    (sym (c .before .before .before .before .before .before .before .before .before .is-whole .ensures)
+    ∙ c .before .before .before .before .before .before .before .before .if1 .taken)
+    (then (then (c .before .before .before .before .before .put .ensures)
+    (rw (c .before .before .before .before .before .before .before .before .before .before .get8 .ensures) at
+    (c .before .before .before .ad .ensures)))
+    (rw (
+      c .before .before .before .before .before .before .before .before .before .before .get8 .ensures,
+      c .before .behind .ensures,
+    ) at (c .value .ensures)))
 
--- src/data.rt:199:25
 slice-aggregate-hex : tie.Need-slice-aggregate-hex
 slice-aggregate-hex c = search needs
 
--- src/data.rt:199:5
 hex-requires : tie.Need-hex-requires
 hex-requires c κs = search needs
 
--- src/data.rt:190:1
 returns-2 : tie.Need-returns-2
 unfolding structureText codes
-returns-2 c = left _ _ (sym (c .before .before .before .before .is-whole .ensures) ∙ c .before .before .before .if1 .left) (c .hex .ensures)
+returns-2 c = left _ _
+    (sym (c .before .before .before .before .is-whole .ensures) ∙ c .before .before .before .if1 .left)
+    (c .hex .ensures)
 
 pub structure-spec : {M : Type 1} → statement M
 structure-spec =

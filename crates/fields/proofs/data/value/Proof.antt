@@ -1,4 +1,4 @@
-use Rattle.words.specs.Says.{taken, left}
+use Rattle.words.specs.SaysLaws.{taken, left}
 use Rattle.fields.specs.Data.{valueText}
 use Rattle.model.specs.Quoted.{codes}
 use borrow.Author.Needs.{needs}
@@ -10,36 +10,31 @@ use Rattle.fields.proofs.data.quoted.Reads as quoted-reads
 use Rattle.fields.proofs.data.special.Reads as special-reads
 use Rattle.words.proofs.level.Reads as level-reads
 
--- src/data.rt:181:9
 quoted-requires : tie.Need-quoted-requires
 quoted-requires c κs = search needs
 
--- src/data.rt:181:9
 returns : tie.Need-returns
 unfolding valueText
 returns c = taken _ _ (c .before .before .if1 .taken) (c .quoted .ensures)
 
--- src/data.rt:184:38
 slice-aggregate-level : tie.Need-slice-aggregate-level
 slice-aggregate-level c = search needs
 
--- src/data.rt:184:9
 level-requires : tie.Need-level-requires
 level-requires c κs = search needs
 
--- src/data.rt:184:9
 returns-2 : tie.Need-returns-2
 unfolding valueText codes
-returns-2 c = left _ _ (c .before .before .before .before .if1 .left) (taken _ _ (c .before .before .before .if2 .taken) (c .level .ensures))
+returns-2 c = left _ _ (c .before .before .before .before .if1 .left)
+    (taken _ _ (c .before .before .before .if2 .taken) (c .level .ensures))
 
--- src/data.rt:186:5
 special-requires : tie.Need-special-requires
 special-requires c κs = search needs
 
--- src/data.rt:177:1
 returns-3 : tie.Need-returns-3
 unfolding valueText
-returns-3 c = left _ _ (c .before .before .before .if1 .left) (left _ _ (c .before .before .if2 .left) (c .special .ensures))
+returns-3 c = left _ _ (c .before .before .before .if1 .left)
+    (left _ _ (c .before .before .if2 .left) (c .special .ensures))
 
 pub value-spec : {M : Type 1} → statement M
 value-spec =

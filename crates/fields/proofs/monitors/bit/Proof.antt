@@ -1,4 +1,4 @@
-use Rattle.words.specs.Says.{nothing, taken, left}
+use Rattle.words.specs.SaysLaws.{nothing, taken, left}
 use Rattle.fields.specs.Monitors.{bitText}
 use Rattle.model.specs.Quoted.{codes}
 use borrow.Author.Tests.{eq-eqb, ne-eqb}
@@ -9,20 +9,16 @@ use Rattle.fields.proofs.monitors.bit.Reads as reads
 use Rattle.fields.proofs.monitors.bit.Lts as lts
 use Rattle.words.proofs.put.Reads as put-reads
 
--- src/monitors.rt:137:8
 div-if1 : tie.Need-div-if1
 div-if1 c = search needs
 
--- src/monitors.rt:138:9
 put-requires : tie.Need-put-requires
 put-requires c κs = search needs
 
--- src/monitors.rt:138:9
 returns : tie.Need-returns
 unfolding bitText codes
 returns c = taken _ _ (eq-eqb _ _ (c .before .before .if1 .taken)) (c .put .ensures)
 
--- src/monitors.rt:133:1
 returns-2 : tie.Need-returns-2
 unfolding bitText codes
 returns-2 c = left _ _ (ne-eqb _ _ (c .if1 .left)) (nothing _ _)

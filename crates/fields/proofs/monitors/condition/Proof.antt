@@ -1,4 +1,4 @@
-use Rattle.words.specs.Says.{then, taken, left}
+use Rattle.words.specs.SaysLaws.{then, taken, left}
 use Rattle.fields.specs.Monitors.{conditionText}
 use Rattle.model.specs.Quoted.{codes}
 use borrow.Author.Needs.{needs}
@@ -11,32 +11,26 @@ use Rattle.fields.proofs.monitors.single.Reads as single-reads
 use Rattle.words.proofs.behind.Reads as behind-reads
 use Rattle.words.proofs.octet.Reads as octet-reads
 
--- src/monitors.rt:101:39
 slice-aggregate-octet : tie.Need-slice-aggregate-octet
 slice-aggregate-octet c = search needs
 
--- src/monitors.rt:101:13
 octet-requires : tie.Need-octet-requires
 octet-requires c κs = search needs
 
--- src/monitors.rt:102:33
 behind-requires : tie.Need-behind-requires
 behind-requires c κs = search needs
 
--- src/monitors.rt:102:9
 patterns-requires : tie.Need-patterns-requires
 patterns-requires c κs = search needs
 
--- src/monitors.rt:102:9
 returns : tie.Need-returns
 unfolding conditionText codes
-returns c = taken _ _ (c .before .before .before .before .before .before .if1 .taken) (then (c .before .before .before .octet .ensures) (rw (c .before .behind .ensures) at (c .patterns .ensures)))
+returns c = taken _ _ (c .before .before .before .before .before .before .if1 .taken)
+    (then (c .before .before .before .octet .ensures) (rw (c .before .behind .ensures) at (c .patterns .ensures)))
 
--- src/monitors.rt:104:5
 single-requires : tie.Need-single-requires
 single-requires c κs = search needs
 
--- src/monitors.rt:97:1
 returns-2 : tie.Need-returns-2
 unfolding conditionText
 returns-2 c = left _ _ (c .before .before .if1 .left) (c .single .ensures)

@@ -6,11 +6,9 @@ use Rattle.fields.proofs.monitors.is_uuid.Reads as reads
 use Rattle.fields.proofs.monitors.is_uuid.Lts as lts
 use Rattle.octets.proofs.get8.Reads as get8-reads
 
--- src/monitors.rt:72:9
 get8-requires : tie.Need-get8-requires
 get8-requires c κs = search needs
 
--- src/monitors.rt:69:1
 returns : tie.Need-returns
 unfolding isUuid
 returns c = rw (c .get8 .ensures)

@@ -1,4 +1,4 @@
-use Rattle.words.specs.Says.{then}
+use Rattle.words.specs.SaysLaws.{then}
 use Rattle.fields.specs.Monitors.{limitsText}
 use Rattle.model.specs.Quoted.{codes}
 use borrow.Author.Needs.{needs}
@@ -12,50 +12,44 @@ use Rattle.words.proofs.level.Reads as level-reads
 use Rattle.words.proofs.octet.Reads as octet-reads
 use Rattle.words.proofs.put.Reads as put-reads
 
--- src/monitors.rt:125:35
 slice-aggregate-level : tie.Need-slice-aggregate-level
 slice-aggregate-level c = search needs
 
--- src/monitors.rt:125:9
 level-requires : tie.Need-level-requires
 level-requires c κs = search needs
 
--- src/monitors.rt:126:34
 slice-aggregate-level-2 : tie.Need-slice-aggregate-level-2
 slice-aggregate-level-2 c = search needs
 
--- src/monitors.rt:126:9
 level-requires-2 : tie.Need-level-requires-2
 level-requires-2 c κs = search needs
 
--- src/monitors.rt:127:34
 slice-aggregate-octet : tie.Need-slice-aggregate-octet
 slice-aggregate-octet c = search needs
 
--- src/monitors.rt:127:9
 octet-requires : tie.Need-octet-requires
 octet-requires c κs = search needs
 
--- src/monitors.rt:128:32
 slice-aggregate-put : tie.Need-slice-aggregate-put
 slice-aggregate-put c = search needs
 
--- src/monitors.rt:128:9
 put-requires : tie.Need-put-requires
 put-requires c κs = search needs
 
--- src/monitors.rt:129:22
 get8-requires : tie.Need-get8-requires
 get8-requires c κs = search needs
 
--- src/monitors.rt:129:5
 sampling-requires : tie.Need-sampling-requires
 sampling-requires c κs = search needs
 
--- src/monitors.rt:122:1
 returns : tie.Need-returns
 unfolding limitsText codes
-returns c = then (then (then (then (c .before .before .before .before .before .before .before .before .before .before .before .before .level .ensures) (c .before .before .before .before .before .before .before .before .before .level2 .ensures)) (c .before .before .before .before .before .before .octet .ensures)) (c .before .before .before .put .ensures)) (rw (c .before .get8 .ensures) at (c .sampling .ensures))
+returns c = then
+    (then (then (then
+    (c .before .before .before .before .before .before .before .before .before .before .before .before .level
+    .ensures) (c .before .before .before .before .before .before .before .before .before .level2 .ensures))
+    (c .before .before .before .before .before .before .octet .ensures)) (c .before .before .before .put .ensures))
+    (rw (c .before .get8 .ensures) at (c .sampling .ensures))
 
 pub limits-spec : {M : Type 1} → statement M
 limits-spec =

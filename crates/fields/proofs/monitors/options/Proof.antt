@@ -1,5 +1,5 @@
 use native.Mathlib.Omega.{arith}
-use Rattle.words.specs.Says.{then, taken, left}
+use Rattle.words.specs.SaysLaws.{then, taken, left}
 use Rattle.fields.specs.Monitors.{optionsText}
 use Rattle.model.specs.Quoted.{codes}
 use borrow.Author.Tests.{eq-eqb, ne-eqb}
@@ -12,79 +12,78 @@ use Rattle.fields.proofs.monitors.bit.Reads as bit-reads
 use Rattle.fields.proofs.monitors.reserved.Reads as reserved-reads
 use Rattle.words.proofs.put.Reads as put-reads
 
--- src/monitors.rt:159:36
 slice-aggregate-put : tie.Need-slice-aggregate-put
 slice-aggregate-put c = search needs
 
--- src/monitors.rt:159:9
 put-requires : tie.Need-put-requires
 put-requires c κs = search needs
 
--- src/monitors.rt:159:9
 returns : tie.Need-returns
 unfolding optionsText codes
 returns c = taken _ _ (eq-eqb _ _ (c .before .before .before .if1 .taken)) (c .put .ensures)
 
--- src/monitors.rt:161:32
 slice-aggregate-bit : tie.Need-slice-aggregate-bit
 slice-aggregate-bit c = search needs
 
--- src/monitors.rt:161:9
 bit-requires : tie.Need-bit-requires
 bit-requires c κs = search needs
 
--- src/monitors.rt:162:31
 slice-aggregate-bit-2 : tie.Need-slice-aggregate-bit-2
 slice-aggregate-bit-2 c = search needs
 
--- src/monitors.rt:162:9
 bit-requires-2 : tie.Need-bit-requires-2
 bit-requires-2 c κs = search needs
 
--- src/monitors.rt:163:31
 slice-aggregate-bit-3 : tie.Need-slice-aggregate-bit-3
 slice-aggregate-bit-3 c = search needs
 
--- src/monitors.rt:163:9
 bit-requires-3 : tie.Need-bit-requires-3
 bit-requires-3 c κs = search needs
 
--- src/monitors.rt:164:31
 slice-aggregate-bit-4 : tie.Need-slice-aggregate-bit-4
 slice-aggregate-bit-4 c = search needs
 
--- src/monitors.rt:164:9
 bit-requires-4 : tie.Need-bit-requires-4
 bit-requires-4 c κs = search needs
 
--- src/monitors.rt:165:32
 slice-aggregate-bit-5 : tie.Need-slice-aggregate-bit-5
 slice-aggregate-bit-5 c = search needs
 
--- src/monitors.rt:165:9
 bit-requires-5 : tie.Need-bit-requires-5
 bit-requires-5 c κs = search needs
 
--- src/monitors.rt:166:32
 slice-aggregate-bit-6 : tie.Need-slice-aggregate-bit-6
 slice-aggregate-bit-6 c = search needs
 
--- src/monitors.rt:166:9
 bit-requires-6 : tie.Need-bit-requires-6
 bit-requires-6 c κs = search needs
 
--- src/monitors.rt:167:22
 mul-reserved : tie.Need-mul-reserved
-mul-reserved c = omega (arith, c .before .before .before .before .before .before .before .before .before .before .before .before .before .before .before .before .before .before .before .before .fits .x)
+mul-reserved c =
+    omega (
+      arith,
+      c .before .before .before .before .before .before .before .before .before .before .before .before
+          .before .before .before .before .before .before .before .before .fits .x,
+    )
 
--- src/monitors.rt:167:5
 reserved-requires : tie.Need-reserved-requires
 reserved-requires c κs = search needs
 
--- src/monitors.rt:155:1
 returns-2 : tie.Need-returns-2
 unfolding optionsText codes
-returns-2 c = left _ _ (ne-eqb _ _ (c .before .before .before .before .before .before .before .before .before .before .before .before .before .before .before .before .before .before .before .before .if1 .left)) (then (then (then (then (then (then (c .before .before .before .before .before .before .before .before .before .before .before .before .before .before .before .before .before .bit .ensures) (c .before .before .before .before .before .before .before .before .before .before .before .before .before .before .bit2 .ensures)) (c .before .before .before .before .before .before .before .before .before .before .before .bit3 .ensures)) (c .before .before .before .before .before .before .before .before .bit4 .ensures)) (c .before .before .before .before .before .bit5 .ensures)) (c .before .before .bit6 .ensures)) (c .reserved .ensures))
+returns-2 c = left _ _
+    (ne-eqb _ _ (c .before .before .before .before .before .before .before .before .before .before .before .before
+    .before .before .before .before .before .before .before .before .if1 .left))
+    (then (then (then
+    (then (then (then
+    (c .before .before .before .before .before .before .before .before .before .before .before .before .before .before
+    .before .before .before .bit .ensures)
+    (c .before .before .before .before .before .before .before .before .before .before .before .before .before .before
+    .bit2 .ensures))
+    (c .before .before .before .before .before .before .before .before .before .before .before .bit3 .ensures))
+    (c .before .before .before .before .before .before .before .before .bit4 .ensures))
+    (c .before .before .before .before .before .bit5 .ensures)) (c .before .before .bit6 .ensures))
+    (c .reserved .ensures))
 
 pub options-spec : {M : Type 1} → statement M
 options-spec =

@@ -1,5 +1,5 @@
 use mathlib.Core.Path.{sym, _∙_}
-use Rattle.words.specs.Says.{then, taken, left}
+use Rattle.words.specs.SaysLaws.{then, taken, left}
 use Rattle.fields.specs.Monitors.{patternText}
 use Rattle.model.specs.Quoted.{codes}
 use borrow.Author.Needs.{needs}
@@ -15,63 +15,59 @@ use Rattle.words.proofs.hex.Reads as hex-reads
 use Rattle.words.proofs.octet.Reads as octet-reads
 use Rattle.words.proofs.put.Reads as put-reads
 
--- src/monitors.rt:36:8
 is-whole-requires : tie.Need-is-whole-requires
 is-whole-requires c κs = search needs
 
--- src/monitors.rt:37:37
 slice-aggregate-put : tie.Need-slice-aggregate-put
 slice-aggregate-put c = search needs
 
--- src/monitors.rt:37:13
 put-requires : tie.Need-put-requires
 put-requires c κs = search needs
 
--- src/monitors.rt:38:35
 get8-requires : tie.Need-get8-requires
 get8-requires c κs = search needs
 
--- src/monitors.rt:38:13
 ad-requires : tie.Need-ad-requires
 ad-requires c κs = search needs
 
--- src/monitors.rt:39:38
 slice-aggregate-octet : tie.Need-slice-aggregate-octet
 slice-aggregate-octet c = search needs
 
--- src/monitors.rt:39:13
 octet-requires : tie.Need-octet-requires
 octet-requires c κs = search needs
 
--- src/monitors.rt:40:35
 slice-aggregate-hex : tie.Need-slice-aggregate-hex
 slice-aggregate-hex c = search needs
 
--- src/monitors.rt:40:41
 behind-requires : tie.Need-behind-requires
 behind-requires c κs = search needs
 
--- src/monitors.rt:40:9
 hex-requires : tie.Need-hex-requires
 hex-requires c κs = search needs
 
--- src/monitors.rt:40:9
 returns : tie.Need-returns
 unfolding patternText codes
-returns c = taken _ _ (sym (c .before .before .before .before .before .before .before .before .before .before .before .before .before .before .is-whole .ensures) ∙ c .before .before .before .before .before .before .before .before .before .before .before .before .before .if1 .taken) (then (then (then (c .before .before .before .before .before .before .before .before .before .before .put .ensures) (rw (c .before .before .before .before .before .before .before .before .get8 .ensures) at (c .before .before .before .before .before .before .before .ad .ensures))) (c .before .before .before .before .octet .ensures)) (rw (c .before .behind .ensures) at (c .hex .ensures)))
+returns c = taken _ _
+    (sym (c .before .before .before .before .before .before .before .before .before .before .before .before .before
+    .before .is-whole .ensures)
+    ∙ c .before .before .before .before .before .before .before .before .before .before .before .before .before .if1
+    .taken) (then (then
+    (then (c .before .before .before .before .before .before .before .before .before .before .put .ensures)
+    (rw (c .before .before .before .before .before .before .before .before .get8 .ensures) at
+    (c .before .before .before .before .before .before .before .ad .ensures)))
+    (c .before .before .before .before .octet .ensures)) (rw (c .before .behind .ensures) at (c .hex .ensures)))
 
--- src/monitors.rt:42:25
 slice-aggregate-hex-2 : tie.Need-slice-aggregate-hex-2
 slice-aggregate-hex-2 c = search needs
 
--- src/monitors.rt:42:5
 hex-requires-2 : tie.Need-hex-requires-2
 hex-requires-2 c κs = search needs
 
--- src/monitors.rt:33:1
 returns-2 : tie.Need-returns-2
 unfolding patternText codes
-returns-2 c = left _ _ (sym (c .before .before .before .before .is-whole .ensures) ∙ c .before .before .before .if1 .left) (c .hex2 .ensures)
+returns-2 c = left _ _
+    (sym (c .before .before .before .before .is-whole .ensures) ∙ c .before .before .before .if1 .left)
+    (c .hex2 .ensures)
 
 pub pattern-spec : {M : Type 1} → statement M
 pattern-spec =

@@ -2,7 +2,7 @@ use Prim.Native.Nat.{_+_, _-_, _≤_}
 use mathlib.Core.Path.{_≡_, refl}
 use native.Mathlib.Omega.{arith}
 use borrow.Author.Needs.{needs}
-use Rattle.fields.specs.Cuts.{Left, left-turn, left-end}
+use Rattle.fields.specs.CutsLaws.{Left, left-turn, left-end}
 use Rattle.fields.specs.Monitors.{patternsText}
 use Rattle.fields.specs.Turns.{patterns-end, patterns-next}
 use lib.ListN.{length}
@@ -19,45 +19,50 @@ Inv-loop out₀ at s n end₀ i₀ out end i = (n ≡ length s) × (i ≤ n) × 
 abbrev μ-loop : tie.MeasureT-loop
 μ-loop out₀ at s n end₀ i₀ out end i = n - i
 
--- src/monitors.rt:52:5
 loop-holds : tie.Need-loop-holds Inv-loop μ-loop
 loop-holds c = (refl, omega arith, λ o r t. t)
 
--- src/monitors.rt:53:21
 size-requires : tie.Need-size-requires Inv-loop μ-loop
 size-requires c κs = search needs
 
--- src/monitors.rt:53:17
 add-e : tie.Need-add-e Inv-loop μ-loop
 add-e c = search needs
 
--- src/monitors.rt:54:33
 sub-pattern : tie.Need-sub-pattern Inv-loop μ-loop
 sub-pattern c = search needs
 
--- src/monitors.rt:54:33
 part-pattern-start : tie.Need-part-pattern-start Inv-loop μ-loop
 part-pattern-start c = search needs
 
--- src/monitors.rt:54:33
 part-pattern-end : tie.Need-part-pattern-end Inv-loop μ-loop
 part-pattern-end c = search needs
 
--- src/monitors.rt:54:9
 pattern-requires : tie.Need-pattern-requires Inv-loop μ-loop
 pattern-requires c κs = search needs
 
--- src/monitors.rt:52:5
 loop-less : tie.Need-loop-less Inv-loop μ-loop
 loop-less c = search needs
 
--- src/monitors.rt:52:5
 loop-again : tie.Need-loop-again Inv-loop μ-loop
-loop-again c = (refl, omega arith, let k : c .before .before .before .before .before .loop .i + c .before .before .before .size .result - c .before .before .before .before .before .loop .i ≡ c .before .before .before .size .result = omega arith in left-turn (patternsText) (c .before .before .before .before .before .before .before .args .s .now) (c .before .before .before .before .before .loop .i) (c .before .before .before .before .before .loop .i + c .before .before .before .size .result) (patterns-next (c .before .before .before .before .before .before .before .args .s .now) (c .before .before .before .before .before .loop .i) (c .before .before .before .size .result) (omega arith) (c .before .before .before .size .ensures .0) (c .before .before .before .size .ensures .1)) (c .before .before .before .before .before .loop .inv .2) (rw k at (c .pattern .ensures)))
+loop-again c = (
+  refl,
+  omega arith,
+  let k : c .before .before .before .before .before .loop .i +
+      c .before .before .before .size .result - c .before .before .before .before .before .loop .i
+      ≡ c .before .before .before .size .result = omega arith in left-turn (patternsText)
+      (c .before .before .before .before .before .before .before .args .s .now)
+      (c .before .before .before .before .before .loop .i)
+      (c .before .before .before .before .before .loop .i + c .before .before .before .size .result)
+      (patterns-next (c .before .before .before .before .before .before .before .args .s .now)
+      (c .before .before .before .before .before .loop .i) (c .before .before .before .size .result) (omega arith)
+      (c .before .before .before .size .ensures .0) (c .before .before .before .size .ensures .1))
+      (c .before .before .before .before .before .loop .inv .2) (rw k at (c .pattern .ensures)),
+)
 
--- src/monitors.rt:46:1
 returns : tie.Need-returns Inv-loop μ-loop
-returns c = left-end (patternsText) (c .before .before .before .args .s .now) (c .before .loop .i) (patterns-end (c .before .before .before .args .s .now) (c .before .loop .i) (omega arith)) (c .before .loop .inv .2)
+returns c = left-end (patternsText) (c .before .before .before .args .s .now) (c .before .loop .i)
+    (patterns-end (c .before .before .before .args .s .now) (c .before .loop .i) (omega arith))
+    (c .before .loop .inv .2)
 
 pub patterns-spec : {M : Type 1} → statement M
 patterns-spec =

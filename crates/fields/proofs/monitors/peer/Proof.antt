@@ -1,4 +1,4 @@
-use Rattle.words.specs.Says.{then}
+use Rattle.words.specs.SaysLaws.{then}
 use Rattle.fields.specs.Monitors.{peerText}
 use Rattle.model.specs.Quoted.{codes}
 use borrow.Author.Needs.{needs}
@@ -15,66 +15,63 @@ use Rattle.words.proofs.number.Reads as number-reads
 use Rattle.words.proofs.part.Reads as part-reads
 use Rattle.words.proofs.put.Reads as put-reads
 
--- src/monitors.rt:198:33
 slice-aggregate-put : tie.Need-slice-aggregate-put
 slice-aggregate-put c = search needs
 
--- src/monitors.rt:198:9
 put-requires : tie.Need-put-requires
 put-requires c κs = search needs
 
--- src/monitors.rt:199:29
 get8-requires : tie.Need-get8-requires
 get8-requires c κs = search needs
 
--- src/monitors.rt:199:9
 options-requires : tie.Need-options-requires
 options-requires c κs = search needs
 
--- src/monitors.rt:200:32
 slice-aggregate-put-2 : tie.Need-slice-aggregate-put-2
 slice-aggregate-put-2 c = search needs
 
--- src/monitors.rt:200:9
 put-requires-2 : tie.Need-put-requires-2
 put-requires-2 c κs = search needs
 
--- src/monitors.rt:201:31
 get8-requires-2 : tie.Need-get8-requires-2
 get8-requires-2 c κs = search needs
 
--- src/monitors.rt:201:9
 filtering-requires : tie.Need-filtering-requires
 filtering-requires c κs = search needs
 
--- src/monitors.rt:202:35
 slice-aggregate-device : tie.Need-slice-aggregate-device
 slice-aggregate-device c = search needs
 
--- src/monitors.rt:202:47
 peer-of-requires : tie.Need-peer-of-requires
 peer-of-requires c κs = search needs
 
--- src/monitors.rt:202:9
 device-requires : tie.Need-device-requires
 device-requires c κs = search needs
 
--- src/monitors.rt:203:27
 slice-aggregate-number : tie.Need-slice-aggregate-number
 slice-aggregate-number c = search needs
 
--- src/monitors.rt:203:45
 part-requires : tie.Need-part-requires
 part-requires c κs = search needs
 
--- src/monitors.rt:203:5
 number-requires : tie.Need-number-requires
 number-requires c κs = search needs
 
--- src/monitors.rt:195:1
 returns : tie.Need-returns
 unfolding peerText codes
-returns c = then (then (then (then (then (c .before .before .before .before .before .before .before .before .before .before .before .before .before .before .before .before .before .put .ensures) (rw (c .before .before .before .before .before .before .before .before .before .before .before .before .before .before .before .get8 .ensures) at (c .before .before .before .before .before .before .before .before .before .before .before .before .before .before .options .ensures))) (c .before .before .before .before .before .before .before .before .before .before .before .put2 .ensures)) (rw (c .before .before .before .before .before .before .before .before .before .get82 .ensures) at (c .before .before .before .before .before .before .before .before .filtering .ensures))) (rw (c .before .before .before .before .before .peer-of .ensures) at (c .before .before .before .before .device .ensures))) (rw (c .before .part .ensures) at (c .number .ensures))
+returns c = then
+    (then (then (then
+    (then (c .before .before .before .before .before .before .before .before .before .before .before .before .before
+    .before .before .before .before .put .ensures)
+    (rw (c .before .before .before .before .before .before .before .before .before .before .before .before .before
+    .before .before .get8 .ensures) at
+    (c .before .before .before .before .before .before .before .before .before .before .before .before .before .before
+    .options .ensures)))
+    (c .before .before .before .before .before .before .before .before .before .before .before .put2 .ensures))
+    (rw (c .before .before .before .before .before .before .before .before .before .get82 .ensures) at
+    (c .before .before .before .before .before .before .before .before .filtering .ensures)))
+    (rw (c .before .before .before .before .before .peer-of .ensures) at
+    (c .before .before .before .before .device .ensures))) (rw (c .before .part .ensures) at (c .number .ensures))
 
 pub peer-spec : {M : Type 1} → statement M
 peer-spec =

@@ -8,47 +8,36 @@ use Rattle.octets.proofs.get16.Reads as get16-reads
 use Rattle.octets.proofs.get32.Reads as get32-reads
 use Rattle.octets.proofs.get8.Reads as get8-reads
 
--- src/monitors.rt:188:16
 get8-requires : tie.Need-get8-requires
 get8-requires c κs = search needs
 
--- src/monitors.rt:188:16
 cast-kind : tie.Need-cast-kind
 cast-kind c = search needs
 
--- src/monitors.rt:189:15
 get32-requires : tie.Need-get32-requires
 get32-requires c κs = search needs
 
--- src/monitors.rt:189:15
 cast-low : tie.Need-cast-low
 cast-low c = search needs
 
--- src/monitors.rt:190:16
 get16-requires : tie.Need-get16-requires
 get16-requires c κs = search needs
 
--- src/monitors.rt:190:16
 cast-high : tie.Need-cast-high
 cast-high c = search needs
 
--- src/monitors.rt:191:25
 mul-result : tie.Need-mul-result
 mul-result c = search needs
 
--- src/monitors.rt:191:19
 add-result : tie.Need-add-result
 add-result c = search needs
 
--- src/monitors.rt:191:12
 mul-result-2 : tie.Need-mul-result-2
 mul-result-2 c = search needs
 
--- src/monitors.rt:191:5
 add-result-2 : tie.Need-add-result-2
 add-result-2 c = search needs
 
--- src/monitors.rt:185:1
 returns : tie.Need-returns
 unfolding peerOf
 returns c = search needs

@@ -1,4 +1,4 @@
-use Rattle.words.specs.Says.{nothing, taken, left}
+use Rattle.words.specs.SaysLaws.{nothing, taken, left}
 use Rattle.words.specs.Pieces.{numberText}
 use Rattle.fields.specs.Monitors.{reservedText}
 use Rattle.model.specs.Quoted.{codes}
@@ -10,24 +10,19 @@ use Rattle.fields.proofs.monitors.reserved.Reads as reads
 use Rattle.fields.proofs.monitors.reserved.Lts as lts
 use Rattle.words.proofs.number.Reads as number-reads
 
--- src/monitors.rt:149:9
 returns : tie.Need-returns
 unfolding reservedText numberText codes
 returns c = taken _ _ (eq-eqb _ _ (c .if1 .taken)) (nothing _ _)
 
--- src/monitors.rt:151:28
 slice-aggregate-number : tie.Need-slice-aggregate-number
 slice-aggregate-number c = search needs
 
--- src/monitors.rt:151:45
 slice-aggregate-number-2 : tie.Need-slice-aggregate-number-2
 slice-aggregate-number-2 c = search needs
 
--- src/monitors.rt:151:5
 number-requires : tie.Need-number-requires
 number-requires c κs = search needs
 
--- src/monitors.rt:144:1
 returns-2 : tie.Need-returns-2
 unfolding reservedText numberText codes
 returns-2 c = left _ _ (ne-eqb _ _ (c .before .before .before .before .if1 .left)) (c .number .ensures)

@@ -1,4 +1,4 @@
-use Rattle.words.specs.Says.{then, taken, left}
+use Rattle.words.specs.SaysLaws.{then, taken, left}
 use Rattle.fields.specs.Monitors.{samplingText}
 use Rattle.model.specs.Quoted.{codes}
 use borrow.Author.Tests.{eq-eqb, ne-eqb}
@@ -10,56 +10,47 @@ use Rattle.fields.proofs.monitors.sampling.Lts as lts
 use Rattle.words.proofs.put.Reads as put-reads
 use Rattle.words.proofs.said.Reads as said-reads
 
--- src/monitors.rt:112:36
 slice-aggregate-put : tie.Need-slice-aggregate-put
 slice-aggregate-put c = search needs
 
--- src/monitors.rt:112:9
 put-requires : tie.Need-put-requires
 put-requires c κs = search needs
 
--- src/monitors.rt:112:9
 returns : tie.Need-returns
 unfolding samplingText codes
 returns c = taken _ _ (eq-eqb _ _ (c .before .before .before .if1 .taken)) (c .put .ensures)
 
--- src/monitors.rt:115:36
 slice-aggregate-put-2 : tie.Need-slice-aggregate-put-2
 slice-aggregate-put-2 c = search needs
 
--- src/monitors.rt:115:9
 put-requires-2 : tie.Need-put-requires-2
 put-requires-2 c κs = search needs
 
--- src/monitors.rt:115:9
 returns-2 : tie.Need-returns-2
 unfolding samplingText codes
-returns-2 c = left _ _ (ne-eqb _ _ (c .before .before .before .before .if1 .left)) (taken _ _ (eq-eqb _ _ (c .before .before .before .if2 .taken)) (c .put2 .ensures))
+returns-2 c = left _ _ (ne-eqb _ _ (c .before .before .before .before .if1 .left))
+    (taken _ _ (eq-eqb _ _ (c .before .before .before .if2 .taken)) (c .put2 .ensures))
 
--- src/monitors.rt:117:34
 slice-aggregate-said : tie.Need-slice-aggregate-said
 slice-aggregate-said c = search needs
 
--- src/monitors.rt:117:50
 mul-said : tie.Need-mul-said
 mul-said c = search needs
 
--- src/monitors.rt:117:9
 said-requires : tie.Need-said-requires
 said-requires c κs = search needs
 
--- src/monitors.rt:118:24
 slice-aggregate-put-3 : tie.Need-slice-aggregate-put-3
 slice-aggregate-put-3 c = search needs
 
--- src/monitors.rt:118:5
 put-requires-3 : tie.Need-put-requires-3
 put-requires-3 c κs = search needs
 
--- src/monitors.rt:108:1
 returns-3 : tie.Need-returns-3
 unfolding samplingText codes
-returns-3 c = left _ _ (ne-eqb _ _ (c .before .before .before .before .before .before .before .if1 .left)) (left _ _ (ne-eqb _ _ (c .before .before .before .before .before .before .if2 .left)) (then (c .before .before .before .said .ensures) (c .put3 .ensures)))
+returns-3 c = left _ _ (ne-eqb _ _ (c .before .before .before .before .before .before .before .if1 .left))
+    (left _ _ (ne-eqb _ _ (c .before .before .before .before .before .before .if2 .left))
+    (then (c .before .before .before .said .ensures) (c .put3 .ensures)))
 
 pub sampling-spec : {M : Type 1} → statement M
 sampling-spec =

@@ -1,4 +1,4 @@
-use Rattle.words.specs.Says.{taken, left}
+use Rattle.words.specs.SaysLaws.{taken, left}
 use Rattle.fields.specs.Monitors.{singleText}
 use Rattle.model.specs.Quoted.{codes}
 use borrow.Author.Needs.{needs}
@@ -15,69 +15,69 @@ use Rattle.words.proofs.device_of.Reads as device-of-reads
 use Rattle.words.proofs.number.Reads as number-reads
 use Rattle.words.proofs.uuid.Reads as uuid-reads
 
--- src/monitors.rt:82:9
 get8-requires : tie.Need-get8-requires
 get8-requires c κs = search needs
 
--- src/monitors.rt:83:9
 is-uuid-requires : tie.Need-is-uuid-requires
 is-uuid-requires c κs = search needs
 
--- src/monitors.rt:85:37
 slice-aggregate-uuid : tie.Need-slice-aggregate-uuid
 slice-aggregate-uuid c = search needs
 
--- src/monitors.rt:85:49
 behind-requires : tie.Need-behind-requires
 behind-requires c κs = search needs
 
--- src/monitors.rt:85:9
 uuid-requires : tie.Need-uuid-requires
 uuid-requires c κs = search needs
 
--- src/monitors.rt:85:9
 returns : tie.Need-returns
 unfolding singleText codes
-returns c = taken _ _ (rw (c .before .before .before .before .before .is-uuid .ensures) at (c .before .before .before .before .if1 .taken)) (rw (c .before .behind .ensures) at (c .uuid .ensures))
+returns c = taken _ _
+    (rw (c .before .before .before .before .before .is-uuid .ensures) at
+    (c .before .before .before .before .if1 .taken)) (rw (c .before .behind .ensures) at (c .uuid .ensures))
 
--- src/monitors.rt:88:39
 slice-aggregate-number : tie.Need-slice-aggregate-number
 slice-aggregate-number c = search needs
 
--- src/monitors.rt:88:9
 number-requires : tie.Need-number-requires
 number-requires c κs = search needs
 
--- src/monitors.rt:88:9
 returns-2 : tie.Need-returns-2
 unfolding singleText codes
-returns-2 c = left _ _ (rw (c .before .before .before .before .before .is-uuid .ensures) at (c .before .before .before .before .if1 .left)) (taken _ _ (c .before .before .before .if2 .taken) (c .number .ensures))
+returns-2 c = left _ _
+    (rw (c .before .before .before .before .before .is-uuid .ensures) at
+    (c .before .before .before .before .if1 .left))
+    (taken _ _ (c .before .before .before .if2 .taken) (c .number .ensures))
 
--- src/monitors.rt:91:39
 slice-aggregate-device : tie.Need-slice-aggregate-device
 slice-aggregate-device c = search needs
 
--- src/monitors.rt:91:54
 device-of-requires : tie.Need-device-of-requires
 device-of-requires c κs = search needs
 
--- src/monitors.rt:91:9
 device-requires : tie.Need-device-requires
 device-requires c κs = search needs
 
--- src/monitors.rt:91:9
 returns-3 : tie.Need-returns-3
 unfolding singleText codes
-returns-3 c = left _ _ (rw (c .before .before .before .before .before .before .before .is-uuid .ensures) at (c .before .before .before .before .before .before .if1 .left)) (left _ _ (c .before .before .before .before .before .if2 .left) (taken _ _ (rw (c .before .before .before .before .before .before .before .before .get8 .ensures) at (c .before .before .before .before .if3 .taken)) (rw (c .before .device-of .ensures) at (c .device .ensures))))
+returns-3 c = left _ _
+    (rw (c .before .before .before .before .before .before .before .is-uuid .ensures) at
+    (c .before .before .before .before .before .before .if1 .left))
+    (left _ _ (c .before .before .before .before .before .if2 .left)
+    (taken _ _ (rw (c .before .before .before .before .before .before .before .before .get8 .ensures) at
+    (c .before .before .before .before .if3 .taken)) (rw (c .before .device-of .ensures) at (c .device .ensures))))
 
--- src/monitors.rt:93:5
 unknown-requires : tie.Need-unknown-requires
 unknown-requires c κs = search needs
 
--- src/monitors.rt:78:1
 returns-4 : tie.Need-returns-4
 unfolding singleText codes
-returns-4 c = left _ _ (rw (c .before .before .before .before .before .is-uuid .ensures) at (c .before .before .before .before .if1 .left)) (left _ _ (c .before .before .before .if2 .left) (left _ _ (rw (c .before .before .before .before .before .before .get8 .ensures) at (c .before .before .if3 .left)) (c .unknown .ensures)))
+returns-4 c = left _ _
+    (rw (c .before .before .before .before .before .is-uuid .ensures) at
+    (c .before .before .before .before .if1 .left))
+    (left _ _ (c .before .before .before .if2 .left)
+    (left _ _ (rw (c .before .before .before .before .before .before .get8 .ensures) at
+    (c .before .before .if3 .left)) (c .unknown .ensures)))
 
 pub single-spec : {M : Type 1} → statement M
 single-spec =

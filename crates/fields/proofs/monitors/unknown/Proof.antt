@@ -1,4 +1,4 @@
-use Rattle.words.specs.Says.{then}
+use Rattle.words.specs.SaysLaws.{then}
 use Rattle.fields.specs.Monitors.{unknownText}
 use Rattle.model.specs.Quoted.{codes}
 use borrow.Author.Needs.{needs}
@@ -9,19 +9,15 @@ use Rattle.fields.proofs.monitors.unknown.Lts as lts
 use Rattle.fields.proofs.data.plain.Reads as plain-reads
 use Rattle.words.proofs.said.Reads as said-reads
 
--- src/monitors.rt:64:34
 slice-aggregate-said : tie.Need-slice-aggregate-said
 slice-aggregate-said c = search needs
 
--- src/monitors.rt:64:9
 said-requires : tie.Need-said-requires
 said-requires c κs = search needs
 
--- src/monitors.rt:65:5
 plain-requires : tie.Need-plain-requires
 plain-requires c κs = search needs
 
--- src/monitors.rt:61:1
 returns : tie.Need-returns
 unfolding unknownText codes
 returns c = then (c .before .before .said .ensures) (c .plain .ensures)

@@ -1,6 +1,6 @@
-use Rattle.words.specs.Says.{same}
-use Rattle.words.specs.Pieces.{name-rows}
-use Rattle.names.specs.Names.{tableOf}
+use Rattle.words.specs.SaysLaws.{same}
+use Rattle.words.specs.PiecesLaws.{name-rows}
+use Rattle.names.specs.NamesLaws.{tableOf}
 use Rattle.fields.specs.Names.{adRows, adText}
 use Rattle.model.specs.Quoted.{codes}
 use borrow.Author.Needs.{needs}
@@ -10,19 +10,15 @@ use Rattle.fields.proofs.terms.ad.Reads as reads
 use Rattle.fields.proofs.terms.ad.Lts as lts
 use Rattle.words.proofs.name.Reads as name-reads
 
--- src/terms.rt:72:26
 slice-aggregate-name : tie.Need-slice-aggregate-name
 slice-aggregate-name c = search needs
 
--- src/terms.rt:72:31
 slice-aggregate-name-2 : tie.Need-slice-aggregate-name-2
 slice-aggregate-name-2 c = search needs
 
--- src/terms.rt:72:5
 name-requires : tie.Need-name-requires
 name-requires c κs = search needs
 
--- src/terms.rt:69:1
 returns : tie.Need-returns
 unfolding adText adRows tableOf codes
 returns c = same (name-rows adRows "AD type 0x" (c .before .before .before .before .args .x)) (c .name .ensures)

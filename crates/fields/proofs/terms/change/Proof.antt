@@ -1,4 +1,4 @@
-use Rattle.words.specs.Says.{taken, left}
+use Rattle.words.specs.SaysLaws.{taken, left}
 use Rattle.fields.specs.Names.{changeWord}
 use Rattle.model.specs.Quoted.{codes}
 use borrow.Author.Tests.{eq-eqb, ne-eqb}
@@ -9,28 +9,22 @@ use Rattle.fields.proofs.terms.change.Reads as reads
 use Rattle.fields.proofs.terms.change.Lts as lts
 use Rattle.words.proofs.put.Reads as put-reads
 
--- src/terms.rt:125:36
 slice-aggregate-put : tie.Need-slice-aggregate-put
 slice-aggregate-put c = search needs
 
--- src/terms.rt:125:9
 put-requires : tie.Need-put-requires
 put-requires c κs = search needs
 
--- src/terms.rt:125:9
 returns : tie.Need-returns
 unfolding changeWord codes
 returns c = taken _ _ (eq-eqb _ _ (c .before .before .before .if1 .taken)) (c .put .ensures)
 
--- src/terms.rt:127:25
 slice-aggregate-put-2 : tie.Need-slice-aggregate-put-2
 slice-aggregate-put-2 c = search needs
 
--- src/terms.rt:127:5
 put-requires-2 : tie.Need-put-requires-2
 put-requires-2 c κs = search needs
 
--- src/terms.rt:121:1
 returns-2 : tie.Need-returns-2
 unfolding changeWord codes
 returns-2 c = left _ _ (ne-eqb _ _ (c .before .before .before .if1 .left)) (c .put2 .ensures)

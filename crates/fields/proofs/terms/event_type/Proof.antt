@@ -1,6 +1,6 @@
-use Rattle.words.specs.Says.{same}
-use Rattle.words.specs.Pieces.{name-rows}
-use Rattle.names.specs.Names.{tableOf}
+use Rattle.words.specs.SaysLaws.{same}
+use Rattle.words.specs.PiecesLaws.{name-rows}
+use Rattle.names.specs.NamesLaws.{tableOf}
 use Rattle.fields.specs.Names.{eventRows, eventText}
 use Rattle.model.specs.Quoted.{codes}
 use borrow.Author.Needs.{needs}
@@ -10,19 +10,15 @@ use Rattle.fields.proofs.terms.event_type.Reads as reads
 use Rattle.fields.proofs.terms.event_type.Lts as lts
 use Rattle.words.proofs.name.Reads as name-reads
 
--- src/terms.rt:79:26
 slice-aggregate-name : tie.Need-slice-aggregate-name
 slice-aggregate-name c = search needs
 
--- src/terms.rt:79:40
 slice-aggregate-name-2 : tie.Need-slice-aggregate-name-2
 slice-aggregate-name-2 c = search needs
 
--- src/terms.rt:79:5
 name-requires : tie.Need-name-requires
 name-requires c κs = search needs
 
--- src/terms.rt:76:1
 returns : tie.Need-returns
 unfolding eventText eventRows tableOf codes
 returns c = same (name-rows eventRows "event type 0x" (c .before .before .before .before .args .x)) (c .name .ensures)

@@ -1,4 +1,4 @@
-use Rattle.words.specs.Says.{taken, left}
+use Rattle.words.specs.SaysLaws.{taken, left}
 use Rattle.fields.specs.Names.{prefixText}
 use Rattle.model.specs.Quoted.{codes}
 use borrow.Author.Tests.{eq-eqb, ne-eqb}
@@ -10,28 +10,22 @@ use Rattle.fields.proofs.terms.prefix.Lts as lts
 use Rattle.words.proofs.hex.Reads as hex-reads
 use Rattle.words.proofs.put.Reads as put-reads
 
--- src/terms.rt:135:36
 slice-aggregate-put : tie.Need-slice-aggregate-put
 slice-aggregate-put c = search needs
 
--- src/terms.rt:135:9
 put-requires : tie.Need-put-requires
 put-requires c κs = search needs
 
--- src/terms.rt:135:9
 returns : tie.Need-returns
 unfolding prefixText codes
 returns c = taken _ _ (eq-eqb _ _ (c .before .before .before .if1 .taken)) (c .put .ensures)
 
--- src/terms.rt:137:25
 slice-aggregate-hex : tie.Need-slice-aggregate-hex
 slice-aggregate-hex c = search needs
 
--- src/terms.rt:137:5
 hex-requires : tie.Need-hex-requires
 hex-requires c κs = search needs
 
--- src/terms.rt:131:1
 returns-2 : tie.Need-returns-2
 unfolding prefixText codes
 returns-2 c = left _ _ (ne-eqb _ _ (c .before .before .before .if1 .left)) (c .hex .ensures)

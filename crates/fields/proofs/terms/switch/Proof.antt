@@ -1,4 +1,4 @@
-use Rattle.words.specs.Says.{taken, left}
+use Rattle.words.specs.SaysLaws.{taken, left}
 use Rattle.fields.specs.Names.{switchText}
 use Rattle.model.specs.Quoted.{codes}
 use borrow.Author.Tests.{eq-eqb, ne-eqb}
@@ -9,28 +9,22 @@ use Rattle.fields.proofs.terms.switch.Reads as reads
 use Rattle.fields.proofs.terms.switch.Lts as lts
 use Rattle.words.proofs.put.Reads as put-reads
 
--- src/terms.rt:115:36
 slice-aggregate-put : tie.Need-slice-aggregate-put
 slice-aggregate-put c = search needs
 
--- src/terms.rt:115:9
 put-requires : tie.Need-put-requires
 put-requires c κs = search needs
 
--- src/terms.rt:115:9
 returns : tie.Need-returns
 unfolding switchText codes
 returns c = taken _ _ (eq-eqb _ _ (c .before .before .before .if1 .taken)) (c .put .ensures)
 
--- src/terms.rt:117:25
 slice-aggregate-put-2 : tie.Need-slice-aggregate-put-2
 slice-aggregate-put-2 c = search needs
 
--- src/terms.rt:117:5
 put-requires-2 : tie.Need-put-requires-2
 put-requires-2 c κs = search needs
 
--- src/terms.rt:111:1
 returns-2 : tie.Need-returns-2
 unfolding switchText codes
 returns-2 c = left _ _ (ne-eqb _ _ (c .before .before .before .if1 .left)) (c .put2 .ensures)

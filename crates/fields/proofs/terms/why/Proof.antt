@@ -1,6 +1,6 @@
 use mathlib.Core.Path.{_∙_}
-use Rattle.words.specs.Says.{same}
-use Rattle.names.specs.Names.{tableOf, looked-up}
+use Rattle.words.specs.SaysLaws.{same}
+use Rattle.names.specs.NamesLaws.{tableOf, looked-up}
 use Rattle.fields.specs.Names.{whyRows, whyText}
 use Rattle.model.specs.Quoted.{codes}
 use borrow.Author.Needs.{needs}
@@ -11,22 +11,19 @@ use Rattle.fields.proofs.terms.why.Lts as lts
 use Rattle.names.proofs.find.Reads as find-reads
 use Rattle.words.proofs.put.Reads as put-reads
 
--- src/terms.rt:100:37
 slice-aggregate-find : tie.Need-slice-aggregate-find
 slice-aggregate-find c = search needs
 
--- src/terms.rt:100:25
 find-requires : tie.Need-find-requires
 find-requires c κs = search needs
 
--- src/terms.rt:100:5
 put-requires : tie.Need-put-requires
 put-requires c κs = search needs
 
--- src/terms.rt:97:1
 returns : tie.Need-returns
 unfolding whyText whyRows tableOf codes
-returns c = same (c .before .find .ensures ∙ looked-up whyRows (c .before .before .before .before .args .x)) (c .put .ensures)
+returns c = same (c .before .find .ensures ∙ looked-up whyRows (c .before .before .before .before .args .x))
+    (c .put .ensures)
 
 pub why-spec : {M : Type 1} → statement M
 why-spec = tie.close (tie.spec slice-aggregate-find find-requires put-requires returns)

@@ -2,7 +2,7 @@ use mathlib.Core.Path.{_∙_}
 use Prim.Native.Nat.{ℕ}
 use lib.ListN.{replicate, length-replicate}
 use Rattle.wholes.specs.Layout.{wholeSize}
-use Rattle.index.specs.Begun.{blank-is}
+use Rattle.index.specs.BegunLaws.{blank-is}
 use borrow.Author.Needs.{needs}
 use Rattle.index.proofs.Whole.blank.Statement.{statement}
 use Rattle.index.proofs.Whole.blank.Tie as tie
@@ -10,15 +10,12 @@ use Rattle.index.proofs.Whole.blank.Reads as reads
 use Rattle.index.proofs.Whole.blank.Lts as lts
 use Rattle.index.proofs.put_blank.Reads as put-blank-reads
 
--- src/lib.rt:93:19
 slice-aggregate-put-blank : tie.Need-slice-aggregate-put-blank
 slice-aggregate-put-blank c = search needs
 
--- src/lib.rt:93:9
 put-blank-requires : tie.Need-put-blank-requires
 put-blank-requires c κs = search needs
 
--- src/lib.rt:89:5
 returns : tie.Need-returns
 returns c = c .before .put-blank .ensures ∙ blank-is (replicate wholeSize 0) (length-replicate {A = ℕ} wholeSize 0)
 

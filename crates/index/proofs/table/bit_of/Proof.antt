@@ -1,5 +1,5 @@
 use borrow.Author.Needs.{needs}
-use Rattle.index.specs.Written.{bit-low, bit-high}
+use Rattle.index.specs.WrittenLaws.{bit-low, bit-high}
 use Rattle.index.proofs.table.bit_of.Statement.{statement}
 use Rattle.index.proofs.table.bit_of.Tie as tie
 

@@ -1,6 +1,6 @@
 use native.Mathlib.Omega.{arith}
 use Rattle.model.specs.Layout.{pairSize}
-use Rattle.index.specs.Read.{key-read}
+use Rattle.index.specs.ReadLaws.{key-read}
 use Prim.Native.Nat.{_*_, _-_, _+_}
 use borrow.Author.Needs.{needs}
 use Rattle.index.proofs.table.key_at.Statement.{statement}
@@ -9,33 +9,28 @@ use Rattle.index.proofs.table.key_at.Reads as reads
 use Rattle.index.proofs.table.key_at.Lts as lts
 use Rattle.octets.proofs.get64.Reads as get64-reads
 
--- src/table.rt:109:16
 mul-from : tie.Need-mul-from
 mul-from c = search needs
 
--- src/table.rt:110:14
 add-to : tie.Need-add-to
 add-to c = search needs
 
--- src/table.rt:111:19
 sub-get64 : tie.Need-sub-get64
 sub-get64 c = search needs
 
--- src/table.rt:111:19
 part-get64-start : tie.Need-part-get64-start
 part-get64-start c = search needs
 
--- src/table.rt:111:19
 part-get64-end : tie.Need-part-get64-end
 part-get64-end c = search needs
 
--- src/table.rt:111:5
 get64-requires : tie.Need-get64-requires
 get64-requires c κs = search needs
 
--- src/table.rt:105:1
 returns : tie.Need-returns
-returns c = let a = c .before .before .before in key-read (a .args .pairs .now) (pairSize * a .args .i) (pairSize * a .args .i + 8 - pairSize * a .args .i) (omega arith) (omega arith) (c .get64 .ensures)
+returns c = let a =
+    c .before .before .before in key-read (a .args .pairs .now) (pairSize * a .args .i)
+    (pairSize * a .args .i + 8 - pairSize * a .args .i) (omega arith) (omega arith) (c .get64 .ensures)
 
 pub key-at-spec : {M : Type 1} → statement M
 key-at-spec =

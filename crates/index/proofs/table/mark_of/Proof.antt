@@ -1,11 +1,11 @@
 use mathlib.Core.Path.{refl}
-use Rattle.index.specs.Seen.{markOf, mark-small}
+use Rattle.index.specs.Seen.{markOf}
+use Rattle.index.specs.SeenLaws.{mark-small}
 use Rattle.index.proofs.table.mark_of.Statement.{statement}
 use Rattle.index.proofs.table.mark_of.Tie as tie
 use Rattle.index.proofs.table.mark_of.Reads as reads
 use Rattle.index.proofs.table.mark_of.Lts as lts
 
--- src/table.rt:109:1
 returns : tie.Need-returns
 unfolding markOf
 returns c = (refl, mark-small _)

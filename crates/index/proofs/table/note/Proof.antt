@@ -2,7 +2,7 @@ use Prim.Native.Nat.{_+_}
 use native.Mathlib.Omega.{arith}
 use mathlib.Core.Path.{_≡_, sym, ap, _∙_, subst}
 use Rattle.index.specs.Table.{Tabled, withEntry, withBit}
-use Rattle.index.specs.Found.{noted-new, noted-old}
+use Rattle.index.specs.FoundLaws.{noted-new, noted-old}
 use borrow.Author.Needs.{needs}
 use Rattle.index.proofs.table.note.Statement.{statement}
 use Rattle.index.proofs.table.note.Tie as tie
@@ -13,49 +13,46 @@ use Rattle.index.proofs.table.place.Reads as place-reads
 use Rattle.index.proofs.table.put_bit.Reads as put-bit-reads
 use Rattle.index.proofs.table.put_entry.Reads as put-entry-reads
 
--- src/table.rt:94:9
 place-requires : tie.Need-place-requires
 place-requires c κs = search needs
 
--- src/table.rt:95:9
 bit-of-requires : tie.Need-bit-of-requires
 bit-of-requires c κs = search needs
 
--- src/table.rt:97:9
 put-entry-requires : tie.Need-put-entry-requires
 put-entry-requires c κs = search needs
 
--- src/table.rt:98:16
 add-result : tie.Need-add-result
 add-result c = search needs
 
--- src/table.rt:98:9
 same-length : tie.Need-same-length
 same-length c = search needs
 
--- src/table.rt:98:9
 returns : tie.Need-returns
 returns c = let a = c .before .before .before .before .before .before .before .before .before in (
   omega arith,
   λ es d w s e. subst (λ x. Tabled x (a .args .k + 1) (c .before .before .put-entry .last .0))
-      (ap (withEntry es d) (c .before .before .before .before .before .bit-of .ensures) ∙ sym (noted-new d (a .args .h) s es (a .args .k) (a .args .table .now) w e (c .before .before .before .before .before .before .place .ensures .1) (c .before .before .before .before .if1 .taken)))
+      (ap (withEntry es d) (c .before .before .before .before .before .bit-of .ensures)
+      ∙ sym (noted-new d (a .args .h) s es (a .args .k) (a .args .table .now) w e
+      (c .before .before .before .before .before .before .place .ensures .1)
+      (c .before .before .before .before .if1 .taken)))
       (c .before .before .put-entry .ensures es d w s e),
 )
 
--- src/table.rt:100:5
 put-bit-requires : tie.Need-put-bit-requires
 put-bit-requires c κs = search needs
 
--- src/table.rt:90:1
 same-length-2 : tie.Need-same-length-2
 same-length-2 c = search needs
 
--- src/table.rt:90:1
 returns-2 : tie.Need-returns-2
 returns-2 c = let a = c .before .before .before .before .before .before .before .before .before in (
   omega arith,
   λ es d w s e. subst (λ x. Tabled x (a .args .k) (c .before .before .put-bit .last .0))
-      (ap (withBit es (c .before .before .before .before .before .before .place .result)) (c .before .before .before .before .before .bit-of .ensures) ∙ sym (noted-old d (a .args .h) s es (a .args .k) (a .args .table .now) w e (c .before .before .before .before .before .before .place .ensures .1) (omega arith)))
+      (ap (withBit es (c .before .before .before .before .before .before .place .result))
+      (c .before .before .before .before .before .bit-of .ensures)
+      ∙ sym (noted-old d (a .args .h) s es (a .args .k) (a .args .table .now) w e
+      (c .before .before .before .before .before .before .place .ensures .1) (omega arith)))
       (c .before .before .put-bit .ensures es (a .args .k) w (omega arith)),
 )
 

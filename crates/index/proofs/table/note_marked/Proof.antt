@@ -1,6 +1,6 @@
 use mathlib.Core.Path.{refl}
 use native.Mathlib.Omega.{arith}
-use Rattle.index.specs.Seen.{kept-new, kept-old}
+use Rattle.index.specs.SeenLaws.{kept-new, kept-old}
 use borrow.Author.Needs.{needs}
 use Rattle.index.proofs.table.note_marked.Statement.{statement}
 use Rattle.index.proofs.table.note_marked.Tie as tie
@@ -61,8 +61,10 @@ returns c =
     let a = c .before .before .before .before .before .before .before .before .before .before .before in
     let f = c .before .before .put-entry in (
       omega arith,
-      λ es d w s e. kept-new es d (a .args .table .now) (a .args .seen .now) (a .args .k) (a .args .h) _ (a .pre .1) w e (c .before .before .before .before .before .before .before .before .mark-of .ensures .0)
-          (c .before .before .before .before .before .before .if1 .taken) (c .before .before .before .bit-of .ensures) _ refl (f .ensures es d (w .tabled) s e),
+      λ es d w s e. kept-new es d (a .args .table .now) (a .args .seen .now) (a .args .k) (a .args .h) _ (a .pre .1) w
+          e (c .before .before .before .before .before .before .before .before .mark-of .ensures .0)
+          (c .before .before .before .before .before .before .if1 .taken) (c .before .before .before .bit-of .ensures)
+          _ refl (f .ensures es d (w .tabled) s e),
     )
 
 note-requires : tie.Need-note-requires
@@ -76,7 +78,8 @@ returns-2 c =
     let a = c .before .before .before .before .before .before .before .before .before in
     let f = c .before .before .note in (
       f .ensures .0,
-      λ es d w s e. kept-old es d (a .args .table .now) (a .args .seen .now) (a .args .k) (a .args .h) _ (a .pre .1) w e (c .before .before .before .before .before .before .mark-of .ensures .0)
+      λ es d w s e. kept-old es d (a .args .table .now) (a .args .seen .now) (a .args .k) (a .args .h) _ (a .pre .1) w
+          e (c .before .before .before .before .before .before .mark-of .ensures .0)
           (c .before .before .before .before .if1 .left) (f .ensures .1 es d (w .tabled) s e),
     )
 

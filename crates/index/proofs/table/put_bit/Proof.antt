@@ -1,5 +1,5 @@
 use native.Mathlib.Omega.{arith}
-use Rattle.index.specs.Written.{bit-written}
+use Rattle.index.specs.WrittenLaws.{bit-written}
 use borrow.Author.Needs.{needs}
 use Rattle.index.proofs.table.put_bit.Statement.{statement}
 use Rattle.index.proofs.table.put_bit.Tie as tie
@@ -8,29 +8,26 @@ use Rattle.index.proofs.table.put_bit.Lts as lts
 use Rattle.octets.proofs.get16.Reads as get16-reads
 use Rattle.octets.proofs.put16.Reads as put16-reads
 
--- src/table.rt:84:14
 mul-at : tie.Need-mul-at
 mul-at c = search needs
 
--- src/table.rt:84:14
 add-at : tie.Need-add-at
 add-at c = search needs
 
--- src/table.rt:85:9
 get16-requires : tie.Need-get16-requires
 get16-requires c κs = search needs
 
--- src/table.rt:86:5
 put16-requires : tie.Need-put16-requires
 put16-requires c κs = search needs
 
--- src/table.rt:80:1
 same-length : tie.Need-same-length
 same-length c = search needs
 
--- src/table.rt:80:1
 returns : tie.Need-returns
-returns c = let a = c .before .before .before .before .before .before .before in bit-written (a .args .table .now) (a .args .j) (a .args .bit) (a .pre .0) (a .pre .1) (omega arith) (c .before .before .before .before .get16 .ensures) (c .before .before .put16 .ensures .0) (c .before .before .put16 .ensures .1)
+returns c = let a =
+    c .before .before .before .before .before .before .before in bit-written (a .args .table .now) (a .args .j)
+    (a .args .bit) (a .pre .0) (a .pre .1) (omega arith) (c .before .before .before .before .get16 .ensures)
+    (c .before .before .put16 .ensures .0) (c .before .before .put16 .ensures .1)
 
 pub put-bit-spec : {M : Type 1} → statement M
 put-bit-spec = tie.close (tie.spec mul-at add-at get16-requires put16-requires same-length returns)

@@ -2,7 +2,7 @@ use Prim.Native.Nat.{_+_, _-_, _*_}
 use mathlib.Core.Path.{refl}
 use native.Mathlib.Omega.{arith}
 use Rattle.wholes.specs.Layout.{entrySize}
-use Rattle.index.specs.Written.{entry-written}
+use Rattle.index.specs.WrittenLaws.{entry-written}
 use borrow.Author.Needs.{needs}
 use Rattle.index.proofs.table.put_entry.Statement.{statement}
 use Rattle.index.proofs.table.put_entry.Tie as tie
@@ -33,7 +33,8 @@ returns c =
     let a = c .before .before .before .before .before in
     let from = entrySize * a .args .k in
     let f = c .before .before .put-row in
-    entry-written (a .args .table .now) (a .args .k) (a .args .dev) (a .args .bit) (from + entrySize - from) (a .pre .1) (omega arith) (omega arith)
+    entry-written (a .args .table .now) (a .args .k) (a .args .dev) (a .args .bit) (from + entrySize - from)
+    (a .pre .1) (omega arith) (omega arith)
     (f .last .0) _ (f .ensures) refl
 
 pub put-entry-spec : {M : Type 1} → statement M

@@ -1,5 +1,5 @@
 use native.Mathlib.Omega.{arith}
-use Rattle.index.specs.Written.{row-written}
+use Rattle.index.specs.WrittenLaws.{row-written}
 use borrow.Author.Needs.{needs}
 use Rattle.index.proofs.table.put_row.Statement.{statement}
 use Rattle.index.proofs.table.put_row.Tie as tie
@@ -30,7 +30,8 @@ returns c =
     let a = c .before .before .before .before .before .before .before .before .before in
     let f = c .before .before .before .before .before .before .put64 in
     let g = c .before .before .put8 in
-    row-written (a .args .row .now) (a .args .dev) (a .args .mask) (a .pre .0) (a .pre .1) (omega arith) (f .kept .0) (f .ensures .0) (f .ensures .1)
+    row-written (a .args .row .now) (a .args .dev) (a .args .mask) (a .pre .0) (a .pre .1) (omega arith) (f .kept .0)
+    (f .ensures .0) (f .ensures .1)
     (g .ensures .0) (g .ensures .1)
 
 pub put-row-spec : {M : Type 1} → statement M

@@ -10,7 +10,7 @@ use Rattle.laws.specs.Rows.{rows}
 use Rattle.model.specs.Layout.{mostPairs}
 use Rattle.wholes.specs.Layout.{entrySize}
 use Rattle.index.specs.Walk.{rowMask}
-use Rattle.index.specs.Compared.{gathered-more, gathered-end}
+use Rattle.index.specs.ComparedLaws.{gathered-more, gathered-end}
 use Rattle.index.proofs.walk.is_gathered.Statement.{statement}
 use Rattle.index.proofs.walk.is_gathered.Tie as tie
 use Rattle.index.proofs.walk.is_gathered.Reads as reads
@@ -18,62 +18,60 @@ use Rattle.index.proofs.walk.is_gathered.Lts as lts
 use Rattle.octets.proofs.get16.Reads as get16-reads
 
 abbrev Inv-loop : tie.InvT-loop
-Inv-loop table masks k all₀ j₀ all j = (j ≤ k) × (sames (map rowMask (take k (rows entrySize mostPairs table))) (take k masks) ≡ (all && sames (drop j (map rowMask (take k (rows entrySize mostPairs table)))) (drop j (take k masks))))
+Inv-loop table masks k all₀ j₀ all j =
+    (j ≤ k) × (sames (map rowMask (take k (rows entrySize mostPairs table))) (take k masks)
+    ≡ (all && sames (drop j (map rowMask (take k (rows entrySize mostPairs table)))) (drop j (take k masks))))
 
 abbrev μ-loop : tie.MeasureT-loop
 μ-loop table masks k all₀ j₀ all j = k - j
 
--- src/walk.rt:104:5
 loop-holds : tie.Need-loop-holds Inv-loop μ-loop
 loop-holds c = (omega arith, refl)
 
--- src/walk.rt:105:20
 mul-from : tie.Need-mul-from Inv-loop μ-loop
 mul-from c = omega arith
 
--- src/walk.rt:106:18
 add-to : tie.Need-add-to Inv-loop μ-loop
 add-to c = omega arith
 
--- src/walk.rt:107:34
 sub-get16 : tie.Need-sub-get16 Inv-loop μ-loop
 sub-get16 c = omega arith
 
--- src/walk.rt:107:34
 part-get16-start : tie.Need-part-get16-start Inv-loop μ-loop
 part-get16-start c = omega arith
 
--- src/walk.rt:107:34
 part-get16-end : tie.Need-part-get16-end Inv-loop μ-loop
 part-get16-end c = omega arith
 
--- src/walk.rt:107:13
 get16-requires : tie.Need-get16-requires Inv-loop μ-loop
 get16-requires c κs = search needs
 
--- src/walk.rt:108:30
 mul-all : tie.Need-mul-all Inv-loop μ-loop
 mul-all c = omega arith
 
--- src/walk.rt:108:30
 shared-slice-read-all : tie.Need-shared-slice-read-all Inv-loop μ-loop
 shared-slice-read-all c = omega arith
 
--- src/walk.rt:109:9
 add-j : tie.Need-add-j Inv-loop μ-loop
 add-j c = omega arith
 
--- src/walk.rt:104:5
 loop-less : tie.Need-loop-less Inv-loop μ-loop
 loop-less c = omega arith
 
--- src/walk.rt:104:5
 loop-again : tie.Need-loop-again Inv-loop μ-loop
-loop-again c = let a = c .before .before .before .before .before .before .before in let l = c .before .before .before .before .loop in (omega arith, gathered-more (a .args .table .now) (a .args .masks .now) (a .args .k) (a .pre .1) (a .pre .2) (l .all) (l .j) (l .inv .1) (a .pre .0) (omega arith) (entrySize * l .j + entrySize - entrySize * l .j) (omega arith) (c .before .get16 .ensures))
+loop-again c = let a = c .before .before .before .before .before .before .before in let l =
+    c .before .before .before .before
+    .loop in (
+      omega arith,
+      gathered-more (a .args .table .now) (a .args .masks .now) (a .args .k) (a .pre .1)
+          (a .pre .2) (l .all) (l .j) (l .inv .1) (a .pre .0) (omega arith)
+          (entrySize * l .j + entrySize - entrySize * l .j) (omega arith) (c .before .get16 .ensures),
+    )
 
--- src/walk.rt:98:1
 returns : tie.Need-returns Inv-loop μ-loop
-returns c = let a = c .before .before .before .before in let l = c .before .loop in gathered-end (a .args .table .now) (a .args .masks .now) (a .args .k) (a .pre .1) (a .pre .2) (l .all) (l .j) (l .inv .1) (omega arith)
+returns c = let a = c .before .before .before .before in let l =
+    c .before .loop in gathered-end (a .args .table .now) (a .args .masks .now) (a .args .k) (a .pre .1) (a .pre .2)
+    (l .all) (l .j) (l .inv .1) (omega arith)
 
 pub is-gathered-spec : {M : Type 1} → statement M
 is-gathered-spec =

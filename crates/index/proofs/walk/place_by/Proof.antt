@@ -1,6 +1,6 @@
 use native.Mathlib.Omega.{arith}
 use mathlib.Core.Path.{refl, sym, _∙_}
-use Rattle.index.specs.Slots.{slot-small, slot-none, slot-first, slotted-old, slotted-new}
+use Rattle.index.specs.SlotsLaws.{slot-small, slot-none, slot-first, slotted-old, slotted-new}
 use borrow.Author.Needs.{needs}
 use Rattle.index.proofs.walk.place_by.Statement.{statement}
 use Rattle.index.proofs.walk.place_by.Tie as tie
@@ -11,57 +11,81 @@ use Rattle.index.proofs.table.mark_of.Reads as mark-of-reads
 use Rattle.index.proofs.table.place.Reads as place-reads
 use Rattle.octets.proofs.wide.Reads as wide-reads
 
--- src/walk.rt:36:9
 mark-of-requires : tie.Need-mark-of-requires
 mark-of-requires c κs = search needs
 
--- src/walk.rt:37:29
 slice-read-wide : tie.Need-slice-read-wide
 slice-read-wide c = search needs
 
--- src/walk.rt:37:9
 wide-requires : tie.Need-wide-requires
 wide-requires c κs = search needs
 
--- src/walk.rt:39:21
 add-slots : tie.Need-add-slots
 add-slots c = search needs
 
--- src/walk.rt:39:20
 cast-slots : tie.Need-cast-slots
 cast-slots c = search needs
 
--- src/walk.rt:39:9
 slice-write-slots : tie.Need-slice-write-slots
 slice-write-slots c = search needs
 
--- src/walk.rt:40:9
 same-length : tie.Need-same-length
 same-length c = search needs
 
--- src/walk.rt:40:9
 returns : tie.Need-returns
-returns c = let a = c .before .before .before .before .before .before in (omega arith, slot-none (a .args .table .now) (a .args .slots .now) (a .args .k) (a .args .dev) (omega arith) (a .pre .3) _ _ (c .before .before .before .mark-of .ensures .0) (c .before .wide .ensures .0) (c .if1 .taken), λ h. absurd (omega arith), λ e f. slotted-new (a .args .table .now) (a .args .slots .now) (a .args .k) (a .args .dev) (omega arith) (a .pre .3) _ _ (c .before .before .before .mark-of .ensures .0) (c .before .wide .ensures .0) f (a .pre .1) (c .if1 .taken) refl)
+returns c = let a =
+    c .before .before .before .before .before
+    .before in (
+      omega arith,
+      slot-none (a .args .table .now) (a .args .slots .now) (a .args .k) (a .args .dev)
+          (omega arith) (a .pre .3) _ _ (c .before .before .before .mark-of .ensures .0) (c .before .wide .ensures .0)
+          (c .if1 .taken),
+      λ h. absurd (omega arith),
+      λ e f. slotted-new (a .args .table .now) (a .args .slots .now)
+          (a .args .k) (a .args .dev) (omega arith) (a .pre .3) _ _ (c .before .before .before .mark-of .ensures .0)
+          (c .before .wide .ensures .0) f (a .pre .1) (c .if1 .taken) refl,
+    )
 
--- src/walk.rt:42:13
 sub-j : tie.Need-sub-j
 sub-j c = search needs
 
--- src/walk.rt:43:8
 device-at-requires : tie.Need-device-at-requires
-device-at-requires c κs = let a = c .before .before .before .before .before .before in let s = slot-small (a .args .table .now) (a .args .slots .now) (a .args .k) (a .args .dev) (omega arith) (a .pre .3) _ _ (c .before .before .before .mark-of .ensures .0) (c .before .wide .ensures .0) in (a .pre .0, omega arith)
+device-at-requires c κs = let a = c .before .before .before .before .before .before in let s =
+    slot-small (a .args .table .now) (a .args .slots .now) (a .args .k) (a .args .dev) (omega arith) (a .pre .3) _ _
+    (c .before .before .before .mark-of .ensures .0) (c .before .wide .ensures .0) in (a .pre .0, omega arith)
 
--- src/walk.rt:44:9
 returns-2 : tie.Need-returns-2
-returns-2 c = let a = c .before .before .before .before .before .before .before .before in let s = slot-small (a .args .table .now) (a .args .slots .now) (a .args .k) (a .args .dev) (omega arith) (a .pre .3) _ _ (c .before .before .before .before .before .mark-of .ensures .0) (c .before .before .before .wide .ensures .0) in (omega arith, slot-first (a .args .table .now) (a .args .slots .now) (a .args .k) (a .args .dev) (omega arith) (a .pre .3) _ _ (c .before .before .before .before .before .mark-of .ensures .0) (c .before .before .before .wide .ensures .0) (c .before .before .if1 .left) refl (sym (c .before .device-at .ensures) ∙ c .if2 .taken), λ h. a .pre .3, λ e f. slotted-old (a .args .table .now) (a .args .slots .now) (a .args .k) (a .args .dev) (omega arith) (a .pre .3) _ _ (c .before .before .before .before .before .mark-of .ensures .0) (c .before .before .before .wide .ensures .0) f (c .before .before .if1 .left))
+returns-2 c = let a = c .before .before .before .before .before .before .before .before in let s =
+    slot-small (a .args .table .now) (a .args .slots .now) (a .args .k) (a .args .dev) (omega arith) (a .pre .3) _ _
+    (c .before .before .before .before .before .mark-of .ensures .0)
+    (c .before .before .before .wide .ensures .0) in (
+      omega arith,
+      slot-first (a .args .table .now)
+          (a .args .slots .now) (a .args .k) (a .args .dev) (omega arith) (a .pre .3) _ _
+          (c .before .before .before .before .before .mark-of .ensures .0) (c .before .before .before .wide .ensures .0)
+          (c .before .before .if1 .left) refl (sym (c .before .device-at .ensures) ∙ c .if2 .taken),
+      λ h. a .pre .3,
+      λ e f.
+          slotted-old (a .args .table .now) (a .args .slots .now) (a .args .k) (a .args .dev) (omega arith) (a .pre .3) _ _
+          (c .before .before .before .before .before .mark-of .ensures .0) (c .before .before .before .wide .ensures .0) f
+          (c .before .before .if1 .left),
+    )
 
--- src/walk.rt:46:5
 place-requires : tie.Need-place-requires
 place-requires c κs = search needs
 
--- src/walk.rt:32:1
 returns-3 : tie.Need-returns-3
-returns-3 c = let a = c .before .before .before .before .before .before .before .before .before in (c .place .ensures .0, c .place .ensures .1, λ h. a .pre .3, λ e f. slotted-old (a .args .table .now) (a .args .slots .now) (a .args .k) (a .args .dev) (omega arith) (a .pre .3) _ _ (c .before .before .before .before .before .before .mark-of .ensures .0) (c .before .before .before .before .wide .ensures .0) f (c .before .before .before .if1 .left))
+returns-3 c = let a =
+    c .before .before .before .before .before .before .before .before
+    .before in (
+      c .place .ensures .0,
+      c .place .ensures .1,
+      λ h. a .pre .3,
+      λ e f. slotted-old (a .args .table .now)
+          (a .args .slots .now) (a .args .k) (a .args .dev) (omega arith) (a .pre .3) _ _
+          (c .before .before .before .before .before .before .mark-of .ensures .0)
+          (c .before .before .before .before .wide .ensures .0) f (c .before .before .before .if1 .left),
+    )
 
 pub place-by-spec : {M : Type 1} → statement M
 place-by-spec =

@@ -12,37 +12,32 @@ use Rattle.marks.proofs.asks.ask_at.Lts as lts
 use Rattle.marks.proofs.bit.Reads as bit-reads
 use Rattle.state.proofs.level_of.Reads as level-of-reads
 
--- src/asks.rt:17:55
 mul-level-of : tie.Need-mul-level-of
 mul-level-of c = search needs
 
--- src/asks.rt:17:34
 add-level-of : tie.Need-add-level-of
 add-level-of c = search needs
 
--- src/asks.rt:17:34
 add-level-of-2 : tie.Need-add-level-of-2
 add-level-of-2 c = search needs
 
--- src/asks.rt:17:32
 shared-slice-read-level-of : tie.Need-shared-slice-read-level-of
 shared-slice-read-level-of c = search needs
 
--- src/asks.rt:17:9
 level-of-requires : tie.Need-level-of-requires
 level-of-requires c κs = search needs
 
--- src/asks.rt:18:5
 cast-bit : tie.Need-cast-bit
 cast-bit c = search needs
 
 bit-requires : tie.Need-bit-requires
 bit-requires c κs = search needs
 
--- src/asks.rt:13:1
 returns : tie.Need-returns
 unfolding askAt
-returns c = let a = c .before .before .before .before .args in c .bit .ensures .0 ∙ ap (λ (x : ℕ). flag (not (eqb (a .held) 0) || ltb x (a .reach))) (c .before .level-of .ensures)
+returns c = let a =
+    c .before .before .before .before .args in c .bit .ensures .0
+    ∙ ap (λ (x : ℕ). flag (not (eqb (a .held) 0) || ltb x (a .reach))) (c .before .level-of .ensures)
 
 pub ask-at-spec : {M : Type 1} → statement M
 ask-at-spec =

@@ -1,7 +1,7 @@
 use Prim.Native.Nat.{_≤_, _-_}
 use native.Mathlib.Omega.{arith}
 use mathlib.Core.Path.{sym, _∙_}
-use Rattle.marks.specs.Asked.{ask-said}
+use Rattle.marks.specs.AskedLaws.{ask-said}
 use borrow.Author.Needs.{needs}
 use Rattle.marks.proofs.keys.first_alike.Statement.{statement}
 use Rattle.marks.proofs.keys.first_alike.Tie as tie
@@ -16,40 +16,38 @@ Inv-loop s held reach h j₀ j = j ≤ h
 abbrev μ-loop : tie.MeasureT-loop
 μ-loop s held reach h j₀ j = h - j
 
--- src/keys.rt:59:5
 loop-holds : tie.Need-loop-holds Inv-loop μ-loop
 loop-holds c = omega arith
 
--- src/keys.rt:60:38
 shared-slice-read-ask-at : tie.Need-shared-slice-read-ask-at Inv-loop μ-loop
 shared-slice-read-ask-at c = omega arith
 
--- src/keys.rt:60:13
 ask-at-requires : tie.Need-ask-at-requires Inv-loop μ-loop
 ask-at-requires c κs = search needs
 
--- src/keys.rt:61:12
 is-alike-requires : tie.Need-is-alike-requires Inv-loop μ-loop
 is-alike-requires c κs = search needs
 
--- src/keys.rt:62:13
 returns : tie.Need-returns Inv-loop μ-loop
-returns c = let a = c .before .before .before .before .before .before .before .before .args in let l = c .before .before .before .before .before .loop in let x = c .before .is-alike .ensures (c .if1 .taken) in
-    (omega arith, λ z. (λ e. x .0 (ask-said (a .held .now) (a .s .now) (a .reach) (l .j) (omega arith) (c .before .before .ask-at .ensures) ∙ e), x .1))
+returns c = let a = c .before .before .before .before .before .before .before .before .args in let l =
+    c .before .before .before .before .before .loop in let x = c .before .is-alike .ensures (c .if1 .taken) in (
+      omega arith,
+      λ z. (
+        λ e. x .0 (ask-said (a .held .now) (a .s .now) (a .reach) (l .j) (omega arith)
+            (c .before .before .ask-at .ensures) ∙ e),
+        x .1,
+      ),
+    )
 
--- src/keys.rt:64:9
 add-j : tie.Need-add-j Inv-loop μ-loop
 add-j c = omega arith
 
--- src/keys.rt:59:5
 loop-less : tie.Need-loop-less Inv-loop μ-loop
 loop-less c = omega arith
 
--- src/keys.rt:59:5
 loop-again : tie.Need-loop-again Inv-loop μ-loop
 loop-again c = omega arith
 
--- src/keys.rt:54:1
 returns-2 : tie.Need-returns-2 Inv-loop μ-loop
 returns-2 c = (omega arith, λ z. absurd (omega arith))
 

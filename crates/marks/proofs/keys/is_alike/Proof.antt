@@ -6,15 +6,12 @@ use Rattle.marks.proofs.keys.is_alike.Reads as reads
 use Rattle.marks.proofs.keys.is_alike.Lts as lts
 use Rattle.marks.proofs.keys.same_condition.Reads as same-condition-reads
 
--- src/keys.rt:46:9
 returns : tie.Need-returns
 returns c = λ e. absurd (false≢true e)
 
--- src/keys.rt:48:5
 same-condition-requires : tie.Need-same-condition-requires
 same-condition-requires c κs = search needs
 
--- src/keys.rt:41:1
 returns-2 : tie.Need-returns-2
 returns-2 c = λ e. (c .before .if1 .left, c .same-condition .ensures e)
 

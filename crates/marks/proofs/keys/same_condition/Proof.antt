@@ -4,8 +4,8 @@ use mathlib.Core.Path.{_≡_, sym, ap, _∙_}
 use native.Mathlib.Omega.{arith}
 use lib.ListN.{take, drop}
 use Rattle.model.specs.Layout.{monitorSize, monitorsAt}
-use Rattle.marks.specs.Fields.{clamped}
-use Rattle.marks.specs.Monitors.{alike}
+use Rattle.marks.specs.FieldsLaws.{clamped}
+use Rattle.marks.specs.MonitorsLaws.{alike}
 use mathlib.Core.Bool.{false≢true}
 use borrow.Author.Needs.{needs}
 use Rattle.marks.proofs.keys.same_condition.Statement.{statement}
@@ -114,13 +114,19 @@ same-requires : tie.Need-same-requires
 same-requires c κs = search needs
 
 returns-4 : tie.Need-returns-4
-returns-4 c = λ e. let a = c .before .before .before .before .before .before .before .before .before .before .before .before .before .before .before .before .args in
+returns-4 c = λ e. let a =
+    c .before .before .before .before .before .before .before .before .before .before .before .before .before .before
+    .before .before .args in
     let s : List ℕ = a .s .now in
     let n : ℕ = c .before .before .before .before .before .at-most .result in
     let m : ℕ = c .before .before .before .at-most2 .result in
     let x : monitorsAt + monitorSize * a .j + 7 + n - (monitorsAt + monitorSize * a .j + 7) ≡ n = omega arith in
     let y : monitorsAt + monitorSize * a .h + 7 + m - (monitorsAt + monitorSize * a .h + 7) ≡ m = omega arith in
-    alike s (a .j) (a .h) n m (c .before .before .before .before .before .before .before .before .before .before .before .before .before .if1 .left) (c .before .before .before .before .before .before .before .before .before .before .if2 .left) (clamped (c .before .before .before .before .before .at-most .ensures)) (clamped (c .before .before .before .at-most2 .ensures))
+    alike s (a .j) (a .h) n m
+    (c .before .before .before .before .before .before .before .before .before .before .before .before .before
+    .if1 .left) (c .before .before .before .before .before .before .before .before .before .before .if2 .left)
+    (clamped (c .before .before .before .before .before .at-most .ensures))
+    (clamped (c .before .before .before .at-most2 .ensures))
     (ap (λ (i : ℕ). take i (drop (monitorsAt + monitorSize * a .j + 7) s)) x)
     (ap (λ (i : ℕ). take i (drop (monitorsAt + monitorSize * a .h + 7) s)) y) (sym (c .same .ensures) ∙ e)
 

@@ -1,6 +1,6 @@
 use mathlib.Core.Path.{sym, _∙_}
-use Rattle.laws.specs.Tests.{pick-true, pick-false}
-use Rattle.marks.specs.Admitted.{admit-none}
+use Rattle.laws.specs.TestsLaws.{pick-true, pick-false}
+use Rattle.marks.specs.AdmittedLaws.{admit-none}
 use borrow.Author.Needs.{needs}
 use Rattle.marks.proofs.options.admit_at.Statement.{statement}
 use Rattle.marks.proofs.options.admit_at.Tie as tie
@@ -8,19 +8,15 @@ use Rattle.marks.proofs.options.admit_at.Reads as reads
 use Rattle.marks.proofs.options.admit_at.Lts as lts
 use Rattle.marks.proofs.options.admits_at.Reads as admits-at-reads
 
--- src/options.rt:76:9
 returns : tie.Need-returns
 returns c = admit-none _ _ (c .if1 .taken)
 
--- src/options.rt:78:8
 admits-at-requires : tie.Need-admits-at-requires
 admits-at-requires c κs = search needs
 
--- src/options.rt:79:9
 returns-2 : tie.Need-returns-2
 returns-2 c = sym (pick-true _ 0 (sym (c .before .admits-at .ensures) ∙ c .if2 .taken))
 
--- src/options.rt:71:1
 returns-3 : tie.Need-returns-3
 returns-3 c = sym (pick-false _ 0 (sym (c .before .admits-at .ensures) ∙ c .if2 .left))
 

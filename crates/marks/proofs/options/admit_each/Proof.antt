@@ -5,11 +5,13 @@ use native.Mathlib.Omega.{arith}
 use lib.ListN.{length, getD, length-set}
 use Rattle.laws.specs.Tests.{pick}
 use Rattle.laws.specs.Loops.{upTo}
-use Rattle.laws.specs.Put.{put, put-nil}
+use Rattle.laws.specs.Put.{put}
+use Rattle.laws.specs.PutLaws.{put-nil}
 use Rattle.model.specs.Frames.{packetOf}
 use Rattle.model.specs.Layout.{mostMonitors}
-use Rattle.marks.specs.Marks.{marks-turn}
-use Rattle.marks.specs.Admitted.{admitsAt, admitted, admitted-end, not-yet}
+use Rattle.marks.specs.MarksLaws.{marks-turn}
+use Rattle.marks.specs.Admitted.{admitsAt, admitted}
+use Rattle.marks.specs.AdmittedLaws.{admitted-end, not-yet}
 use borrow.Author.Needs.{needs}
 use Rattle.marks.proofs.options.admit_each.Statement.{statement}
 use Rattle.marks.proofs.options.admit_each.Tie as tie
@@ -18,54 +20,56 @@ use Rattle.marks.proofs.options.admit_each.Lts as lts
 use Rattle.marks.proofs.options.admit_at.Reads as admit-at-reads
 
 abbrev Inv-loop : tie.InvT-loop
-Inv-loop acts₀ s payload h₀ acts h = (h ≤ mostMonitors) × (length acts ≡ length acts₀) × (acts ≡ put acts₀ 0 (upTo (λ g. pick (admitsAt s (packetOf payload) g) (getD acts₀ g 0) 0 ∷ []) h))
+Inv-loop acts₀ s payload h₀ acts h =
+    (h ≤ mostMonitors) × (length acts ≡ length acts₀)
+    × (acts ≡ put acts₀ 0 (upTo (λ g. pick (admitsAt s (packetOf payload) g) (getD acts₀ g 0) 0 ∷ []) h))
 
 abbrev μ-loop : tie.MeasureT-loop
 μ-loop acts₀ s payload h₀ acts h = mostMonitors - h
 
--- src/options.rt:90:5
 loop-holds : tie.Need-loop-holds Inv-loop μ-loop
 unfolding upTo
 loop-holds c = (omega arith, refl, sym (put-nil _ _))
 
--- src/options.rt:91:17
 slice-read-a : tie.Need-slice-read-a Inv-loop μ-loop
 slice-read-a c = omega arith
 
--- src/options.rt:92:19
 admit-at-requires : tie.Need-admit-at-requires Inv-loop μ-loop
 admit-at-requires c κs = search needs
 
--- src/options.rt:92:9
 slice-write-acts : tie.Need-slice-write-acts Inv-loop μ-loop
 slice-write-acts c = omega arith
 
--- src/options.rt:93:9
 add-h : tie.Need-add-h Inv-loop μ-loop
 add-h c = omega arith
 
--- src/options.rt:90:5
 loop-less : tie.Need-loop-less Inv-loop μ-loop
 loop-less c = omega arith
 
--- src/options.rt:90:5
 loop-again : tie.Need-loop-again Inv-loop μ-loop
-loop-again c = let a = c .before .before .before .before .before .before .before .args in let l = c .before .before .before .loop in (
-  omega arith,
-  simp length-set (l .inv .1),
-  rw (c .admit-at .ensures, not-yet (λ g. pick (admitsAt (a .s .now) (packetOf (a .payload .now)) g) (getD (a .acts .now) g 0) 0) (a .acts .now) (l .acts) (l .h) (l .inv .2)) (marks-turn (λ g. pick (admitsAt (a .s .now) (packetOf (a .payload .now)) g) (getD (a .acts .now) g 0) 0) (a .acts .now) (l .h) (omega arith) (omega arith) (l .inv .2)),
-)
+loop-again c = let a = c .before .before .before .before .before .before .before .args in let l =
+    c .before .before .before .loop in (
+      omega arith,
+      simp length-set (l .inv .1),
+      rw (
+        c .admit-at .ensures,
+        not-yet
+            (λ g. pick (admitsAt (a .s .now) (packetOf (a .payload .now)) g) (getD (a .acts .now) g 0) 0) (a .acts .now)
+            (l .acts) (l .h) (l .inv .2),
+      )
+          (marks-turn (λ g. pick (admitsAt (a .s .now) (packetOf (a .payload .now)) g) (getD (a .acts .now) g 0) 0)
+          (a .acts .now) (l .h) (omega arith) (omega arith) (l .inv .2)),
+    )
 
--- src/options.rt:85:1
 same-length : tie.Need-same-length Inv-loop μ-loop
 same-length c = c .before .loop .inv .1
 
--- src/options.rt:85:1
 returns : tie.Need-returns Inv-loop μ-loop
 unfolding admitted
 returns c = let a = c .before .before .before .before .before .args in let l = c .before .loop in
     let e : l .h ≡ mostMonitors = omega arith in
-    rw e at (l .inv .2) ∙ admitted-end (a .acts .now) (a .s .now) (packetOf (a .payload .now)) (a .acts .now) (omega arith)
+    rw e at (l .inv .2)
+    ∙ admitted-end (a .acts .now) (a .s .now) (packetOf (a .payload .now)) (a .acts .now) (omega arith)
 
 pub admit-each-spec : {M : Type 1} → statement M
 admit-each-spec =

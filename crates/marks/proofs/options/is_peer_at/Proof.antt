@@ -2,7 +2,7 @@ use Prim.Native.Nat.{ℕ, _+_, _-_, _*_}
 use mathlib.Core.Path.{_≡_, refl, ap}
 use native.Mathlib.Omega.{arith}
 use lib.ListN.{take, drop}
-use Rattle.marks.specs.Options.{peer-off, peer-other, peer-asked}
+use Rattle.marks.specs.OptionsLaws.{peer-off, peer-other, peer-asked}
 use Rattle.model.specs.Layout.{addressSize, extraAt, monitorSize, monitorsAt, peerIn, peerTypeIn}
 use borrow.Author.Needs.{needs}
 use Rattle.marks.proofs.options.is_peer_at.Statement.{statement}
@@ -11,83 +11,71 @@ use Rattle.marks.proofs.options.is_peer_at.Reads as reads
 use Rattle.marks.proofs.options.is_peer_at.Lts as lts
 use Rattle.parts.proofs.same.Reads as same-reads
 
--- src/lib.rt:175:35
 mul-at : tie.Need-mul-at
 mul-at c = search needs
 
--- src/lib.rt:175:14
 add-at : tie.Need-add-at
 add-at c = search needs
 
--- src/lib.rt:176:10
 add-if1 : tie.Need-add-if1
 add-if1 c = search needs
 
--- src/lib.rt:176:8
 shared-slice-read-if1 : tie.Need-shared-slice-read-if1
 shared-slice-read-if1 c = search needs
 
--- src/lib.rt:177:9
 returns : tie.Need-returns
-returns c = let a = c .before .before .before .before .args in peer-off (a .s .now) (a .h) (a .payload .now) (c .if1 .taken)
+returns c = let a =
+    c .before .before .before .before .args in peer-off (a .s .now) (a .h) (a .payload .now) (c .if1 .taken)
 
--- src/lib.rt:179:10
 add-if2 : tie.Need-add-if2
 add-if2 c = search needs
 
--- src/lib.rt:179:8
 shared-slice-read-if2 : tie.Need-shared-slice-read-if2
 shared-slice-read-if2 c = search needs
 
--- src/lib.rt:179:39
 shared-slice-read-if2-2 : tie.Need-shared-slice-read-if2-2
 shared-slice-read-if2-2 c = search needs
 
--- src/lib.rt:180:9
 returns-2 : tie.Need-returns-2
-returns-2 c = let a = c .before .before .before .before .before .before .before .args in peer-other (a .s .now) (a .h) (a .payload .now) (c .if2 .taken)
+returns-2 c = let a =
+    c .before .before .before .before .before .before .before .args in peer-other (a .s .now) (a .h) (a .payload .now)
+    (c .if2 .taken)
 
--- src/lib.rt:182:16
 add-from : tie.Need-add-from
 add-from c = search needs
 
--- src/lib.rt:183:14
 add-to : tie.Need-add-to
 add-to c = search needs
 
--- src/lib.rt:184:17
 sub-same : tie.Need-sub-same
 sub-same c = search needs
 
--- src/lib.rt:184:17
 part-same-start : tie.Need-part-same-start
 part-same-start c = search needs
 
--- src/lib.rt:184:17
 part-same-end : tie.Need-part-same-end
 part-same-end c = search needs
 
--- src/lib.rt:184:31
 sub-same-2 : tie.Need-sub-same-2
 sub-same-2 c = search needs
 
--- src/lib.rt:184:31
 part-same-start-2 : tie.Need-part-same-start-2
 part-same-start-2 c = search needs
 
--- src/lib.rt:184:31
 part-same-end-2 : tie.Need-part-same-end-2
 part-same-end-2 c = search needs
 
--- src/lib.rt:184:5
 same-requires : tie.Need-same-requires
 same-requires c κs = search needs
 
--- src/lib.rt:171:1
 returns-3 : tie.Need-returns-3
 returns-3 c = let a = c .before .before .before .before .before .before .before .before .before .before .args in
-    let k : monitorsAt + monitorSize * a .h + (extraAt + peerTypeIn) - (monitorsAt + monitorSize * a .h + (extraAt + peerIn)) ≡ addressSize = omega arith in
-    peer-asked (a .s .now) (a .h) (a .payload .now) (c .before .before .before .before .before .before .if1 .left) (c .before .before .before .if2 .left) (ap (λ (i : ℕ). take i (drop (monitorsAt + monitorSize * a .h + (extraAt + peerIn)) (a .s .now))) k) refl (c .same .ensures)
+    let k : monitorsAt + monitorSize * a .h + (extraAt + peerTypeIn) -
+    (monitorsAt + monitorSize * a .h + (extraAt + peerIn)) ≡ addressSize = omega arith in
+    peer-asked (a .s .now) (a .h) (a .payload .now) (c .before .before .before .before .before .before .if1 .left)
+    (c .before .before .before .if2 .left)
+    (ap (λ (i : ℕ). take i (drop (monitorsAt + monitorSize * a .h + (extraAt + peerIn)) (a .s .now))) k) refl
+    (c .same .ensures)
 
 pub is-peer-at-spec : {M : Type 1} → statement M
 is-peer-at-spec =

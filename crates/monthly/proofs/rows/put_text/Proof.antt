@@ -1,4 +1,4 @@
-use Rattle.sheets.specs.Writing.{again-low}
+use Rattle.sheets.specs.WritingLaws.{again-low}
 use Prim.Native.Nat.{ℕ, _+_, _-_, _≤_}
 use mathlib.Core.Path.{_≡_, refl, sym}
 use native.Mathlib.Omega.{arith}
@@ -12,27 +12,21 @@ use Rattle.monthly.proofs.rows.put_text.Lts as lts
 use Rattle.io.proofs.write_all.Reads as write-all-reads
 use Rattle.sheets.proofs.write.Reads as write-reads
 
--- src/rows.rt:22:27
 slice-aggregate-write : tie.Need-slice-aggregate-write
 slice-aggregate-write c = search needs
 
--- src/rows.rt:22:9
 write-requires : tie.Need-write-requires
 write-requires c κs = search needs
 
--- src/rows.rt:23:34
 array-share-prefix-text : tie.Need-array-share-prefix-text
 array-share-prefix-text c = again-low _ _ (c .before .write .ensures)
 
--- src/rows.rt:23:34
 slice-aggregate-write-all : tie.Need-slice-aggregate-write-all
 slice-aggregate-write-all c = sym (length-take-le _ _ (again-low _ _ (c .before .before .write .ensures)))
 
--- src/rows.rt:23:5
 write-all-requires : tie.Need-write-all-requires
 write-all-requires c κs = search needs
 
--- src/rows.rt:20:1
 returns : tie.Need-returns
 returns c = search needs
 

@@ -4,13 +4,14 @@ use mathlib.Core.List.{List}
 use native.Mathlib.Omega.{arith}
 use lib.ListN.{length, take, getD, length-set}
 use borrow.Author.Needs.{needs}
-use Rattle.octets.specs.Numbers.{number-of}
+use Rattle.octets.specs.NumbersLaws.{number-of}
 use Rattle.model.specs.Types.{Model, Packet, Pair, deviceOf}
 use Rattle.model.specs.Watch.{holds}
 use Rattle.model.specs.Layout.{mostMonitors, pairSize, pairsAt}
 use Rattle.marks.specs.Marks.{flag}
 use Rattle.packets.specs.Starts.{Holding}
-use Rattle.packets.specs.Device.{Sender, NoneBelow, none-more}
+use Rattle.packets.specs.Device.{Sender, NoneBelow}
+use Rattle.packets.specs.DeviceLaws.{none-more}
 use Rattle.packets.proofs.device.first_of.Statement.{statement}
 use Rattle.packets.proofs.device.first_of.Tie as tie
 use Rattle.packets.proofs.device.first_of.Reads as reads
@@ -23,34 +24,29 @@ Inv-loop s n dev i₀ i = (i ≤ n) × ((m : Model) (p : Packet) → Holding m s
 abbrev μ-loop : tie.MeasureT-loop
 μ-loop s n dev i₀ i = n - i
 
--- src/device.rt:19:5
 loop-holds : tie.Need-loop-holds Inv-loop μ-loop
 loop-holds c = (omega arith, λ m p w t j b. absurd (omega arith))
 
--- src/device.rt:20:12
 key-at-requires : tie.Need-key-at-requires Inv-loop μ-loop
 key-at-requires c κs = search needs
 
--- src/device.rt:21:13
 returns : tie.Need-returns Inv-loop μ-loop
 returns c = let l = c .before .before .before .loop in (l .inv .0, l .inv .1)
 
--- src/device.rt:23:9
 add-i : tie.Need-add-i Inv-loop μ-loop
 add-i c = omega arith
 
--- src/device.rt:19:5
 loop-less : tie.Need-loop-less Inv-loop μ-loop
 loop-less c = omega arith
 
--- src/device.rt:19:5
 loop-again : tie.Need-loop-again Inv-loop μ-loop
 loop-again c = let a = c .before .before .before .before .before .args in let l = c .before .before .before .loop in (
   omega arith,
-  λ m p w t. none-more m (a .s .now) (a .n) p (a .dev) w t (l .i) (omega arith) (number-of 8 (a .s .now) (pairsAt + pairSize * l .i) (c .before .key-at .ensures) (omega arith)) (l .inv .1 m p w t) (c .if1 .left),
+  λ m p w t. none-more m (a .s .now) (a .n) p (a .dev) w t (l .i) (omega arith)
+      (number-of 8 (a .s .now) (pairsAt + pairSize * l .i) (c .before .key-at .ensures) (omega arith))
+      (l .inv .1 m p w t) (c .if1 .left),
 )
 
--- src/device.rt:14:1
 returns-2 : tie.Need-returns-2 Inv-loop μ-loop
 returns-2 c = let a = c .before .before .before .args in let l = c .before .loop in
     let e : l .i ≡ a .n = omega arith in

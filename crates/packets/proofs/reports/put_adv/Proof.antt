@@ -1,4 +1,4 @@
-use Rattle.packets.specs.Answers.{adv-wrote}
+use Rattle.packets.specs.AnswersTurns.{adv-wrote}
 use borrow.Author.Needs.{needs}
 use Rattle.packets.proofs.reports.put_adv.Statement.{statement}
 use Rattle.packets.proofs.reports.put_adv.Tie as tie
@@ -50,7 +50,13 @@ same-length : tie.Need-same-length
 same-length c = search needs
 
 returns : tie.Need-returns
-returns c = let a = c .before .before .before .before .before .before .before .before .before .before .before .before .args in adv-wrote (a .out .now) (a .at) (a .payload .now) (c .before .before .before .before .before .before .before .before .before .before .before .before .pre .1) (c .before .before .before .before .before .before .before .before .before .before .before .before .pre .0) (c .before .before .before .before .before .before .before .before .wide .ensures .0) (c .before .before .put-report .ensures)
+returns c = let a =
+    c .before .before .before .before .before .before .before .before .before .before .before .before
+    .args in adv-wrote (a .out .now) (a .at) (a .payload .now)
+    (c .before .before .before .before .before .before .before .before .before .before .before .before .pre .1)
+    (c .before .before .before .before .before .before .before .before .before .before .before .before .pre .0)
+    (c .before .before .before .before .before .before .before .before .wide .ensures .0)
+    (c .before .before .put-report .ensures)
 
 pub put-adv-spec : {M : Type 1} → statement M
 put-adv-spec =

@@ -1,4 +1,4 @@
-use Rattle.packets.specs.Answers.{reports-wrote}
+use Rattle.packets.specs.AnswersTurns.{reports-wrote}
 use borrow.Author.Needs.{needs}
 use Rattle.packets.proofs.reports.put_reports.Statement.{statement}
 use Rattle.packets.proofs.reports.put_reports.Tie as tie
@@ -23,7 +23,11 @@ same-length : tie.Need-same-length
 same-length c = search needs
 
 returns : tie.Need-returns
-returns c = let a = c .before .before .before .before .before .before .before .before .before .before .args in reports-wrote (a .out .now) (a .at) (a .payload .now) (c .before .before .before .before .before .before .before .before .before .before .pre .0) (c .before .before .before .before .before .before .put-adv .ensures) (c .before .before .put-scan .ensures)
+returns c = let a =
+    c .before .before .before .before .before .before .before .before .before .before .args in reports-wrote
+    (a .out .now) (a .at) (a .payload .now)
+    (c .before .before .before .before .before .before .before .before .before .before .pre .0)
+    (c .before .before .before .before .before .before .put-adv .ensures) (c .before .before .put-scan .ensures)
 
 pub put-reports-spec : {M : Type 1} → statement M
 put-reports-spec =

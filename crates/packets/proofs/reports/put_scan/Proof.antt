@@ -1,4 +1,4 @@
-use Rattle.packets.specs.Answers.{scan-unwritten, scan-wrote}
+use Rattle.packets.specs.AnswersTurns.{scan-unwritten, scan-wrote}
 use native.Mathlib.Omega.{arith}
 use borrow.Author.Needs.{needs}
 use Rattle.packets.proofs.reports.put_scan.Statement.{statement}
@@ -18,7 +18,9 @@ add-from : tie.Need-add-from
 add-from c = search needs
 
 returns : tie.Need-returns
-returns c = let a = c .before .before .before .before .before .args in scan-unwritten (a .out .now) (a .at) (a .payload .now) (c .before .before .before .before .before .pre .1) (c .before .wide .ensures .0) (c .if1 .taken)
+returns c = let a =
+    c .before .before .before .before .before .args in scan-unwritten (a .out .now) (a .at) (a .payload .now)
+    (c .before .before .before .before .before .pre .1) (c .before .wide .ensures .0) (c .if1 .taken)
 
 sub-last : tie.Need-sub-last
 sub-last c = search needs
@@ -51,7 +53,13 @@ same-length : tie.Need-same-length
 same-length c = search needs
 
 returns-2 : tie.Need-returns-2
-returns-2 c = let a = c .before .before .before .before .before .before .before .before .before .before .before .before .args in scan-wrote (a .out .now) (a .at) (a .payload .now) (c .before .before .before .before .before .before .before .before .before .before .before .before .pre .1) (c .before .before .before .before .before .before .before .before .wide .ensures .0) (omega arith) (c .before .before .before .before .before .before .before .before .before .before .before .before .pre .0) (c .before .before .put-report .ensures)
+returns-2 c = let a =
+    c .before .before .before .before .before .before .before .before .before .before .before .before
+    .args in scan-wrote (a .out .now) (a .at) (a .payload .now)
+    (c .before .before .before .before .before .before .before .before .before .before .before .before .pre .1)
+    (c .before .before .before .before .before .before .before .before .wide .ensures .0) (omega arith)
+    (c .before .before .before .before .before .before .before .before .before .before .before .before .pre .0)
+    (c .before .before .put-report .ensures)
 
 pub put-scan-spec : {M : Type 1} → statement M
 put-scan-spec =

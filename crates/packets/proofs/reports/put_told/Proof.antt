@@ -1,4 +1,4 @@
-use Rattle.packets.specs.Answers.{told-wrote, untold-wrote}
+use Rattle.packets.specs.AnswersTurns.{told-wrote, untold-wrote}
 use native.Mathlib.Omega.{arith}
 use borrow.Author.Needs.{needs}
 use Rattle.packets.proofs.reports.put_told.Statement.{statement}
@@ -14,10 +14,17 @@ same-length : tie.Need-same-length
 same-length c = search needs
 
 returns : tie.Need-returns
-returns c = let a = c .before .before .before .before .before .before .before .args in (c .before .before .put-reports .ensures .0, told-wrote (a .out .now) (a .at) _ (c .before .before .before .before .if1 .taken) (c .before .before .put-reports .ensures .1))
+returns c = let a =
+    c .before .before .before .before .before .before .before
+    .args in (
+      c .before .before .put-reports .ensures .0,
+      told-wrote (a .out .now) (a .at) _
+          (c .before .before .before .before .if1 .taken) (c .before .before .put-reports .ensures .1),
+    )
 
 returns-2 : tie.Need-returns-2
-returns-2 c = let a = c .before .before .before .args in (omega arith, untold-wrote (a .out .now) (a .at) _ (c .if1 .left))
+returns-2 c = let a =
+    c .before .before .before .args in (omega arith, untold-wrote (a .out .now) (a .at) _ (c .if1 .left))
 
 pub put-told-spec : {M : Type 1} → statement M
 put-told-spec = tie.close (tie.spec put-reports-requires same-length returns returns-2)

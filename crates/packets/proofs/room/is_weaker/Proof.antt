@@ -4,12 +4,13 @@ use mathlib.Core.Path.{_≡_}
 use native.Mathlib.Omega.{arith}
 use borrow.Author.Needs.{needs}
 use Rattle.model.specs.Layout.{mostPairs}
-use Rattle.packets.specs.Shut.{NoneLess, none-less-more}
+use Rattle.packets.specs.Shut.{NoneLess}
+use Rattle.packets.specs.ShutLaws.{none-less-more}
 use Rattle.packets.proofs.room.is_weaker.Statement.{statement}
 use Rattle.packets.proofs.room.is_weaker.Tie as tie
 use Rattle.packets.proofs.room.is_weaker.Reads as reads
 use Rattle.packets.proofs.room.is_weaker.Lts as lts
-use Rattle.packets.proofs.starts.kept_at.Reads as kept-at-reads
+use Rattle.packets.proofs.weakest.kept_at.Reads as kept-at-reads
 
 abbrev Inv-loop : tie.InvT-loop
 Inv-loop s level some₀ j₀ some j = (j ≤ mostPairs) × (some ≡ false → NoneLess s level j)
@@ -17,30 +18,25 @@ Inv-loop s level some₀ j₀ some j = (j ≤ mostPairs) × (some ≡ false → 
 abbrev μ-loop : tie.MeasureT-loop
 μ-loop s level some₀ j₀ some j = mostPairs - j
 
--- src/starts.rt:134:5
 loop-holds : tie.Need-loop-holds Inv-loop μ-loop
 loop-holds c = (omega arith, λ e j b. absurd (omega arith))
 
--- src/starts.rt:135:24
 kept-at-requires : tie.Need-kept-at-requires Inv-loop μ-loop
 kept-at-requires c κs = search needs
 
--- src/starts.rt:136:9
 add-j : tie.Need-add-j Inv-loop μ-loop
 add-j c = omega arith
 
--- src/starts.rt:134:5
 loop-less : tie.Need-loop-less Inv-loop μ-loop
 loop-less c = omega arith
 
--- src/starts.rt:134:5
 loop-again : tie.Need-loop-again Inv-loop μ-loop
 loop-again c = let l = c .before .before .loop in (
   omega arith,
-  λ e. none-less-more (c .before .before .before .before .args .s .now) (c .before .before .before .before .args .level) (l .j) (l .inv .1) (c .kept-at .ensures) e,
+  λ e. none-less-more (c .before .before .before .before .args .s .now)
+      (c .before .before .before .before .args .level) (l .j) (l .inv .1) (c .kept-at .ensures) e,
 )
 
--- src/starts.rt:128:1
 returns : tie.Need-returns Inv-loop μ-loop
 returns c = let l = c .before .loop in let e : l .j ≡ mostPairs = omega arith in rw e at (l .inv .1)
 

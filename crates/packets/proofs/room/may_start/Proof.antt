@@ -20,7 +20,8 @@ is-weaker-requires c κs = search needs
 returns : tie.Need-returns
 returns c = λ e. (
   omega arith,
-  λ j b. subst (λ (k : ℕ). k ≤ levelAt (c .before .before .before .before .args .s .now) j) (c .before .level-of .ensures) (c .is-weaker .ensures e j b),
+  λ j b. subst (λ (k : ℕ). k ≤ levelAt (c .before .before .before .before .args .s .now) j)
+      (c .before .level-of .ensures) (c .is-weaker .ensures e j b),
 )
 
 returns-2 : tie.Need-returns-2

@@ -1,5 +1,5 @@
 use Rattle.model.specs.Frames.{packetOf}
-use Rattle.packets.specs.Begins.{begun-left, begun-kept, begun-none}
+use Rattle.packets.specs.BeginsLaws.{begun-left, begun-kept, begun-none}
 use borrow.Author.Needs.{needs}
 use Rattle.packets.proofs.starts.keep_start.Statement.{statement}
 use Rattle.packets.proofs.starts.keep_start.Tie as tie
@@ -8,45 +8,43 @@ use Rattle.packets.proofs.starts.keep_start.Lts as lts
 use Rattle.packets.proofs.windows.put_latest.Reads as put-latest-reads
 use Rattle.packets.proofs.windows.put_none.Reads as put-none-reads
 
--- src/starts.rt:165:9
 returns : tie.Need-returns
-returns c = let a = c .before .before .before .args in λ m w x. begun-left m (a .s .now) (a .i) (a .a) (packetOf (a .payload .now)) w (c .if1 .taken)
+returns c = let a =
+    c .before .before .before .args in λ m w x. begun-left m (a .s .now) (a .i) (a .a) (packetOf (a .payload .now)) w
+    (c .if1 .taken)
 
--- src/starts.rt:167:32
 mul-at : tie.Need-mul-at
 mul-at c = search needs
 
--- src/starts.rt:167:14
 add-at : tie.Need-add-at
 add-at c = search needs
 
--- src/starts.rt:167:14
 add-at-2 : tie.Need-add-at-2
 add-at-2 c = search needs
 
--- src/starts.rt:169:9
 put-latest-requires : tie.Need-put-latest-requires
 put-latest-requires c κs = search needs
 
--- src/starts.rt:170:9
 same-length : tie.Need-same-length
 same-length c = search needs
 
--- src/starts.rt:170:9
 returns-2 : tie.Need-returns-2
-returns-2 c = let a = c .before .before .before .before .before .before .before .before .args in λ m w x. begun-kept m (a .s .now) (a .i) (a .a) (packetOf (a .payload .now)) w x (c .before .before .before .before .before .if1 .left) (c .before .before .before .before .if2 .taken) (c .before .before .put-latest .ensures)
+returns-2 c = let a =
+    c .before .before .before .before .before .before .before .before .args in λ m w x. begun-kept m (a .s .now)
+    (a .i) (a .a) (packetOf (a .payload .now)) w x (c .before .before .before .before .before .if1 .left)
+    (c .before .before .before .before .if2 .taken) (c .before .before .put-latest .ensures)
 
--- src/starts.rt:172:5
 put-none-requires : tie.Need-put-none-requires
 put-none-requires c κs = search needs
 
--- src/starts.rt:160:1
 same-length-2 : tie.Need-same-length-2
 same-length-2 c = search needs
 
--- src/starts.rt:160:1
 returns-3 : tie.Need-returns-3
-returns-3 c = let a = c .before .before .before .before .before .before .before .before .args in λ m w x. begun-none m (a .s .now) (a .i) (a .a) (packetOf (a .payload .now)) w (c .before .before .before .before .before .if1 .left) (c .before .before .before .before .if2 .left) (c .before .before .put-none .ensures)
+returns-3 c = let a =
+    c .before .before .before .before .before .before .before .before .args in λ m w x. begun-none m (a .s .now)
+    (a .i) (a .a) (packetOf (a .payload .now)) w (c .before .before .before .before .before .if1 .left)
+    (c .before .before .before .before .if2 .left) (c .before .before .put-none .ensures)
 
 pub keep-start-spec : {M : Type 1} → statement M
 keep-start-spec =

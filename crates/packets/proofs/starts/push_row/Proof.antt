@@ -4,7 +4,8 @@ use Prim.Native.Nat.{ℕ, _+_}
 use mathlib.Core.List.{List, [], _∷_}
 use mathlib.Core.Path.{_≡_, ap, _∙_}
 use Rattle.model.specs.Layout.{countAt}
-use Rattle.laws.specs.Put.{put, set-put}
+use Rattle.laws.specs.Put.{put}
+use Rattle.laws.specs.PutLaws.{set-put}
 use borrow.Author.Needs.{needs}
 use Rattle.packets.proofs.starts.push_row.Statement.{statement}
 use Rattle.packets.proofs.starts.push_row.Tie as tie
@@ -12,30 +13,25 @@ use Rattle.packets.proofs.starts.push_row.Reads as reads
 use Rattle.packets.proofs.starts.push_row.Lts as lts
 use Rattle.packets.proofs.starts.start_row.Reads as start-row-reads
 
--- src/starts.rt:59:5
 start-row-requires : tie.Need-start-row-requires
 start-row-requires c κs = search needs
 
--- src/starts.rt:60:27
 add-s : tie.Need-add-s
 add-s c = search needs
 
--- src/starts.rt:60:26
 cast-s : tie.Need-cast-s
 cast-s c = search needs
 
--- src/starts.rt:60:5
 slice-write-s : tie.Need-slice-write-s
 slice-write-s c = search needs
 
--- src/starts.rt:55:1
 same-length : tie.Need-same-length
 same-length c = search needs
 
--- src/starts.rt:55:1
 returns : tie.Need-returns
 returns c = let a = c .before .before .before .before .before .args in
-    let k : length (c .before .before .start-row .last .0) ≡ length (a .s .now) = c .before .before .start-row .kept .0 in
+    let k : length (c .before .before .start-row .last .0) ≡ length (a .s .now) =
+    c .before .before .start-row .kept .0 in
     set-put (c .before .before .start-row .last .0) countAt (a .n + 1) (omega arith)
     ∙ ap (λ (l : List ℕ). put l countAt ((a .n + 1) ∷ [])) (c .before .before .start-row .ensures)
 

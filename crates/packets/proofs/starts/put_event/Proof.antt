@@ -1,11 +1,11 @@
-use Rattle.marks.specs.Fields.{clamped}
+use Rattle.marks.specs.FieldsLaws.{clamped}
 use Prim.Native.Nat.{ℕ, _+_, _-_, _*_, _≤_}
 use mathlib.Core.List.{List}
 use mathlib.Core.Path.{_≡_, ap}
 use native.Mathlib.Omega.{arith}
 use lib.ListN.{length, take, drop, length-take, length-drop}
 use borrow.Author.Needs.{needs}
-use Rattle.packets.specs.Answers.{event-most, event-rest, event-wrote}
+use Rattle.packets.specs.AnswersTurns.{event-most, event-rest, event-wrote}
 use Rattle.packets.proofs.starts.put_event.Statement.{statement}
 use Rattle.packets.proofs.starts.put_event.Tie as tie
 use Rattle.model.specs.Layout.{mostPrefix, pairSize, pairsAt, prefixAt}
@@ -60,14 +60,18 @@ returns c = let a = c .before .before .before .before .before .before .before .b
     let f : pairsAt + pairSize * a .i + 8 - (pairsAt + pairSize * a .i) ≡ 8 = omega arith in
     let b : n ≤ mostPrefix = c .before .before .before .before .before .before .at-most .ensures .1 in
     let pre : List ℕ = take (8 + n - 8) (drop prefixAt s) in
-    let r8 : List ℕ = take (pairsAt + pairSize * a .i + 8 - (pairsAt + pairSize * a .i)) (drop (pairsAt + pairSize * a .i) s) in
+    let r8 : List ℕ =
+    take (pairsAt + pairSize * a .i + 8 - (pairsAt + pairSize * a .i)) (drop (pairsAt + pairSize * a .i) s) in
     let lp : length pre ≤ mostPrefix = simp (length-take, length-drop) (omega arith) in
     let lr : 8 ≤ length r8 = simp (length-take, length-drop) (omega arith) in (
       event-most (a .out .now) (a .at) pre r8 (a .state) lp lr (c .before .before .put-event .ensures .0),
       λ h. event-rest (a .out .now) (a .at) pre r8 (a .state) h (c .before .before .put-event .ensures),
       λ m w h.
-          event-wrote m s (a .i) w (a .state) (a .out .now) (a .at) n (clamped (c .before .before .before .before .before .before .at-most .ensures)) h (omega arith) (omega arith)
-          (ap (λ (k : ℕ). take k (drop prefixAt s)) e) (ap (λ (k : ℕ). take k (drop (pairsAt + pairSize * a .i) s)) f) (c .before .before .put-event .ensures),
+          event-wrote m s (a .i) w (a .state) (a .out .now) (a .at) n
+          (clamped (c .before .before .before .before .before .before .at-most .ensures)) h (omega arith)
+          (omega arith)
+          (ap (λ (k : ℕ). take k (drop prefixAt s)) e) (ap (λ (k : ℕ). take k (drop (pairsAt + pairSize * a .i) s)) f)
+          (c .before .before .put-event .ensures),
     )
 
 pub put-event-spec : {M : Type 1} → statement M

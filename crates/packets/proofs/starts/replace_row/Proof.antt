@@ -5,8 +5,9 @@ use mathlib.Core.List.{List}
 use mathlib.Core.Path.{sym, ap, _∙_}
 use Rattle.model.specs.Layout.{mostPairs, pairSize, pairsAt}
 use borrow.Author.Tests.{le-leb}
-use Rattle.laws.specs.Tests.{and-both}
-use Rattle.laws.specs.Put.{put, put-if-true}
+use Rattle.laws.specs.TestsLaws.{and-both}
+use Rattle.laws.specs.Put.{put}
+use Rattle.laws.specs.PutLaws.{put-if-true}
 use Rattle.packets.specs.News.{startRow}
 use borrow.Author.Needs.{needs}
 use Rattle.packets.proofs.starts.replace_row.Statement.{statement}
@@ -16,55 +17,42 @@ use Rattle.packets.proofs.starts.replace_row.Lts as lts
 use Rattle.packets.proofs.starts.start_row.Reads as start-row-reads
 use Rattle.parts.proofs.shift.Reads as shift-reads
 
--- src/starts.rt:68:32
 mul-to : tie.Need-mul-to
 mul-to c = search needs
 
--- src/starts.rt:68:14
 add-to : tie.Need-add-to
 add-to c = search needs
 
--- src/starts.rt:69:53
 add-from : tie.Need-add-from
 add-from c = search needs
 
--- src/starts.rt:69:34
 mul-from : tie.Need-mul-from
 mul-from c = search needs
 
--- src/starts.rt:69:16
 add-from-2 : tie.Need-add-from-2
 add-from-2 c = search needs
 
--- src/starts.rt:70:35
 sub-size : tie.Need-sub-size
 sub-size c = search needs
 
--- src/starts.rt:70:35
 sub-size-2 : tie.Need-sub-size-2
 sub-size-2 c = search needs
 
--- src/starts.rt:70:16
 mul-size : tie.Need-mul-size
 mul-size c = search needs
 
--- src/starts.rt:71:5
 shift-requires : tie.Need-shift-requires
 shift-requires c κs = search needs
 
--- src/starts.rt:72:18
 sub-start-row : tie.Need-sub-start-row
 sub-start-row c = search needs
 
--- src/starts.rt:72:5
 start-row-requires : tie.Need-start-row-requires
 start-row-requires c κs = search needs
 
--- src/starts.rt:64:1
 same-length : tie.Need-same-length
 same-length c = search needs
 
--- src/starts.rt:64:1
 returns : tie.Need-returns
 returns c = let a = c .before .before .before .before .before .before .before .before .before .args in
     let s : List ℕ = a .s .now in
@@ -74,7 +62,9 @@ returns c = let a = c .before .before .before .before .before .before .before .b
     c .before .before .start-row .ensures
     ∙ ap (λ (l : List ℕ). put l (pairsAt + pairSize * (mostPairs - 1)) (startRow (a .key) (a .rssi)))
     (c .before .before .before .before .before .before .shift .ensures .1
-    ∙ sym (put-if-true s to (take n (drop from s)) (c .before .before .before .before .before .before .shift .ensures .0 ∙ and-both (le-leb to from (omega arith)) (le-leb (from + n) (length s) (omega arith)))))
+    ∙ sym (put-if-true s to (take n (drop from s))
+    (c .before .before .before .before .before .before .shift .ensures .0
+    ∙ and-both (le-leb to from (omega arith)) (le-leb (from + n) (length s) (omega arith)))))
 
 pub replace-row-spec : {M : Type 1} → statement M
 replace-row-spec =

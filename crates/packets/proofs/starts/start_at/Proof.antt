@@ -6,10 +6,10 @@ use Rattle.model.specs.Frames.{packetOf}
 use Rattle.model.specs.Types.{deviceOf}
 use Rattle.model.specs.Watch.{holds}
 use Rattle.marks.specs.Marks.{opens, allowed}
-use Rattle.packets.specs.Device.{flag-set, flag-not}
-use Rattle.packets.specs.Starts.{start-weak, start-held}
-use Rattle.packets.specs.Begins.{plain, plain-opens, plain-sifted, idle-weak, idle-held, turn-idle, turn-begun}
-use Rattle.packets.specs.Whole.{packet-rssi}
+use Rattle.packets.specs.DeviceLaws.{flag-set, flag-not}
+use Rattle.packets.specs.StartsLaws.{start-weak, start-held}
+use Rattle.packets.specs.BeginsLaws.{plain, plain-opens, plain-sifted, idle-weak, idle-held, turn-idle, turn-begun}
+use Rattle.packets.specs.WholeLaws.{packet-rssi}
 use borrow.Author.Needs.{needs}
 use Rattle.packets.proofs.starts.start_at.Statement.{statement}
 use Rattle.packets.proofs.starts.start_at.Tie as tie
@@ -18,16 +18,18 @@ use Rattle.packets.proofs.starts.start_at.Lts as lts
 use Rattle.packets.proofs.starts.keep_start.Reads as keep-start-reads
 use Rattle.packets.proofs.starts.start_new.Reads as start-new-reads
 
--- src/starts.rt:204:9
 returns : tie.Need-returns
 returns c = let a = c .before .before .before .before .args in (
   omega arith,
   omega arith,
   refl,
-  λ m w x f. (start-weak m (a .s .now) (a .n) (packetOf (a .payload .now)) (a .a) (a .h) w (a .out .now) (a .at) (c .if1 .taken), idle-weak (a .a) (a .h) (packetOf (a .payload .now)) (m .pairs) (c .if1 .taken)),
+  λ m w x f. (
+    start-weak m (a .s .now) (a .n) (packetOf (a .payload .now)) (a .a) (a .h) w (a .out .now) (a .at)
+        (c .if1 .taken),
+    idle-weak (a .a) (a .h) (packetOf (a .payload .now)) (m .pairs) (c .if1 .taken),
+  ),
 )
 
--- src/starts.rt:211:9
 returns-2 : tie.Need-returns-2
 unfolding opens
 returns-2 c = let a = c .before .before .before .before .before .args in (
@@ -35,88 +37,99 @@ returns-2 c = let a = c .before .before .before .before .before .args in (
   omega arith,
   refl,
   λ m w x f.
-      let e = flag-set (holds (m .pairs) (a .h) (deviceOf (packetOf (a .payload .now)))) (f (eq-eqb (a .a / 4 % 2) 1 (c .before .if1 .left))) (c .if2 .taken) in
-      (start-held m (a .s .now) (a .n) (packetOf (a .payload .now)) (a .a) (a .h) w (a .out .now) (a .at) e, idle-held (a .a) (a .h) (packetOf (a .payload .now)) (m .pairs) e),
+      let e = flag-set (holds (m .pairs) (a .h) (deviceOf (packetOf (a .payload .now))))
+      (f (eq-eqb (a .a / 4 % 2) 1 (c .before .if1 .left))) (c .if2 .taken) in (
+        start-held m (a .s .now) (a .n) (packetOf (a .payload .now)) (a .a) (a .h) w (a .out .now) (a .at) e,
+        idle-held
+            (a .a) (a .h) (packetOf (a .payload .now)) (m .pairs) e,
+      ),
 )
 
--- src/starts.rt:217:26
 mul-key : tie.Need-mul-key
 mul-key c = search needs
 
--- src/starts.rt:217:15
 add-key : tie.Need-add-key
 add-key c = search needs
 
--- src/starts.rt:218:45
 sub-start-new : tie.Need-sub-start-new
 sub-start-new c = search needs
 
--- src/starts.rt:218:37
 shared-slice-read-start-new : tie.Need-shared-slice-read-start-new
 shared-slice-read-start-new c = search needs
 
--- src/starts.rt:218:9
 start-new-requires : tie.Need-start-new-requires
 start-new-requires c κs = search needs
 
--- src/starts.rt:222:9
 same-length : tie.Need-same-length
 same-length c = search needs
 
--- src/starts.rt:222:9
 same-length-2 : tie.Need-same-length-2
 same-length-2 c = search needs
 
--- src/starts.rt:222:9
 returns-3 : tie.Need-returns-3
 unfolding opens allowed
-returns-3 c = let a = c .before .before .before .before .before .before .before .before .before .before .before .before .before .before .args in let t = c .before .before .before .before .before .start-new in (
-  t .ensures .0,
-  t .ensures .1,
-  t .ensures .2,
-  λ m w x f.
-      turn-idle m (a .a) (a .h) (packetOf (a .payload .now)) (t .ensures .4 m (packetOf (a .payload .now)) (plain (a .a)) (a .h) w (record {
-        sought = (record { sent = x .sent; low = omega arith; number = ap (λ (j : ℕ). a .h + 256 * j) (x .number) });
-        rssi = packet-rssi (a .payload .now);
-        strong = plain-opens (a .a) ∙ eq-eqb (a .a / 4 % 2) 1 (c .before .before .before .before .before .before .before .before .before .before .if1 .left);
-        plain = plain-sifted (a .a);
-        free = flag-not (holds (m .pairs) (a .h) (deviceOf (packetOf (a .payload .now)))) (f (eq-eqb (a .a / 4 % 2) 1 (c .before .before .before .before .before .before .before .before .before .before .if1 .left))) (c .before .before .before .before .before .before .before .before .before .if2 .left);
-      })) (c .if3 .taken),
-)
+returns-3 c = let a =
+    c .before .before .before .before .before .before .before .before .before .before .before .before .before .before
+    .args in let t = c .before .before .before .before .before .start-new in (
+      t .ensures .0,
+      t .ensures .1,
+      t .ensures .2,
+      λ m w x f.
+          turn-idle m (a .a) (a .h) (packetOf (a .payload .now))
+          (t .ensures .4 m (packetOf (a .payload .now)) (plain (a .a)) (a .h) w (record {
+            sought = (record { sent = x .sent; low = omega arith; number = ap (λ (j : ℕ). a .h + 256 * j) (x .number) });
+            rssi = packet-rssi (a .payload .now);
+            strong = plain-opens (a .a)
+                ∙ eq-eqb (a .a / 4 % 2) 1
+                (c .before .before .before .before .before .before .before .before .before .before .if1 .left);
+            plain = plain-sifted (a .a);
+            free = flag-not (holds (m .pairs) (a .h) (deviceOf (packetOf (a .payload .now))))
+                (f (eq-eqb (a .a / 4 % 2) 1
+                (c .before .before .before .before .before .before .before .before .before .before .if1 .left)))
+                (c .before .before .before .before .before .before .before .before .before .if2 .left);
+          })) (c .if3 .taken),
+    )
 
--- src/starts.rt:228:19
 sub-keep-start : tie.Need-sub-keep-start
 sub-keep-start c = search needs
 
--- src/starts.rt:228:5
 keep-start-requires : tie.Need-keep-start-requires
 keep-start-requires c κs = search needs
 
--- src/starts.rt:189:1
 same-length-3 : tie.Need-same-length-3
 same-length-3 c = search needs
 
--- src/starts.rt:189:1
 same-length-4 : tie.Need-same-length-4
 same-length-4 c = search needs
 
--- src/starts.rt:189:1
 returns-4 : tie.Need-returns-4
 unfolding opens allowed
-returns-4 c = let a = c .before .before .before .before .before .before .before .before .before .before .before .before .before .before .before .before .before .before .args in let t = c .before .before .before .before .before .before .before .before .before .start-new in (
-  t .ensures .0,
-  t .ensures .1,
-  t .ensures .2,
-  λ m w x f.
-      turn-begun m (a .a) (a .h) (packetOf (a .payload .now)) (t .ensures .4 m (packetOf (a .payload .now)) (plain (a .a)) (a .h) w (record {
-        sought = (record { sent = x .sent; low = omega arith; number = ap (λ (j : ℕ). a .h + 256 * j) (x .number) });
-        rssi = packet-rssi (a .payload .now);
-        strong = plain-opens (a .a) ∙ eq-eqb (a .a / 4 % 2) 1 (c .before .before .before .before .before .before .before .before .before .before .before .before .before .before .if1 .left);
-        plain = plain-sifted (a .a);
-        free = flag-not (holds (m .pairs) (a .h) (deviceOf (packetOf (a .payload .now)))) (f (eq-eqb (a .a / 4 % 2) 1 (c .before .before .before .before .before .before .before .before .before .before .before .before .before .before .if1 .left))) (c .before .before .before .before .before .before .before .before .before .before .before .before .before .if2 .left);
-      })) (omega (arith, c .before .before .before .before .if3 .left))
-      (w .measured) (omega arith) (x .sent) (λ g v. c .before .before .keep-start .ensures g v (x .sent)),
-)
+returns-4 c = let a =
+    c .before .before .before .before .before .before .before .before .before .before .before .before .before .before
+    .before .before .before .before .args in let t = c .before .before .before .before .before .before .before .before
+    .before .start-new in (
+      t .ensures .0,
+      t .ensures .1,
+      t .ensures .2,
+      λ m w x f.
+          turn-begun m (a .a) (a .h) (packetOf (a .payload .now))
+          (t .ensures .4 m (packetOf (a .payload .now)) (plain (a .a)) (a .h) w (record {
+            sought = (record { sent = x .sent; low = omega arith; number = ap (λ (j : ℕ). a .h + 256 * j) (x .number) });
+            rssi = packet-rssi (a .payload .now);
+            strong = plain-opens (a .a)
+                ∙ eq-eqb (a .a / 4 % 2) 1
+                (c .before .before .before .before .before .before .before .before .before .before .before .before .before
+                .before .if1 .left);
+            plain = plain-sifted (a .a);
+            free = flag-not (holds (m .pairs) (a .h) (deviceOf (packetOf (a .payload .now))))
+                (f (eq-eqb (a .a / 4 % 2) 1
+                (c .before .before .before .before .before .before .before .before .before .before .before .before .before
+                .before .if1 .left)))
+                (c .before .before .before .before .before .before .before .before .before .before .before .before .before
+                .if2 .left);
+          })) (omega (arith, c .before .before .before .before .if3 .left))
+          (w .measured) (omega arith) (x .sent) (λ g v. c .before .before .keep-start .ensures g v (x .sent)),
+    )
 
 pub start-at-spec : {M : Type 1} → statement M
 start-at-spec =

@@ -1,5 +1,5 @@
 use native.Mathlib.Omega.{arith}
-use Rattle.packets.specs.Starts.{start-free}
+use Rattle.packets.specs.StartsLaws.{start-free}
 use borrow.Author.Needs.{needs}
 use Rattle.packets.proofs.starts.start_free.Statement.{statement}
 use Rattle.packets.proofs.starts.start_free.Tie as tie
@@ -8,29 +8,25 @@ use Rattle.packets.proofs.starts.start_free.Lts as lts
 use Rattle.packets.proofs.starts.push_row.Reads as push-row-reads
 use Rattle.packets.proofs.starts.put_event.Reads as put-event-reads
 
--- src/starts.rt:115:5
 push-row-requires : tie.Need-push-row-requires
 push-row-requires c κs = search needs
 
--- src/starts.rt:116:5
 put-event-requires : tie.Need-put-event-requires
 put-event-requires c κs = search needs
 
--- src/starts.rt:111:1
 same-length : tie.Need-same-length
 same-length c = search needs
 
--- src/starts.rt:111:1
 same-length-2 : tie.Need-same-length-2
 same-length-2 c = search needs
 
--- src/starts.rt:111:1
 returns : tie.Need-returns
 returns c = let a = c .before .before .before .before .before .before .before .before .before .before .before .args in (
   omega (arith, c .before .before .put-event .ensures .0),
   c .before .before .put-event .ensures .1,
   λ m p x y w q z.
-      start-free m (a .s .now) (a .n) p x y (a .key) (a .rssi) w q (omega arith) (c .before .before .before .before .before .before .before .push-row .ensures)
+      start-free m (a .s .now) (a .n) p x y (a .key) (a .rssi) w q (omega arith)
+      (c .before .before .before .before .before .before .before .push-row .ensures)
       (λ g v. c .before .before .put-event .ensures .2 g v (omega arith)),
 )
 

@@ -2,8 +2,8 @@ use Prim.Native.Nat.{_+_, _-_}
 use mathlib.Core.Path.{_∙_}
 use native.Mathlib.Omega.{arith}
 use lib.ListN.{length, set, replicate, length-set}
-use Rattle.laws.specs.Put.{put-of}
-use Rattle.packets.specs.Windows.{none-written}
+use Rattle.laws.specs.PutLaws.{put-of}
+use Rattle.packets.specs.WindowsLaws.{none-written}
 use Rattle.model.specs.Layout.{latestSize}
 use borrow.Author.Needs.{needs}
 use Rattle.packets.proofs.windows.put_none.Statement.{statement}
@@ -12,32 +12,30 @@ use Rattle.packets.proofs.windows.put_none.Reads as reads
 use Rattle.packets.proofs.windows.put_none.Lts as lts
 use Rattle.parts.proofs.fill.Reads as fill-reads
 
--- src/windows.rt:47:5
 slice-write-s : tie.Need-slice-write-s
 slice-write-s c = search needs
 
--- src/windows.rt:48:20
 add-fill : tie.Need-add-fill
 add-fill c = search needs
 
--- src/windows.rt:48:28
 sub-fill : tie.Need-sub-fill
 sub-fill c = search needs
 
--- src/windows.rt:48:5
 fill-requires : tie.Need-fill-requires
 fill-requires c κs = search needs
 
--- src/windows.rt:43:1
 same-length : tie.Need-same-length
-same-length c = let a = c .before .before .before .before .before .args in c .before .before .fill .kept .0 ∙ length-set (a .s .now) (a .at) 255
+same-length c = let a =
+    c .before .before .before .before .before .args in c .before .before .fill .kept .0
+    ∙ length-set (a .s .now) (a .at) 255
 
--- src/windows.rt:43:1
 returns : tie.Need-returns
 returns c = let a = c .before .before .before .before .before .args in
     let j = length-set (a .s .now) (a .at) 255 in
     none-written (a .s .now) (a .at) (c .before .before .before .before .before .pre)
-    (put-of (set (a .s .now) (a .at) 255) (a .at + 1) (replicate (latestSize - 1) 0) (latestSize - 1) (length (set (a .s .now) (a .at) 255)) (c .before .before .fill .ensures .0) (omega (arith, j, c .before .before .before .before .before .pre)) (c .before .before .fill .ensures .1))
+    (put-of (set (a .s .now) (a .at) 255) (a .at + 1) (replicate (latestSize - 1) 0) (latestSize - 1)
+    (length (set (a .s .now) (a .at) 255)) (c .before .before .fill .ensures .0)
+    (omega (arith, j, c .before .before .before .before .before .pre)) (c .before .before .fill .ensures .1))
 
 pub put-none-spec : {M : Type 1} → statement M
 put-none-spec =

@@ -1,4 +1,4 @@
-use Rattle.reports.specs.Messages.{counts-so}
+use Rattle.reports.specs.MessagesLaws.{counts-so}
 use Rattle.texts.specs.Text.{room, told}
 use Rattle.reports.specs.Texts.{reasonOf}
 use Rattle.model.specs.Quoted.{codes}
@@ -16,50 +16,45 @@ use Rattle.reports.proofs.messages.seen_of.Reads as seen-of-reads
 use Rattle.texts.proofs.words.blank.Reads as blank-reads
 use Rattle.texts.proofs.words.said.Reads as said-reads
 
--- src/messages.rt:154:21
 blank-requires : tie.Need-blank-requires
 blank-requires c κs = search needs
 
--- src/messages.rt:154:30
 slice-aggregate-said : tie.Need-slice-aggregate-said
 slice-aggregate-said c = search needs
 
--- src/messages.rt:154:9
 said-requires : tie.Need-said-requires
 said-requires c κs = search needs
 
--- src/messages.rt:155:26
 slice-aggregate-said-2 : tie.Need-slice-aggregate-said-2
 slice-aggregate-said-2 c = search needs
 
--- src/messages.rt:155:9
 said-requires-2 : tie.Need-said-requires-2
 said-requires-2 c κs = search needs
 
--- src/messages.rt:156:26
 slice-aggregate-said-3 : tie.Need-slice-aggregate-said-3
 slice-aggregate-said-3 c = search needs
 
--- src/messages.rt:156:42
 seen-of-requires : tie.Need-seen-of-requires
 seen-of-requires c κs = search needs
 
--- src/messages.rt:156:9
 said-requires-3 : tie.Need-said-requires-3
 said-requires-3 c κs = search needs
 
--- src/messages.rt:157:16
 slice-aggregate-said-4 : tie.Need-slice-aggregate-said-4
 slice-aggregate-said-4 c = search needs
 
--- src/messages.rt:157:5
 said-requires-4 : tie.Need-said-requires-4
 said-requires-4 c κs = search needs
 
--- src/messages.rt:151:1
 returns : tie.Need-returns
 unfolding codes
-returns c = let a = c .before .before .before .before .before .before .before .before .before .before .args in counts-so (a .lines) (a .executed) (a .position) _ (c .before .before .before .before .before .before .before .before .before .blank .ensures) (c .before .before .before .seen-of .ensures) (c .before .before .before .before .before .before .before .said .ensures) (c .before .before .before .before .before .said2 .ensures) (c .before .before .said3 .ensures) (c .said4 .ensures)
+returns c = let a =
+    c .before .before .before .before .before .before .before .before .before .before .args in counts-so (a .lines)
+    (a .executed) (a .position) _
+    (c .before .before .before .before .before .before .before .before .before .blank .ensures)
+    (c .before .before .before .seen-of .ensures)
+    (c .before .before .before .before .before .before .before .said .ensures)
+    (c .before .before .before .before .before .said2 .ensures) (c .before .before .said3 .ensures) (c .said4 .ensures)
 
 pub counted-spec : {M : Type 1} → statement M
 counted-spec =

@@ -5,38 +5,30 @@ use Rattle.reports.proofs.messages.ended.Tie as tie
 use Rattle.reports.proofs.messages.ended.Reads as reads
 use Rattle.reports.proofs.messages.ended.Lts as lts
 
--- src/messages.rt:102:23
 enum-told : tie.Need-enum-told
 enum-told c = search needs
 
--- src/messages.rt:103:24
 enum-told-2 : tie.Need-enum-told-2
 enum-told-2 c = search needs
 
--- src/messages.rt:104:24
 enum-told-3 : tie.Need-enum-told-3
 enum-told-3 c = search needs
 
--- src/messages.rt:105:29
 enum-told-4 : tie.Need-enum-told-4
 enum-told-4 c = search needs
 
--- src/messages.rt:98:1
 returns : tie.Need-returns
 unfolding isEnded
 returns c = search needs
 
--- src/messages.rt:98:1
 returns-2 : tie.Need-returns-2
 unfolding isEnded
 returns-2 c = search needs
 
--- src/messages.rt:98:1
 returns-3 : tie.Need-returns-3
 unfolding isEnded
 returns-3 c = search needs
 
--- src/messages.rt:98:1
 returns-4 : tie.Need-returns-4
 unfolding isEnded
 returns-4 c = search needs

@@ -1,4 +1,4 @@
-use Rattle.reports.specs.Messages.{found-so}
+use Rattle.reports.specs.MessagesLaws.{found-so}
 use Rattle.texts.specs.Text.{room, told}
 use Rattle.reports.specs.Texts.{reasonOf}
 use mathlib.Core.Path.{_≡_, refl, sym, ap, _∙_}
@@ -16,30 +16,32 @@ use Rattle.reports.proofs.messages.found_in.Lts as lts
 use Rattle.octets.proofs.get32.Reads as get32-reads
 use Rattle.reader.proofs.read_pairs.Reads as read-pairs-reads
 
--- src/messages.rt:84:44
 slice-aggregate-read-pairs : tie.Need-slice-aggregate-read-pairs
 slice-aggregate-read-pairs c = search needs
 
--- src/messages.rt:84:9
 read-pairs-requires : tie.Need-read-pairs-requires
 read-pairs-requires c κs = search needs
 
--- src/messages.rt:85:19
 array-share-prefix-octets : tie.Need-array-share-prefix-octets
-array-share-prefix-octets c = let w = found-so (c .before .before .before .before .args .text .now) _ (c .before .read-pairs .last .1 .1 .0) (c .before .read-pairs .result) refl (c .before .read-pairs .ensures) in omega (arith, w .1)
+array-share-prefix-octets c = let w =
+    found-so (c .before .before .before .before .args .text .now) _ (c .before .read-pairs .last .1 .1 .0)
+    (c .before .read-pairs .result) refl (c .before .read-pairs .ensures) in omega (arith, w .1)
 
--- src/messages.rt:85:19
 slice-aggregate-get32 : tie.Need-slice-aggregate-get32
-slice-aggregate-get32 c = let w = found-so (c .before .before .before .before .before .args .text .now) _ (c .before .before .read-pairs .last .1 .1 .0) (c .before .before .read-pairs .result) refl (c .before .before .read-pairs .ensures) in sym (length-take-le _ _ (omega (arith, w .1)))
+slice-aggregate-get32 c = let w =
+    found-so (c .before .before .before .before .before .args .text .now) _
+    (c .before .before .read-pairs .last .1 .1 .0) (c .before .before .read-pairs .result) refl
+    (c .before .before .read-pairs .ensures) in sym (length-take-le _ _ (omega (arith, w .1)))
 
--- src/messages.rt:85:5
 get32-requires : tie.Need-get32-requires
 get32-requires c κs = search needs
 
--- src/messages.rt:80:1
 returns : tie.Need-returns
 unfolding foundIn
-returns c = let w = found-so (c .before .before .before .before .before .before .args .text .now) _ (c .before .before .before .read-pairs .last .1 .1 .0) (c .before .before .before .read-pairs .result) refl (c .before .before .before .read-pairs .ensures) in c .get32 .ensures ∙ ap (λ l. numberAt 4 l 0) (w .0)
+returns c = let w =
+    found-so (c .before .before .before .before .before .before .args .text .now) _
+    (c .before .before .before .read-pairs .last .1 .1 .0) (c .before .before .before .read-pairs .result) refl
+    (c .before .before .before .read-pairs .ensures) in c .get32 .ensures ∙ ap (λ l. numberAt 4 l 0) (w .0)
 
 pub found-in-spec : {M : Type 1} → statement M
 found-in-spec =

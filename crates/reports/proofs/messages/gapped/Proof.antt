@@ -1,4 +1,4 @@
-use Rattle.reports.specs.Messages.{gap-so, gap-none}
+use Rattle.reports.specs.MessagesLaws.{gap-so, gap-none}
 use Rattle.texts.specs.Text.{room, told}
 use Rattle.reports.specs.Texts.{reasonOf}
 use Rattle.model.specs.Quoted.{codes}
@@ -16,51 +16,46 @@ use Rattle.reports.proofs.messages.next.Reads as next-reads
 use Rattle.texts.proofs.words.said.Reads as said-reads
 use Rattle.texts.proofs.words.with.Reads as with-reads
 
--- src/messages.rt:72:27
 slice-aggregate-said : tie.Need-slice-aggregate-said
 slice-aggregate-said c = search needs
 
--- src/messages.rt:72:40
 next-requires : tie.Need-next-requires
 next-requires c κs = search needs
 
--- src/messages.rt:72:13
 said-requires : tie.Need-said-requires
 said-requires c κs = search needs
 
--- src/messages.rt:73:30
 slice-aggregate-said-2 : tie.Need-slice-aggregate-said-2
 slice-aggregate-said-2 c = search needs
 
--- src/messages.rt:73:13
 said-requires-2 : tie.Need-said-requires-2
 said-requires-2 c κs = search needs
 
--- src/messages.rt:74:27
 slice-aggregate-with : tie.Need-slice-aggregate-with
 slice-aggregate-with c = search needs
 
--- src/messages.rt:74:9
 with-requires : tie.Need-with-requires
 with-requires c κs = search needs
 
--- src/messages.rt:74:9
 returns : tie.Need-returns
 unfolding codes
-returns c = let a = c .before .before .before .before .before .before .before .before .args in gap-so (told (a .t)) (a .number) (a .position) (a .found) _ (c .before .before .before .before .before .before .before .if1 .taken) (c .before .before .before .before .before .next .ensures) (c .before .before .before .before .said .ensures) (c .before .before .said2 .ensures) (c .with .ensures)
+returns c = let a =
+    c .before .before .before .before .before .before .before .before .args in gap-so (told (a .t)) (a .number)
+    (a .position) (a .found) _ (c .before .before .before .before .before .before .before .if1 .taken)
+    (c .before .before .before .before .before .next .ensures) (c .before .before .before .before .said .ensures)
+    (c .before .before .said2 .ensures) (c .with .ensures)
 
--- src/messages.rt:76:13
 slice-aggregate-with-2 : tie.Need-slice-aggregate-with-2
 slice-aggregate-with-2 c = search needs
 
--- src/messages.rt:76:5
 with-requires-2 : tie.Need-with-requires-2
 with-requires-2 c κs = search needs
 
--- src/messages.rt:68:1
 returns-2 : tie.Need-returns-2
 unfolding codes
-returns-2 c = let a = c .before .before .before .args in gap-none (told (a .t)) (a .number) (a .position) (a .found) (c .before .before .if1 .left) (c .with2 .ensures)
+returns-2 c = let a =
+    c .before .before .before .args in gap-none (told (a .t)) (a .number) (a .position) (a .found)
+    (c .before .before .if1 .left) (c .with2 .ensures)
 
 pub gapped-spec : {M : Type 1} → statement M
 gapped-spec =

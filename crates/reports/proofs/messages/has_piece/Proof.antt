@@ -5,7 +5,7 @@ use mathlib.Core.List.{_++_}
 use lib.ListN.{length, take}
 use lib.Seq.{length-take-le}
 use native.Mathlib.Omega.{arith}
-use Rattle.laws.specs.Tests.{and-not-left}
+use Rattle.laws.specs.TestsLaws.{and-not-left}
 use mathlib.Core.Bool.{_&&_, not}
 use borrow.Author.Needs.{needs}
 use Rattle.reports.proofs.messages.has_piece.Statement.{statement}
@@ -14,15 +14,13 @@ use Rattle.reports.proofs.messages.has_piece.Reads as reads
 use Rattle.reports.proofs.messages.has_piece.Lts as lts
 use Rattle.reports.proofs.messages.ended.Reads as ended-reads
 
--- src/messages.rt:123:8
 ended-requires : tie.Need-ended-requires
 ended-requires c κs = search needs
 
--- src/messages.rt:124:9
 returns : tie.Need-returns
-returns c = sym (ap (λ b. b && not (lib.Dec.eqb (c .before .before .args .size) 0)) (sym (c .before .ended .ensures) ∙ c .if1 .taken))
+returns c = sym (ap (λ b. b && not (lib.Dec.eqb (c .before .before .args .size) 0))
+    (sym (c .before .ended .ensures) ∙ c .if1 .taken))
 
--- src/messages.rt:120:1
 returns-2 : tie.Need-returns-2
 returns-2 c = sym (and-not-left _ _ (sym (c .before .ended .ensures) ∙ c .if1 .left))
 

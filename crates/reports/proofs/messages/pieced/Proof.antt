@@ -1,4 +1,4 @@
-use Rattle.reports.specs.Messages.{piece-so, piece-none}
+use Rattle.reports.specs.MessagesLaws.{piece-so, piece-none}
 use Rattle.texts.specs.Text.{room, told}
 use Rattle.reports.specs.Texts.{reasonOf}
 use Rattle.model.specs.Quoted.{codes}
@@ -16,47 +16,43 @@ use Rattle.reports.proofs.messages.has_piece.Reads as has-piece-reads
 use Rattle.reports.proofs.messages.sized.Reads as sized-reads
 use Rattle.texts.proofs.words.with.Reads as with-reads
 
--- src/messages.rt:133:8
 has-piece-requires : tie.Need-has-piece-requires
 has-piece-requires c κs = search needs
 
--- src/messages.rt:134:35
 slice-aggregate-with : tie.Need-slice-aggregate-with
 slice-aggregate-with c = search needs
 
--- src/messages.rt:134:27
 with-requires : tie.Need-with-requires
 with-requires c κs = search needs
 
--- src/messages.rt:134:13
 sized-requires : tie.Need-sized-requires
 sized-requires c κs = search needs
 
--- src/messages.rt:135:28
 slice-aggregate-with-2 : tie.Need-slice-aggregate-with-2
 slice-aggregate-with-2 c = search needs
 
--- src/messages.rt:135:9
 with-requires-2 : tie.Need-with-requires-2
 with-requires-2 c κs = search needs
 
--- src/messages.rt:135:9
 returns : tie.Need-returns
 unfolding codes
-returns c = let a = c .before .before .before .before .before .before .before .args in piece-so (told (a .t)) (a .next) (a .size) (sym (c .before .before .before .before .before .before .has-piece .ensures) ∙ c .before .before .before .before .before .if1 .taken) (c .before .before .before .with .ensures) (c .before .before .sized .ensures) (c .with2 .ensures)
+returns c = let a =
+    c .before .before .before .before .before .before .before .args in piece-so (told (a .t)) (a .next) (a .size)
+    (sym (c .before .before .before .before .before .before .has-piece .ensures)
+    ∙ c .before .before .before .before .before .if1 .taken) (c .before .before .before .with .ensures)
+    (c .before .before .sized .ensures) (c .with2 .ensures)
 
--- src/messages.rt:137:13
 slice-aggregate-with-3 : tie.Need-slice-aggregate-with-3
 slice-aggregate-with-3 c = search needs
 
--- src/messages.rt:137:5
 with-requires-3 : tie.Need-with-requires-3
 with-requires-3 c κs = search needs
 
--- src/messages.rt:130:1
 returns-2 : tie.Need-returns-2
 unfolding codes
-returns-2 c = let a = c .before .before .before .before .args in piece-none (told (a .t)) (a .next) (a .size) (sym (c .before .before .before .has-piece .ensures) ∙ c .before .before .if1 .left) (c .with3 .ensures)
+returns-2 c = let a =
+    c .before .before .before .before .args in piece-none (told (a .t)) (a .next) (a .size)
+    (sym (c .before .before .before .has-piece .ensures) ∙ c .before .before .if1 .left) (c .with3 .ensures)
 
 pub pieced-spec : {M : Type 1} → statement M
 pieced-spec =

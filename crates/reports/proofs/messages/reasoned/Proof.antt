@@ -1,8 +1,8 @@
 use mathlib.Core.Path.{_∙_}
-use Rattle.reports.specs.Messages.{reason-some, reason-none}
+use Rattle.reports.specs.MessagesLaws.{reason-some, reason-none}
 use Rattle.texts.specs.Text.{told}
 use Rattle.model.specs.Quoted.{codes}
-use Rattle.names.specs.Names.{tableOf, looked-up}
+use Rattle.names.specs.NamesLaws.{tableOf, looked-up}
 use Rattle.names.specs.Refusals.{refusalRows, refusalName}
 use borrow.Author.Needs.{needs}
 use Rattle.reports.proofs.messages.reasoned.Statement.{statement}
@@ -12,51 +12,49 @@ use Rattle.reports.proofs.messages.reasoned.Lts as lts
 use Rattle.names.proofs.find.Reads as find-reads
 use Rattle.texts.proofs.words.with.Reads as with-reads
 
--- src/messages.rt:39:28
 slice-aggregate-find : tie.Need-slice-aggregate-find
 slice-aggregate-find c = search needs
 
--- src/messages.rt:39:9
 find-requires : tie.Need-find-requires
 find-requires c κs = search needs
 
--- src/messages.rt:41:24
 slice-aggregate-with : tie.Need-slice-aggregate-with
 slice-aggregate-with c = search needs
 
--- src/messages.rt:41:9
 with-requires : tie.Need-with-requires
 with-requires c κs = search needs
 
--- src/messages.rt:41:9
 returns : tie.Need-returns
 unfolding refusalName refusalRows tableOf codes
-returns c = reason-none (told (c .before .before .before .before .before .args .t)) (c .before .before .before .before .before .args .number) (c .before .before .before .find .ensures ∙ looked-up refusalRows (c .before .before .before .before .before .args .number)) (c .before .before .if1 .taken) (c .with .ensures)
+returns c = reason-none (told (c .before .before .before .before .before .args .t))
+    (c .before .before .before .before .before .args .number)
+    (c .before .before .before .find .ensures
+    ∙ looked-up refusalRows (c .before .before .before .before .before .args .number)) (c .before .before .if1 .taken)
+    (c .with .ensures)
 
--- src/messages.rt:43:24
 slice-aggregate-with-2 : tie.Need-slice-aggregate-with-2
 slice-aggregate-with-2 c = search needs
 
--- src/messages.rt:43:9
 with-requires-2 : tie.Need-with-requires-2
 with-requires-2 c κs = search needs
 
--- src/messages.rt:44:9
 with-requires-3 : tie.Need-with-requires-3
 with-requires-3 c κs = search needs
 
--- src/messages.rt:45:17
 slice-aggregate-with-3 : tie.Need-slice-aggregate-with-3
 slice-aggregate-with-3 c = search needs
 
--- src/messages.rt:45:5
 with-requires-4 : tie.Need-with-requires-4
 with-requires-4 c κs = search needs
 
--- src/messages.rt:36:1
 returns-2 : tie.Need-returns-2
 unfolding refusalName refusalRows tableOf codes
-returns-2 c = reason-some (told (c .before .before .before .before .before .before .before .before .args .t)) (c .before .before .before .before .before .before .before .before .args .number) (c .before .before .before .before .before .before .find .ensures ∙ looked-up refusalRows (c .before .before .before .before .before .before .before .before .args .number)) (c .before .before .before .before .before .if1 .left) (c .before .before .before .with2 .ensures) (c .before .before .with3 .ensures) (c .with4 .ensures)
+returns-2 c = reason-some (told (c .before .before .before .before .before .before .before .before .args .t))
+    (c .before .before .before .before .before .before .before .before .args .number)
+    (c .before .before .before .before .before .before .find .ensures
+    ∙ looked-up refusalRows (c .before .before .before .before .before .before .before .before .args .number))
+    (c .before .before .before .before .before .if1 .left) (c .before .before .before .with2 .ensures)
+    (c .before .before .with3 .ensures) (c .with4 .ensures)
 
 pub reasoned-spec : {M : Type 1} → statement M
 reasoned-spec =

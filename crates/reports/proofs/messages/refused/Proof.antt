@@ -1,4 +1,4 @@
-use Rattle.reports.specs.Messages.{refused-so}
+use Rattle.reports.specs.MessagesLaws.{refused-so}
 use Rattle.texts.specs.Text.{room, told}
 use Rattle.reports.specs.Texts.{reasonOf}
 use Rattle.model.specs.Quoted.{codes}
@@ -15,22 +15,20 @@ use Rattle.reports.proofs.messages.refused.Lts as lts
 use Rattle.reports.proofs.messages.reasoned.Reads as reasoned-reads
 use Rattle.texts.proofs.words.said.Reads as said-reads
 
--- src/messages.rt:64:22
 slice-aggregate-said : tie.Need-slice-aggregate-said
 slice-aggregate-said c = search needs
 
--- src/messages.rt:64:14
 said-requires : tie.Need-said-requires
 said-requires c κs = search needs
 
--- src/messages.rt:64:5
 reasoned-requires : tie.Need-reasoned-requires
 reasoned-requires c κs = search needs
 
--- src/messages.rt:61:1
 returns : tie.Need-returns
 unfolding codes
-returns c = let a = c .before .before .before .args in refused-so (told (a .t)) (a .number) (c .before .said .ensures) (c .reasoned .ensures)
+returns c = let a =
+    c .before .before .before .args in refused-so (told (a .t)) (a .number) (c .before .said .ensures)
+    (c .reasoned .ensures)
 
 pub refused-spec : {M : Type 1} → statement M
 refused-spec = tie.close (tie.spec slice-aggregate-said said-requires reasoned-requires returns)

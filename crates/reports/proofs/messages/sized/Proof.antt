@@ -1,5 +1,5 @@
 use Rattle.turns.specs.Swap.{longLine}
-use Rattle.reports.specs.Messages.{size-so, size-long}
+use Rattle.reports.specs.MessagesLaws.{size-so, size-long}
 use Rattle.texts.specs.Text.{room, told}
 use Rattle.reports.specs.Texts.{reasonOf}
 use Rattle.model.specs.Quoted.{codes}
@@ -15,31 +15,26 @@ use Rattle.reports.proofs.messages.sized.Reads as reads
 use Rattle.reports.proofs.messages.sized.Lts as lts
 use Rattle.texts.proofs.words.said.Reads as said-reads
 
--- src/messages.rt:114:24
 slice-aggregate-said : tie.Need-slice-aggregate-said
 slice-aggregate-said c = search needs
 
--- src/messages.rt:114:9
 said-requires : tie.Need-said-requires
 said-requires c κs = search needs
 
--- src/messages.rt:114:9
 returns : tie.Need-returns
 unfolding codes longLine
 returns c = let a = c .before .before .before .args in size-so (told (a .t)) (a .n) (omega arith) (c .said .ensures)
 
--- src/messages.rt:116:13
 slice-aggregate-said-2 : tie.Need-slice-aggregate-said-2
 slice-aggregate-said-2 c = search needs
 
--- src/messages.rt:116:5
 said-requires-2 : tie.Need-said-requires-2
 said-requires-2 c κs = search needs
 
--- src/messages.rt:110:1
 returns-2 : tie.Need-returns-2
 unfolding codes longLine
-returns-2 c = let a = c .before .before .before .args in size-long (told (a .t)) (a .n) (omega arith) (c .said2 .ensures)
+returns-2 c = let a =
+    c .before .before .before .args in size-long (told (a .t)) (a .n) (omega arith) (c .said2 .ensures)
 
 pub sized-spec : {M : Type 1} → statement M
 sized-spec =

@@ -1,4 +1,4 @@
-use Rattle.reports.specs.Messages.{stop-so}
+use Rattle.reports.specs.MessagesLaws.{stop-so}
 use Rattle.texts.specs.Text.{room, told}
 use Rattle.reports.specs.Texts.{reasonOf}
 use Rattle.model.specs.Quoted.{codes}
@@ -19,42 +19,37 @@ use Rattle.texts.proofs.words.blank.Reads as blank-reads
 use Rattle.texts.proofs.words.said.Reads as said-reads
 use Rattle.texts.proofs.words.with.Reads as with-reads
 
--- src/messages.rt:92:21
 blank-requires : tie.Need-blank-requires
 blank-requires c κs = search needs
 
--- src/messages.rt:92:30
 slice-aggregate-said : tie.Need-slice-aggregate-said
 slice-aggregate-said c = search needs
 
--- src/messages.rt:92:36
 next-requires : tie.Need-next-requires
 next-requires c κs = search needs
 
--- src/messages.rt:92:9
 said-requires : tie.Need-said-requires
 said-requires c κs = search needs
 
--- src/messages.rt:93:22
 refused-requires : tie.Need-refused-requires
 refused-requires c κs = search needs
 
--- src/messages.rt:93:9
 gapped-requires : tie.Need-gapped-requires
 gapped-requires c κs = search needs
 
--- src/messages.rt:94:15
 slice-aggregate-with : tie.Need-slice-aggregate-with
 slice-aggregate-with c = search needs
 
--- src/messages.rt:94:5
 with-requires : tie.Need-with-requires
 with-requires c κs = search needs
 
--- src/messages.rt:89:1
 returns : tie.Need-returns
 unfolding codes
-returns c = let a = c .before .before .before .before .before .before .before .before .args in stop-so (a .lines) (a .number) (a .position) (a .found) _ (c .before .before .before .before .before .before .before .blank .ensures) (c .before .before .before .before .before .next .ensures) (c .before .before .before .before .said .ensures) (c .before .before .before .refused .ensures) (c .before .before .gapped .ensures) (c .with .ensures)
+returns c = let a =
+    c .before .before .before .before .before .before .before .before .args in stop-so (a .lines) (a .number)
+    (a .position) (a .found) _ (c .before .before .before .before .before .before .before .blank .ensures)
+    (c .before .before .before .before .before .next .ensures) (c .before .before .before .before .said .ensures)
+    (c .before .before .before .refused .ensures) (c .before .before .gapped .ensures) (c .with .ensures)
 
 pub stopped-spec : {M : Type 1} → statement M
 stopped-spec =

@@ -1,4 +1,4 @@
-use Rattle.reports.specs.Choices.{behind-there, behind-not}
+use Rattle.reports.specs.ChoicesLaws.{behind-there, behind-not}
 use Rattle.texts.specs.Text.{room, told}
 use mathlib.Core.Path.{_≡_, refl, sym, ap, _∙_}
 use native.Mathlib.Omega.{arith}
@@ -8,15 +8,12 @@ use Rattle.reports.proofs.options.behind.Tie as tie
 use Rattle.reports.proofs.options.behind.Reads as reads
 use Rattle.reports.proofs.options.behind.Lts as lts
 
--- src/options.rt:84:16
 add-result : tie.Need-add-result
 add-result c = search needs
 
--- src/options.rt:84:9
 returns : tie.Need-returns
 returns c = behind-there (c .before .args .i) (c .before .args .there) (c .if1 .taken)
 
--- src/options.rt:79:1
 returns-2 : tie.Need-returns-2
 returns-2 c = behind-not (c .before .args .i) (c .before .args .there) (c .if1 .left)
 

@@ -10,15 +10,12 @@ use Rattle.reports.proofs.options.is_dash.Reads as reads
 use Rattle.reports.proofs.options.is_dash.Lts as lts
 use Rattle.parts.proofs.same.Reads as same-reads
 
--- src/options.rt:111:23
 slice-aggregate-same : tie.Need-slice-aggregate-same
 slice-aggregate-same c = search needs
 
--- src/options.rt:111:5
 same-requires : tie.Need-same-requires
 same-requires c κs = search needs
 
--- src/options.rt:108:1
 returns : tie.Need-returns
 unfolding isDash codes
 returns c = c .same .ensures

@@ -8,20 +8,16 @@ use Rattle.reports.proofs.options.with_after.Tie as tie
 use Rattle.reports.proofs.options.with_after.Reads as reads
 use Rattle.reports.proofs.options.with_after.Lts as lts
 
--- src/options.rt:42:20
 enum-known-number : tie.Need-enum-known-number
 enum-known-number c = search needs
 
--- src/options.rt:49:24
 enum-told : tie.Need-enum-told
 enum-told c = search needs
 
--- src/options.rt:38:1
 returns : tie.Need-returns
 unfolding withAfter
 returns c = sym (ap (withAfter (c .before .before .before .args .asked)) (c .before .number .given .1))
 
--- src/options.rt:38:1
 returns-2 : tie.Need-returns-2
 unfolding withAfter
 returns-2 c = sym (ap (withAfter (c .before .before .args .asked)) (c .enum-told .given .1))

@@ -7,7 +7,6 @@ use Rattle.reports.proofs.options.with_numbers.Tie as tie
 use Rattle.reports.proofs.options.with_numbers.Reads as reads
 use Rattle.reports.proofs.options.with_numbers.Lts as lts
 
--- src/options.rt:13:1
 returns : tie.Need-returns
 unfolding withNumbers
 returns c = refl

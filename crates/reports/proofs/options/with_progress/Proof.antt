@@ -7,7 +7,6 @@ use Rattle.reports.proofs.options.with_progress.Tie as tie
 use Rattle.reports.proofs.options.with_progress.Reads as reads
 use Rattle.reports.proofs.options.with_progress.Lts as lts
 
--- src/options.rt:25:1
 returns : tie.Need-returns
 unfolding withProgress
 returns c = refl

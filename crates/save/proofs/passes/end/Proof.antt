@@ -2,8 +2,10 @@ use lib.ListN.{length-take}
 use native.Mathlib.Omega.{arith}
 use borrow.Author.Needs.{needs}
 use Rattle.model.specs.Layout.{monitorLine}
-use Rattle.save.specs.Text.{endText, length-endText}
-use Rattle.save.specs.Passed.{passed, one-line-at}
+use Rattle.save.specs.Text.{endText}
+use Rattle.save.specs.TextLaws.{length-endText}
+use Rattle.save.specs.Passed.{passed}
+use Rattle.save.specs.PassedLaws.{one-line-at}
 use Rattle.save.proofs.passes.end.Statement.{statement}
 use Rattle.save.proofs.passes.end.Tie as tie
 use Rattle.save.proofs.passes.end.Reads as reads
@@ -11,29 +13,50 @@ use Rattle.save.proofs.passes.end.Lts as lts
 use Rattle.save.proofs.past.Reads as past-reads
 use Rattle.save.proofs.put_end.Reads as put-end-reads
 
--- src/passes.rt:77:28
 slice-aggregate-put-end : tie.Need-slice-aggregate-put-end
 slice-aggregate-put-end c = search needs
 
--- src/passes.rt:77:9
 put-end-requires : tie.Need-put-end-requires
 put-end-requires c κs = search needs
 
--- src/passes.rt:78:20
 array-share-prefix-line : tie.Need-array-share-prefix-line
-array-share-prefix-line c = one-line-at (endText (c .before .before .before .before .args .mons) (c .before .before .before .before .args .pairs)) monitorLine (omega (arith, length-endText (c .before .before .before .before .args .mons) (c .before .before .before .before .args .pairs))) (c .before .put-end .ensures) .within
+array-share-prefix-line c =
+    one-line-at (endText (c .before .before .before .before .args .mons)
+    (c .before .before .before .before .args .pairs)) monitorLine
+    (omega (
+      arith,
+      length-endText (c .before .before .before .before .args .mons)
+          (c .before .before .before .before .args .pairs),
+    )) (c .before .put-end .ensures) .within
 
--- src/passes.rt:78:20
 slice-aggregate-past : tie.Need-slice-aggregate-past
-slice-aggregate-past c = simp length-take (omega (arith, one-line-at (endText (c .before .before .before .before .before .args .mons) (c .before .before .before .before .before .args .pairs)) monitorLine (omega (arith, length-endText (c .before .before .before .before .before .args .mons) (c .before .before .before .before .before .args .pairs))) (c .before .before .put-end .ensures) .within))
+slice-aggregate-past c =
+    simp length-take
+    (omega (
+      arith,
+      one-line-at
+          (endText (c .before .before .before .before .before .args .mons)
+          (c .before .before .before .before .before .args .pairs)) monitorLine
+          (omega (
+            arith,
+            length-endText (c .before .before .before .before .before .args .mons)
+                (c .before .before .before .before .before .args .pairs),
+          )) (c .before .before .put-end .ensures) .within,
+    ))
 
--- src/passes.rt:78:5
 past-requires : tie.Need-past-requires
 past-requires c κs = search needs
 
--- src/passes.rt:72:1
 returns : tie.Need-returns
-returns c = rw (one-line-at (endText (c .before .before .before .before .before .before .args .mons) (c .before .before .before .before .before .before .args .pairs)) monitorLine (omega (arith, length-endText (c .before .before .before .before .before .before .args .mons) (c .before .before .before .before .before .before .args .pairs))) (c .before .before .before .put-end .ensures) .text) at (c .past .ensures)
+returns c = rw (one-line-at
+    (endText (c .before .before .before .before .before .before .args .mons)
+    (c .before .before .before .before .before .before .args .pairs)) monitorLine
+    (omega (
+      arith,
+      length-endText (c .before .before .before .before .before .before .args .mons)
+          (c .before .before .before .before .before .before .args .pairs),
+    ))
+    (c .before .before .before .put-end .ensures) .text) at (c .past .ensures)
 
 pub end-spec : {M : Type 1} → statement M
 end-spec =

@@ -2,8 +2,10 @@ use lib.ListN.{length-take}
 use native.Mathlib.Omega.{arith}
 use borrow.Author.Needs.{needs}
 use Rattle.model.specs.Layout.{monitorLine}
-use Rattle.save.specs.Text.{pairText, length-pairText}
-use Rattle.save.specs.Passed.{passed, one-line-at}
+use Rattle.save.specs.Text.{pairText}
+use Rattle.save.specs.TextLaws.{length-pairText}
+use Rattle.save.specs.Passed.{passed}
+use Rattle.save.specs.PassedLaws.{one-line-at}
 use Rattle.save.proofs.passes.pair.Statement.{statement}
 use Rattle.save.proofs.passes.pair.Tie as tie
 use Rattle.save.proofs.passes.pair.Reads as reads
@@ -11,29 +13,36 @@ use Rattle.save.proofs.passes.pair.Lts as lts
 use Rattle.save.proofs.past.Reads as past-reads
 use Rattle.save.proofs.put_pair.Reads as put-pair-reads
 
--- src/passes.rt:53:29
 slice-aggregate-put-pair : tie.Need-slice-aggregate-put-pair
 slice-aggregate-put-pair c = search needs
 
--- src/passes.rt:53:9
 put-pair-requires : tie.Need-put-pair-requires
 put-pair-requires c κs = search needs
 
--- src/passes.rt:54:20
 array-share-prefix-line : tie.Need-array-share-prefix-line
-array-share-prefix-line c = one-line-at (pairText (c .before .before .before .before .before .args .row .now)) monitorLine (omega (arith, length-pairText (c .before .before .before .before .before .args .row .now))) (c .before .put-pair .ensures) .within
+array-share-prefix-line c =
+    one-line-at (pairText (c .before .before .before .before .before .args .row .now)) monitorLine
+    (omega (arith, length-pairText (c .before .before .before .before .before .args .row .now)))
+    (c .before .put-pair .ensures) .within
 
--- src/passes.rt:54:20
 slice-aggregate-past : tie.Need-slice-aggregate-past
-slice-aggregate-past c = simp length-take (omega (arith, one-line-at (pairText (c .before .before .before .before .before .before .args .row .now)) monitorLine (omega (arith, length-pairText (c .before .before .before .before .before .before .args .row .now))) (c .before .before .put-pair .ensures) .within))
+slice-aggregate-past c =
+    simp length-take
+    (omega (
+      arith,
+      one-line-at (pairText (c .before .before .before .before .before .before .args .row .now))
+          monitorLine (omega (arith, length-pairText (c .before .before .before .before .before .before .args .row .now)))
+          (c .before .before .put-pair .ensures) .within,
+    ))
 
--- src/passes.rt:54:5
 past-requires : tie.Need-past-requires
 past-requires c κs = search needs
 
--- src/passes.rt:48:1
 returns : tie.Need-returns
-returns c = rw (one-line-at (pairText (c .before .before .before .before .before .before .before .args .row .now)) monitorLine (omega (arith, length-pairText (c .before .before .before .before .before .before .before .args .row .now))) (c .before .before .before .put-pair .ensures) .text) at (c .past .ensures)
+returns c = rw (one-line-at (pairText (c .before .before .before .before .before .before .before .args .row .now))
+    monitorLine (omega
+    (arith, length-pairText (c .before .before .before .before .before .before .before .args .row .now)))
+    (c .before .before .before .put-pair .ensures) .text) at (c .past .ensures)
 
 pub pair-spec : {M : Type 1} → statement M
 pair-spec =

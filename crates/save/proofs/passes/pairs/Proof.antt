@@ -5,8 +5,9 @@ use native.Mathlib.Omega.{arith}
 use borrow.Author.Needs.{needs}
 use Rattle.model.specs.Layout.{mostMonitors}
 use Rattle.save.specs.Text.{pairsText}
-use Rattle.save.specs.Steps.{part-pair}
-use Rattle.save.specs.Passed.{passed, pairs-begin, pair-passed}
+use Rattle.save.specs.StepsTurns.{part-pair}
+use Rattle.save.specs.Passed.{passed}
+use Rattle.save.specs.PassedLaws.{pairs-begin, pair-passed}
 use Rattle.save.proofs.passes.pairs.Statement.{statement}
 use Rattle.save.proofs.passes.pairs.Tie as tie
 use Rattle.save.proofs.passes.pairs.Reads as reads
@@ -19,54 +20,48 @@ Inv-loop s text from n at₀ i₀ at i = (i ≤ n) × (at ≡ passed text from (
 abbrev μ-loop : tie.MeasureT-loop
 μ-loop s text from n at₀ i₀ at i = n - i
 
--- src/passes.rt:63:5
 loop-holds : tie.Need-loop-holds Inv-loop μ-loop
-loop-holds c = let a = c .before .before .args in (omega arith, pairs-begin (a .text .now) (omega arith) (a .s .now) (a .from))
+loop-holds c = let a =
+    c .before .before .args in (omega arith, pairs-begin (a .text .now) (omega arith) (a .s .now) (a .from))
 
--- src/passes.rt:64:35
 mul-b : tie.Need-mul-b Inv-loop μ-loop
 mul-b c = omega arith
 
--- src/passes.rt:64:17
 add-b : tie.Need-add-b Inv-loop μ-loop
 add-b c = omega arith
 
--- src/passes.rt:65:17
 add-e : tie.Need-add-e Inv-loop μ-loop
 add-e c = omega arith
 
--- src/passes.rt:66:19
 sub-pair : tie.Need-sub-pair Inv-loop μ-loop
 sub-pair c = omega arith
 
--- src/passes.rt:66:19
 part-pair-start : tie.Need-part-pair-start Inv-loop μ-loop
 part-pair-start c = search needs
 
--- src/passes.rt:66:19
 part-pair-end : tie.Need-part-pair-end Inv-loop μ-loop
 part-pair-end c = search needs
 
--- src/passes.rt:66:9
 pair-requires : tie.Need-pair-requires Inv-loop μ-loop
 pair-requires c κs = simp (length-take, length-drop) (omega arith)
 
--- src/passes.rt:67:9
 add-i : tie.Need-add-i Inv-loop μ-loop
 add-i c = omega arith
 
--- src/passes.rt:63:5
 loop-less : tie.Need-loop-less Inv-loop μ-loop
 loop-less c = omega arith
 
--- src/passes.rt:63:5
 loop-again : tie.Need-loop-again Inv-loop μ-loop
-loop-again c = let a = c .before .before .before .before .before .before .args in let l = c .before .before .before .loop in
-    (omega arith, pair-passed (a .text .now) (omega arith) (a .s .now) (a .from) (l .i) (rw (part-pair (a .s .now) (l .i), l .inv .1) at (c .pair .ensures)))
+loop-again c = let a = c .before .before .before .before .before .before .args in let l =
+    c .before .before .before .loop in (
+      omega arith,
+      pair-passed (a .text .now) (omega arith) (a .s .now) (a .from) (l .i)
+          (rw (part-pair (a .s .now) (l .i), l .inv .1) at (c .pair .ensures)),
+    )
 
--- src/passes.rt:57:1
 returns : tie.Need-returns Inv-loop μ-loop
-returns c = let e : c .before .loop .i ≡ c .before .before .before .before .args .n = omega arith in rw e at (c .before .loop .inv .1)
+returns c = let e : c .before .loop .i ≡ c .before .before .before .before .args .n =
+    omega arith in rw e at (c .before .loop .inv .1)
 
 pub pairs-spec : {M : Type 1} → statement M
 pairs-spec =

@@ -1,6 +1,6 @@
 use native.Mathlib.Omega.{arith}
 use borrow.Author.Needs.{needs}
-use Rattle.save.specs.Passed.{rest-passed}
+use Rattle.save.specs.PassedLaws.{rest-passed}
 use Rattle.save.proofs.passes.rest.Statement.{statement}
 use Rattle.save.proofs.passes.rest.Tie as tie
 use Rattle.save.proofs.passes.rest.Reads as reads
@@ -11,34 +11,29 @@ use Rattle.save.proofs.passes.end.Reads as end-reads
 use Rattle.save.proofs.passes.monitors.Reads as monitors-reads
 use Rattle.save.proofs.passes.pairs.Reads as pairs-reads
 
--- src/passes.rt:86:29
 shared-slice-read-at-most : tie.Need-shared-slice-read-at-most
 shared-slice-read-at-most c = search needs
 
--- src/passes.rt:86:9
 at-most-requires : tie.Need-at-most-requires
 at-most-requires c κs = search needs
 
--- src/passes.rt:87:9
 live-in-requires : tie.Need-live-in-requires
 live-in-requires c κs = search needs
 
--- src/passes.rt:88:9
 monitors-requires : tie.Need-monitors-requires
 monitors-requires c κs = search needs
 
--- src/passes.rt:89:9
 pairs-requires : tie.Need-pairs-requires
 pairs-requires c κs = search needs
 
--- src/passes.rt:90:5
 end-requires : tie.Need-end-requires
 end-requires c κs = search needs
 
--- src/passes.rt:82:1
 returns : tie.Need-returns
 returns c = let a = c .before .before .before .before .before .before .before .before .args in
-    rest-passed (a .text .now) (omega arith) (a .s .now) _ _ _ _ (c .before .before .before .before .at-most .ensures .0) (c .before .before .before .live-in .ensures .0) (c .before .before .monitors .ensures) (c .before .pairs .ensures) (c .end .ensures)
+    rest-passed (a .text .now) (omega arith) (a .s .now) _ _ _ _
+    (c .before .before .before .before .at-most .ensures .0) (c .before .before .before .live-in .ensures .0)
+    (c .before .before .monitors .ensures) (c .before .pairs .ensures) (c .end .ensures)
 
 pub rest-spec : {M : Type 1} → statement M
 rest-spec =

@@ -1,20 +1,17 @@
 use native.Mathlib.Omega.{arith}
-use Rattle.sheets.specs.Signs.{above-past, above-in}
+use Rattle.sheets.specs.SignsLaws.{above-past, above-in}
 use borrow.Author.Needs.{needs}
 use Rattle.sheets.proofs.reads.above.Statement.{statement}
 use Rattle.sheets.proofs.reads.above.Tie as tie
 use Rattle.sheets.proofs.reads.above.Reads as reads
 use Rattle.sheets.proofs.reads.above.Lts as lts
 
--- src/reads.rt:82:9
 returns : tie.Need-returns
 returns c = above-past (c .before .args .n) (omega arith)
 
--- src/reads.rt:84:5
 cast-result : tie.Need-cast-result
 cast-result c = search needs
 
--- src/reads.rt:78:1
 returns-2 : tie.Need-returns-2
 returns-2 c = above-in (c .before .args .n) (omega arith)
 

@@ -1,32 +1,26 @@
 use native.Mathlib.Omega.{arith}
-use Rattle.sheets.specs.Signs.{below-zero, below-past, minus-fits, minus-is}
+use Rattle.sheets.specs.SignsLaws.{below-zero, below-past, minus-fits, minus-is}
 use borrow.Author.Needs.{needs}
 use Rattle.sheets.proofs.reads.below.Statement.{statement}
 use Rattle.sheets.proofs.reads.below.Tie as tie
 use Rattle.sheets.proofs.reads.below.Reads as reads
 use Rattle.sheets.proofs.reads.below.Lts as lts
 
--- src/reads.rt:91:9
 returns : tie.Need-returns
 returns c = below-zero (c .before .args .n) (omega arith)
 
--- src/reads.rt:94:9
 returns-2 : tie.Need-returns-2
 returns-2 c = below-past (c .before .before .args .n) (omega arith)
 
--- src/reads.rt:96:14
 sub-k : tie.Need-sub-k
 sub-k c = search needs
 
--- src/reads.rt:96:13
 cast-k : tie.Need-cast-k
 cast-k c = search needs
 
--- src/reads.rt:97:5
 sub-result : tie.Need-sub-result
 sub-result c = minus-fits (c .before .before .args .n) (λ z. c .before .if1 .left z) (omega arith)
 
--- src/reads.rt:87:1
 returns-3 : tie.Need-returns-3
 returns-3 c = minus-is (c .before .before .args .n) (λ z. c .before .if1 .left z) (omega arith)
 

@@ -1,20 +1,17 @@
 use native.Mathlib.Omega.{arith}
-use Rattle.sheets.specs.Reading.{past-minus}
+use Rattle.sheets.specs.ReadingLaws.{past-minus}
 use borrow.Author.Needs.{needs}
 use Rattle.sheets.proofs.reads.has_minus.Statement.{statement}
 use Rattle.sheets.proofs.reads.has_minus.Tie as tie
 use Rattle.sheets.proofs.reads.has_minus.Reads as reads
 use Rattle.sheets.proofs.reads.has_minus.Lts as lts
 
--- src/reads.rt:105:16
 shared-slice-read-result : tie.Need-shared-slice-read-result
 shared-slice-read-result c = search needs
 
--- src/reads.rt:105:9
 returns : tie.Need-returns
 returns c = search needs
 
--- src/reads.rt:101:1
 returns-2 : tie.Need-returns-2
 returns-2 c = past-minus (c .before .args .text .now) (c .before .args .at) (omega arith)
 

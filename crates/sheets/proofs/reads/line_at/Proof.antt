@@ -1,4 +1,4 @@
-use Rattle.sheets.specs.Reading.{lined, summed-back}
+use Rattle.sheets.specs.ReadingLaws.{lined, summed-back}
 use borrow.Author.Needs.{needs}
 use Rattle.sheets.proofs.reads.line_at.Statement.{statement}
 use Rattle.sheets.proofs.reads.line_at.Tie as tie
@@ -7,29 +7,27 @@ use Rattle.sheets.proofs.reads.line_at.Lts as lts
 use Rattle.sheets.proofs.reads.count_at.Reads as count-at-reads
 use Rattle.sheets.proofs.reads.sum_at.Reads as sum-at-reads
 
--- src/reads.rt:126:9
 count-at-requires : tie.Need-count-at-requires
 count-at-requires c κs = search needs
 
--- src/reads.rt:127:9
 count-at-requires-2 : tie.Need-count-at-requires-2
 count-at-requires-2 c κs = search needs
 
--- src/reads.rt:128:9
 count-at-requires-3 : tie.Need-count-at-requires-3
 count-at-requires-3 c κs = search needs
 
--- src/reads.rt:129:9
 count-at-requires-4 : tie.Need-count-at-requires-4
 count-at-requires-4 c κs = search needs
 
--- src/reads.rt:130:9
 sum-at-requires : tie.Need-sum-at-requires
 sum-at-requires c κs = search needs
 
--- src/reads.rt:122:1
 returns : tie.Need-returns
-returns c = let a = c .before .before .before .before .before .before .before .args in lined (a .text .now) (a .at) _ _ _ _ _ _ _ _ _ _ (c .before .before .before .before .before .count-at .ensures) (c .before .before .before .before .count-at2 .ensures) (c .before .before .before .count-at3 .ensures) (c .before .before .count-at4 .ensures) (summed-back (a .text .now) _ _ _ (c .before .sum-at .ensures))
+returns c = let a =
+    c .before .before .before .before .before .before .before .args in lined (a .text .now) (a .at) _ _ _ _ _ _ _ _ _
+    _ (c .before .before .before .before .before .count-at .ensures)
+    (c .before .before .before .before .count-at2 .ensures) (c .before .before .before .count-at3 .ensures)
+    (c .before .before .count-at4 .ensures) (summed-back (a .text .now) _ _ _ (c .before .sum-at .ensures))
 
 pub line-at-spec : {M : Type 1} → statement M
 line-at-spec =

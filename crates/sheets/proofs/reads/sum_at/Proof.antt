@@ -1,6 +1,6 @@
 use native.Mathlib.Omega.{arith}
 use mathlib.Core.Path.{sym, _∙_}
-use Rattle.sheets.specs.Reading.{minus-in, summed-below, summed-above, summed-back}
+use Rattle.sheets.specs.ReadingLaws.{minus-in, summed-below, summed-above, summed-back}
 use borrow.Author.Needs.{needs}
 use Rattle.sheets.proofs.reads.sum_at.Statement.{statement}
 use Rattle.sheets.proofs.reads.sum_at.Tie as tie
@@ -11,37 +11,38 @@ use Rattle.sheets.proofs.reads.below.Reads as below-reads
 use Rattle.sheets.proofs.reads.count_at.Reads as count-at-reads
 use Rattle.sheets.proofs.reads.has_minus.Reads as has-minus-reads
 
--- src/reads.rt:114:8
 has-minus-requires : tie.Need-has-minus-requires
 has-minus-requires c κs = search needs
 
--- src/reads.rt:115:32
 add-count-at : tie.Need-add-count-at
 add-count-at c = search needs
 
--- src/reads.rt:115:13
 count-at-requires : tie.Need-count-at-requires
-count-at-requires c κs = let h = minus-in (c .before .before .before .args .text .now) (c .before .before .before .args .at) (sym (c .before .has-minus .ensures) ∙ c .if1 .taken) in omega (arith, h)
+count-at-requires c κs = let h =
+    minus-in (c .before .before .before .args .text .now) (c .before .before .before .args .at)
+    (sym (c .before .has-minus .ensures) ∙ c .if1 .taken) in omega (arith, h)
 
--- src/reads.rt:116:29
 below-requires : tie.Need-below-requires
 below-requires c κs = search needs
 
--- src/reads.rt:116:9
 returns : tie.Need-returns
-returns c = let a = c .before .before .before .before .before .args in let e = sym (c .before .before .before .has-minus .ensures) ∙ c .before .before .if1 .taken in summed-back (a .text .now) (a .at) _ _ (summed-below (a .text .now) (a .at) _ _ (minus-in (a .text .now) (a .at) e) e (c .before .count-at .ensures) (c .below .ensures))
+returns c = let a = c .before .before .before .before .before .args in let e =
+    sym (c .before .before .before .has-minus .ensures)
+    ∙ c .before .before .if1 .taken in summed-back (a .text .now) (a .at) _ _
+    (summed-below (a .text .now) (a .at) _ _ (minus-in (a .text .now) (a .at) e) e (c .before .count-at .ensures)
+    (c .below .ensures))
 
--- src/reads.rt:118:9
 count-at-requires-2 : tie.Need-count-at-requires-2
 count-at-requires-2 c κs = search needs
 
--- src/reads.rt:119:18
 above-requires : tie.Need-above-requires
 above-requires c κs = search needs
 
--- src/reads.rt:110:1
 returns-2 : tie.Need-returns-2
-returns-2 c = let a = c .before .before .before .before .before .args in let e = sym (c .before .before .before .has-minus .ensures) ∙ c .before .before .if1 .left in summed-back (a .text .now) (a .at) _ _ (summed-above (a .text .now) (a .at) _ _ e (c .before .count-at2 .ensures) (c .above .ensures))
+returns-2 c = let a = c .before .before .before .before .before .args in let e =
+    sym (c .before .before .before .has-minus .ensures)
+    ∙ c .before .before .if1 .left in summed-back (a .text .now) (a .at) _ _
+    (summed-above (a .text .now) (a .at) _ _ e (c .before .count-at2 .ensures) (c .above .ensures))
 
 pub sum-at-spec : {M : Type 1} → statement M
 sum-at-spec =

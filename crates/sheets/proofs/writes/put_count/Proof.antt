@@ -2,7 +2,7 @@ use native.Mathlib.Omega.{arith}
 use lib.Seq.{length-take-le}
 use lib.ListN.{length}
 use mathlib.Core.Path.{_≡_, sym, _∙_}
-use Rattle.sheets.specs.Writing.{digits-so, count-put}
+use Rattle.sheets.specs.WritingLaws.{digits-so, count-put}
 use borrow.Author.Needs.{needs}
 use Rattle.sheets.proofs.writes.put_count.Statement.{statement}
 use Rattle.sheets.proofs.writes.put_count.Tie as tie
@@ -11,49 +11,59 @@ use Rattle.sheets.proofs.writes.put_count.Lts as lts
 use Rattle.decimals.proofs.write.Reads as write-reads
 use Rattle.parts.proofs.copy.Reads as copy-reads
 
--- src/writes.rt:24:29
 slice-aggregate-write : tie.Need-slice-aggregate-write
 slice-aggregate-write c = search needs
 
--- src/writes.rt:24:45
 sub-write : tie.Need-sub-write
 sub-write c = search needs
 
--- src/writes.rt:24:9
 write-requires : tie.Need-write-requires
 write-requires c κs = search needs
 
--- src/writes.rt:25:26
 array-share-prefix-digits : tie.Need-array-share-prefix-digits
-array-share-prefix-digits c = let w = digits-so (c .before .before .before .before .before .args .n) (c .before .before .write .result) _ (c .before .before .write .last .0) (omega arith) (c .before .before .write .ensures) in omega (arith, w .most)
+array-share-prefix-digits c = let w =
+    digits-so (c .before .before .before .before .before .args .n) (c .before .before .write .result) _
+    (c .before .before .write .last .0) (omega arith) (c .before .before .write .ensures) in omega (arith, w .most)
 
--- src/writes.rt:25:26
 slice-aggregate-copy : tie.Need-slice-aggregate-copy
-slice-aggregate-copy c = let w = digits-so (c .before .before .before .before .before .before .args .n) (c .before .before .before .write .result) _ (c .before .before .before .write .last .0) (omega arith) (c .before .before .before .write .ensures) in sym (length-take-le _ _ (omega (arith, w .most)))
+slice-aggregate-copy c = let w =
+    digits-so (c .before .before .before .before .before .before .args .n) (c .before .before .before .write .result)
+    _ (c .before .before .before .write .last .0) (omega arith) (c .before .before .before .write .ensures) in sym
+    (length-take-le _ _ (omega (arith, w .most)))
 
--- src/writes.rt:25:5
 copy-requires : tie.Need-copy-requires
 copy-requires c κs = search needs
 
--- src/writes.rt:26:13
 add-e : tie.Need-add-e
-add-e c = let w = digits-so (c .before .before .before .before .before .before .before .before .before .args .n) (c .before .before .before .before .before .before .write .result) _ (c .before .before .before .before .before .before .write .last .0) (omega arith) (c .before .before .before .before .before .before .write .ensures) in omega (arith, w .most)
+add-e c = let w =
+    digits-so (c .before .before .before .before .before .before .before .before .before .args .n)
+    (c .before .before .before .before .before .before .write .result) _
+    (c .before .before .before .before .before .before .write .last .0) (omega arith)
+    (c .before .before .before .before .before .before .write .ensures) in omega (arith, w .most)
 
--- src/writes.rt:27:5
 slice-write-out : tie.Need-slice-write-out
-slice-write-out c = let w = digits-so (c .before .before .before .before .before .before .before .before .before .args .n) (c .before .before .before .before .before .before .write .result) _ (c .before .before .before .before .before .before .write .last .0) (omega arith) (c .before .before .before .before .before .before .write .ensures) in omega (arith, w .most)
+slice-write-out c = let w =
+    digits-so (c .before .before .before .before .before .before .before .before .before .args .n)
+    (c .before .before .before .before .before .before .write .result) _
+    (c .before .before .before .before .before .before .write .last .0) (omega arith)
+    (c .before .before .before .before .before .before .write .ensures) in omega (arith, w .most)
 
--- src/writes.rt:28:5
 add-result : tie.Need-add-result
-add-result c = let w = digits-so (c .before .before .before .before .before .before .before .before .before .args .n) (c .before .before .before .before .before .before .write .result) _ (c .before .before .before .before .before .before .write .last .0) (omega arith) (c .before .before .before .before .before .before .write .ensures) in omega (arith, w .most)
+add-result c = let w =
+    digits-so (c .before .before .before .before .before .before .before .before .before .args .n)
+    (c .before .before .before .before .before .before .write .result) _
+    (c .before .before .before .before .before .before .write .last .0) (omega arith)
+    (c .before .before .before .before .before .before .write .ensures) in omega (arith, w .most)
 
--- src/writes.rt:19:1
 same-length : tie.Need-same-length
 same-length c = search needs
 
--- src/writes.rt:19:1
 returns : tie.Need-returns
-returns c = let a = c .before .before .before .before .before .before .before .before .before .args in let w = digits-so (a .n) (c .before .before .before .before .before .before .write .result) _ (c .before .before .before .before .before .before .write .last .0) (omega arith) (c .before .before .before .before .before .before .write .ensures) in count-put (a .n) (a .end) (a .at) _ _ (a .out .now) _ (omega arith) w (c .before .before .copy .ensures .0) (c .before .before .copy .ensures .1)
+returns c = let a = c .before .before .before .before .before .before .before .before .before .args in let w =
+    digits-so (a .n) (c .before .before .before .before .before .before .write .result) _
+    (c .before .before .before .before .before .before .write .last .0) (omega arith)
+    (c .before .before .before .before .before .before .write .ensures) in count-put (a .n) (a .end) (a .at) _ _
+    (a .out .now) _ (omega arith) w (c .before .before .copy .ensures .0) (c .before .before .copy .ensures .1)
 
 pub put-count-spec : {M : Type 1} → statement M
 put-count-spec =

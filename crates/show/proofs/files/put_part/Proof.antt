@@ -9,19 +9,15 @@ use Rattle.show.proofs.files.put_part.Reads as reads
 use Rattle.show.proofs.files.put_part.Lts as lts
 use Rattle.io.proofs.write_all.Reads as write-all-reads
 
--- src/files.rt:16:9
 returns : tie.Need-returns
 returns c = search needs
 
--- src/files.rt:18:23
 slice-aggregate-write-all : tie.Need-slice-aggregate-write-all
 slice-aggregate-write-all c = sym (length-take-le _ _ (omega arith))
 
--- src/files.rt:18:5
 write-all-requires : tie.Need-write-all-requires
 write-all-requires c κs = search needs
 
--- src/files.rt:14:1
 returns-2 : tie.Need-returns-2
 returns-2 c = search needs
 

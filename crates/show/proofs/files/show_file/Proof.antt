@@ -21,67 +21,63 @@ Inv-loop words₀ fd name progress bad line₀ buf₀ feed₀ run₀ left₀ wor
 abbrev μ-loop : tie.MeasureT-loop
 μ-loop words₀ fd name progress bad line₀ buf₀ feed₀ run₀ left₀ words line buf feed run left = left
 
--- src/files.rt:83:19
 large-buffer-requires : tie.Need-large-buffer-requires Inv-loop μ-loop
 large-buffer-requires c κs = search needs
 
--- src/files.rt:84:9
 no-line-requires : tie.Need-no-line-requires Inv-loop μ-loop
 no-line-requires c κs = search needs
 
--- src/files.rt:91:5
 loop-holds : tie.Need-loop-holds Inv-loop μ-loop
 loop-holds c = search needs
 
--- src/files.rt:92:9
 sub-left : tie.Need-sub-left Inv-loop μ-loop
 sub-left c = omega arith
 
--- src/files.rt:93:41
 slice-aggregate-next-line : tie.Need-slice-aggregate-next-line Inv-loop μ-loop
 slice-aggregate-next-line c = search needs
 
--- src/files.rt:93:13
 next-line-requires : tie.Need-next-line-requires Inv-loop μ-loop
 next-line-requires c κs = search needs
 
--- src/files.rt:97:13
 rest-requires : tie.Need-rest-requires Inv-loop μ-loop
 rest-requires c κs = search needs
 
--- src/files.rt:98:13
 returns : tie.Need-returns Inv-loop μ-loop
 returns c = search needs
 
--- src/files.rt:100:33
 array-share-prefix-line : tie.Need-array-share-prefix-line Inv-loop μ-loop
-array-share-prefix-line c = omega (arith, c .before .before .before .before .next-line .ensures .1 (not-false _ (c .before .if1 .left)), c .before .before .before .before .next-line .ensures .0)
+array-share-prefix-line c =
+    omega (
+      arith,
+      c .before .before .before .before .next-line .ensures .1 (not-false _ (c .before .if1 .left)),
+      c .before .before .before .before .next-line .ensures .0,
+    )
 
--- src/files.rt:100:33
 slice-aggregate-given : tie.Need-slice-aggregate-given Inv-loop μ-loop
-slice-aggregate-given c = sym (length-take-le _ _ (omega (arith, c .before .before .before .before .before .next-line .ensures .1 (not-false _ (c .before .before .if1 .left)), c .before .before .before .before .before .next-line .ensures .0)))
+slice-aggregate-given c =
+    sym (length-take-le _ _
+    (omega (
+      arith,
+      c .before .before .before .before .before .next-line .ensures .1
+          (not-false _ (c .before .before .if1 .left)),
+      c .before .before .before .before .before .next-line .ensures .0,
+    )))
 
--- src/files.rt:100:13
 given-requires : tie.Need-given-requires Inv-loop μ-loop
 given-requires c κs = search needs
 
--- src/files.rt:101:9
 progress-requires : tie.Need-progress-requires Inv-loop μ-loop
 progress-requires c κs = search needs
 
--- src/files.rt:104:13
 returns-2 : tie.Need-returns-2 Inv-loop μ-loop
 returns-2 c = search needs
 
--- src/files.rt:91:5
 loop-less : tie.Need-loop-less Inv-loop μ-loop
 loop-less c = omega arith
 
--- src/files.rt:91:5
 loop-again : tie.Need-loop-again Inv-loop μ-loop
 loop-again c = search needs
 
--- src/files.rt:81:1
 returns-3 : tie.Need-returns-3 Inv-loop μ-loop
 returns-3 c = search needs
 

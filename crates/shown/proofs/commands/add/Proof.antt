@@ -1,4 +1,4 @@
-use Rattle.words.specs.Says.{then, taken, left}
+use Rattle.words.specs.SaysLaws.{then, taken, left}
 use Rattle.model.specs.Quoted.{codes}
 use borrow.Author.Tests.{lt-ltb, le-ltb}
 use Rattle.shown.specs.Commands.{addText}
@@ -14,43 +14,38 @@ use Rattle.shown.proofs.commands.raw.Reads as raw-reads
 use Rattle.words.proofs.behind.Reads as behind-reads
 use Rattle.words.proofs.put.Reads as put-reads
 
--- src/commands.rt:45:9
 raw-requires : tie.Need-raw-requires
 raw-requires c κs = search needs
 
--- src/commands.rt:45:9
 returns : tie.Need-returns
 unfolding addText
 returns c = taken _ _ (lt-ltb _ _ (c .before .before .if1 .taken)) (c .raw .ensures)
 
--- src/commands.rt:47:33
 slice-aggregate-put : tie.Need-slice-aggregate-put
 slice-aggregate-put c = search needs
 
--- src/commands.rt:47:9
 put-requires : tie.Need-put-requires
 put-requires c κs = search needs
 
--- src/commands.rt:48:9
 limits-requires : tie.Need-limits-requires
 limits-requires c κs = search needs
 
--- src/commands.rt:49:33
 get8-requires : tie.Need-get8-requires
 get8-requires c κs = search needs
 
--- src/commands.rt:49:53
 behind-requires : tie.Need-behind-requires
 behind-requires c κs = search needs
 
--- src/commands.rt:49:5
 condition-requires : tie.Need-condition-requires
 condition-requires c κs = search needs
 
--- src/commands.rt:41:1
 returns-2 : tie.Need-returns-2
 unfolding addText codes
-returns-2 c = left _ _ (le-ltb _ _ (c .before .before .before .before .before .before .before .before .before .if1 .left)) (then (then (c .before .before .before .before .before .before .put .ensures) (c .before .before .before .before .limits .ensures)) (rw (c .before .before .get8 .ensures, c .before .behind .ensures) at (c .condition .ensures)))
+returns-2 c = left _ _
+    (le-ltb _ _ (c .before .before .before .before .before .before .before .before .before .if1 .left))
+    (then (then (c .before .before .before .before .before .before .put .ensures)
+    (c .before .before .before .before .limits .ensures))
+    (rw (c .before .before .get8 .ensures, c .before .behind .ensures) at (c .condition .ensures)))
 
 pub add-spec : {M : Type 1} → statement M
 add-spec =

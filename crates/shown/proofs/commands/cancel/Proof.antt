@@ -1,4 +1,4 @@
-use Rattle.words.specs.Says.{taken, left}
+use Rattle.words.specs.SaysLaws.{taken, left}
 use Rattle.model.specs.Quoted.{codes}
 use borrow.Author.Tests.{eq-eqb, ne-eqb}
 use Rattle.shown.specs.Commands.{cancelText}
@@ -10,24 +10,19 @@ use Rattle.shown.proofs.commands.cancel.Lts as lts
 use Rattle.shown.proofs.commands.raw.Reads as raw-reads
 use Rattle.words.proofs.octet.Reads as octet-reads
 
--- src/commands.rt:70:38
 slice-aggregate-octet : tie.Need-slice-aggregate-octet
 slice-aggregate-octet c = search needs
 
--- src/commands.rt:70:9
 octet-requires : tie.Need-octet-requires
 octet-requires c κs = search needs
 
--- src/commands.rt:70:9
 returns : tie.Need-returns
 unfolding cancelText codes
 returns c = taken _ _ (eq-eqb _ _ (c .before .before .before .if1 .taken)) (c .octet .ensures)
 
--- src/commands.rt:72:5
 raw-requires : tie.Need-raw-requires
 raw-requires c κs = search needs
 
--- src/commands.rt:66:1
 returns-2 : tie.Need-returns-2
 unfolding cancelText
 returns-2 c = left _ _ (ne-eqb _ _ (c .before .before .if1 .left)) (c .raw .ensures)

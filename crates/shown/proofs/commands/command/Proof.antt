@@ -1,4 +1,4 @@
-use Rattle.words.specs.Says.{then}
+use Rattle.words.specs.SaysLaws.{then}
 use Rattle.model.specs.Quoted.{codes}
 use Rattle.shown.specs.Commands.{commandText}
 use borrow.Author.Needs.{needs}
@@ -14,46 +14,46 @@ use Rattle.words.proofs.number.Reads as number-reads
 use Rattle.words.proofs.part.Reads as part-reads
 use Rattle.words.proofs.put.Reads as put-reads
 
--- src/commands.rt:110:9
 get8-requires : tie.Need-get8-requires
 get8-requires c κs = search needs
 
--- src/commands.rt:111:36
 slice-aggregate-number : tie.Need-slice-aggregate-number
 slice-aggregate-number c = search needs
 
--- src/commands.rt:111:52
 part-requires : tie.Need-part-requires
 part-requires c κs = search needs
 
--- src/commands.rt:111:9
 number-requires : tie.Need-number-requires
 number-requires c κs = search needs
 
--- src/commands.rt:112:32
 slice-aggregate-put : tie.Need-slice-aggregate-put
 slice-aggregate-put c = search needs
 
--- src/commands.rt:112:9
 put-requires : tie.Need-put-requires
 put-requires c κs = search needs
 
--- src/commands.rt:113:9
 sub-requires : tie.Need-sub-requires
 sub-requires c κs = search needs
 
--- src/commands.rt:114:29
 behind-requires : tie.Need-behind-requires
 behind-requires c κs = search needs
 
--- src/commands.rt:114:5
 parameters-requires : tie.Need-parameters-requires
 parameters-requires c κs = search needs
 
--- src/commands.rt:107:1
 returns : tie.Need-returns
 unfolding commandText codes
-returns c = (then (then (then (rw (c .before .before .before .before .before .before .before .before .before .part .ensures) at (c .before .before .before .before .before .before .before .before .number .ensures)) (c .before .before .before .before .before .put .ensures)) (rw (c .before .before .before .before .before .before .before .before .before .before .before .before .get8 .ensures) at (c .before .before .before .sub .ensures))) (rw (c .before .before .before .before .before .before .before .before .before .before .before .before .get8 .ensures, c .before .behind .ensures) at (c .parameters .ensures)))
+returns c = (then
+    (then (then (rw (c .before .before .before .before .before .before .before .before .before .part .ensures) at
+    (c .before .before .before .before .before .before .before .before .number .ensures))
+    (c .before .before .before .before .before .put .ensures))
+    (rw (c .before .before .before .before .before .before .before .before .before .before .before .before .get8
+    .ensures) at (c .before .before .before .sub .ensures)))
+    (rw (
+      c .before .before .before .before .before .before .before .before .before .before .before .before .get8
+          .ensures,
+      c .before .behind .ensures,
+    ) at (c .parameters .ensures)))
 
 pub command-spec : {M : Type 1} → statement M
 command-spec =

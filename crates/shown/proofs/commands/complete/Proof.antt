@@ -1,4 +1,4 @@
-use Rattle.words.specs.Says.{then}
+use Rattle.words.specs.SaysLaws.{then}
 use Rattle.model.specs.Quoted.{codes}
 use Rattle.shown.specs.Commands.{completeText}
 use borrow.Author.Needs.{needs}
@@ -15,62 +15,66 @@ use Rattle.words.proofs.number.Reads as number-reads
 use Rattle.words.proofs.part.Reads as part-reads
 use Rattle.words.proofs.put.Reads as put-reads
 
--- src/commands.rt:138:9
 get8-requires : tie.Need-get8-requires
 get8-requires c κs = search needs
 
--- src/commands.rt:139:9
 get8-requires-2 : tie.Need-get8-requires-2
 get8-requires-2 c κs = search needs
 
--- src/commands.rt:140:35
 slice-aggregate-number : tie.Need-slice-aggregate-number
 slice-aggregate-number c = search needs
 
--- src/commands.rt:140:67
 part-requires : tie.Need-part-requires
 part-requires c κs = search needs
 
--- src/commands.rt:140:9
 number-requires : tie.Need-number-requires
 number-requires c κs = search needs
 
--- src/commands.rt:141:32
 slice-aggregate-put : tie.Need-slice-aggregate-put
 slice-aggregate-put c = search needs
 
--- src/commands.rt:141:9
 put-requires : tie.Need-put-requires
 put-requires c κs = search needs
 
--- src/commands.rt:142:9
 sub-requires : tie.Need-sub-requires
 sub-requires c κs = search needs
 
--- src/commands.rt:143:32
 slice-aggregate-put-2 : tie.Need-slice-aggregate-put-2
 slice-aggregate-put-2 c = search needs
 
--- src/commands.rt:143:9
 put-requires-2 : tie.Need-put-requires-2
 put-requires-2 c κs = search needs
 
--- src/commands.rt:144:9
 status-requires : tie.Need-status-requires
 status-requires c κs = search needs
 
--- src/commands.rt:145:35
 behind-requires : tie.Need-behind-requires
 behind-requires c κs = search needs
 
--- src/commands.rt:145:5
 returned-requires : tie.Need-returned-requires
 returned-requires c κs = search needs
 
--- src/commands.rt:135:1
 returns : tie.Need-returns
 unfolding completeText codes
-returns c = (then (then (then (then (then (rw (c .before .before .before .before .before .before .before .before .before .before .before .before .before .before .part .ensures) at (c .before .before .before .before .before .before .before .before .before .before .before .before .before .number .ensures)) (c .before .before .before .before .before .before .before .before .before .before .put .ensures)) (rw (c .before .before .before .before .before .before .before .before .before .before .before .before .before .before .before .before .before .get82 .ensures) at (c .before .before .before .before .before .before .before .before .sub .ensures))) (c .before .before .before .before .before .put2 .ensures)) (rw (c .before .before .before .before .before .before .before .before .before .before .before .before .before .before .before .before .before .before .get8 .ensures) at (c .before .before .before .status .ensures))) (rw (c .before .before .before .before .before .before .before .before .before .before .before .before .before .before .before .before .before .before .get8 .ensures, c .before .before .before .before .before .before .before .before .before .before .before .before .before .before .before .before .before .get82 .ensures, c .before .behind .ensures) at (c .returned .ensures)))
+returns c = (then
+    (then (then (then
+    (then (rw (c .before .before .before .before .before .before .before .before .before .before .before .before
+    .before .before .part .ensures) at
+    (c .before .before .before .before .before .before .before .before .before .before .before .before .before .number
+    .ensures)) (c .before .before .before .before .before .before .before .before .before .before .put .ensures))
+    (rw (c .before .before .before .before .before .before .before .before .before .before .before .before .before
+    .before .before .before .before .get82 .ensures) at
+    (c .before .before .before .before .before .before .before .before .sub .ensures)))
+    (c .before .before .before .before .before .put2 .ensures))
+    (rw (c .before .before .before .before .before .before .before .before .before .before .before .before .before
+    .before .before .before .before .before .get8 .ensures) at (c .before .before .before .status .ensures)))
+    (rw (
+      c .before .before .before .before .before .before .before .before .before .before .before .before .before
+          .before .before .before .before .before .get8 .ensures,
+      c .before .before .before .before .before .before .before .before .before .before .before .before .before .before
+          .before .before .before .get82 .ensures,
+      c .before .behind .ensures,
+    ) at (c .returned .ensures)))
 
 pub complete-spec : {M : Type 1} → statement M
 complete-spec =

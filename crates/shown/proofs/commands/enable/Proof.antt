@@ -1,4 +1,4 @@
-use Rattle.words.specs.Says.{then, taken, left}
+use Rattle.words.specs.SaysLaws.{then, taken, left}
 use Rattle.model.specs.Quoted.{codes}
 use Rattle.shown.specs.Commands.{enableText}
 use borrow.Author.Needs.{needs}
@@ -11,35 +11,33 @@ use Rattle.octets.proofs.get8.Reads as get8-reads
 use Rattle.shown.proofs.commands.raw.Reads as raw-reads
 use Rattle.words.proofs.put.Reads as put-reads
 
--- src/commands.rt:79:9
 get8-requires : tie.Need-get8-requires
 get8-requires c κs = search needs
 
--- src/commands.rt:81:37
 slice-aggregate-put : tie.Need-slice-aggregate-put
 slice-aggregate-put c = search needs
 
--- src/commands.rt:81:13
 put-requires : tie.Need-put-requires
 put-requires c κs = search needs
 
--- src/commands.rt:82:9
 switch-requires : tie.Need-switch-requires
 switch-requires c κs = search needs
 
--- src/commands.rt:82:9
 returns : tie.Need-returns
 unfolding enableText codes
-returns c = taken _ _ (rw (c .before .before .before .before .before .before .get8 .ensures) at (c .before .before .before .before .before .if1 .taken)) (then (c .before .before .put .ensures) (rw (c .before .before .before .before .before .before .get8 .ensures) at (c .switch .ensures)))
+returns c = taken _ _
+    (rw (c .before .before .before .before .before .before .get8 .ensures) at
+    (c .before .before .before .before .before .if1 .taken))
+    (then (c .before .before .put .ensures)
+    (rw (c .before .before .before .before .before .before .get8 .ensures) at (c .switch .ensures)))
 
--- src/commands.rt:84:5
 raw-requires : tie.Need-raw-requires
 raw-requires c κs = search needs
 
--- src/commands.rt:76:1
 returns-2 : tie.Need-returns-2
 unfolding enableText
-returns-2 c = left _ _ (rw (c .before .before .before .get8 .ensures) at (c .before .before .if1 .left)) (c .raw .ensures)
+returns-2 c = left _ _ (rw (c .before .before .before .get8 .ensures) at (c .before .before .if1 .left))
+    (c .raw .ensures)
 
 pub enable-spec : {M : Type 1} → statement M
 enable-spec =

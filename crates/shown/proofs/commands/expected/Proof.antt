@@ -1,4 +1,4 @@
-use Rattle.words.specs.Says.{taken, left}
+use Rattle.words.specs.SaysLaws.{taken, left}
 use borrow.Author.Tests.{lt-ltb, le-ltb}
 use Rattle.laws.specs.Tests.{pick}
 use Rattle.shown.specs.Commands.{expectedOf}
@@ -8,26 +8,21 @@ use Rattle.shown.proofs.commands.expected.Tie as tie
 use Rattle.shown.proofs.commands.expected.Reads as reads
 use Rattle.shown.proofs.commands.expected.Lts as lts
 
--- src/commands.rt:153:9
 returns : tie.Need-returns
 unfolding expectedOf Rattle.laws.specs.Tests.pick
 returns c = rw (c .if1 .taken)
 
--- src/commands.rt:156:9
 returns-2 : tie.Need-returns-2
 unfolding expectedOf Rattle.laws.specs.Tests.pick
 returns-2 c = rw (c .before .if1 .left, c .if2 .taken)
 
--- src/commands.rt:159:9
 returns-3 : tie.Need-returns-3
 unfolding expectedOf Rattle.laws.specs.Tests.pick
 returns-3 c = rw (c .before .before .if1 .left, c .before .if2 .left, lt-ltb _ _ (c .if3 .taken))
 
--- src/commands.rt:161:5
 add-result : tie.Need-add-result
 add-result c = search needs
 
--- src/commands.rt:149:1
 returns-4 : tie.Need-returns-4
 unfolding expectedOf Rattle.laws.specs.Tests.pick
 returns-4 c = rw (c .before .before .if1 .left, c .before .if2 .left, le-ltb _ _ (c .if3 .left))

@@ -1,4 +1,4 @@
-use Rattle.words.specs.Says.{taken, left}
+use Rattle.words.specs.SaysLaws.{taken, left}
 use borrow.Author.Tests.{lt-ltb, le-ltb}
 use Rattle.laws.specs.Tests.{pick}
 use Rattle.shown.specs.Commands.{isComplete}
@@ -11,51 +11,50 @@ use Rattle.octets.proofs.get8.Reads as get8-reads
 use Rattle.octets.proofs.wide.Reads as wide-reads
 use Rattle.shown.proofs.commands.expected.Reads as expected-reads
 
--- src/commands.rt:170:9
 returns : tie.Need-returns
 unfolding isComplete Rattle.laws.specs.Tests.pick
 returns c = rw (lt-ltb _ _ (c .if1 .taken))
 
--- src/commands.rt:172:31
 get8-requires : tie.Need-get8-requires
 get8-requires c κs = search needs
 
--- src/commands.rt:172:9
 wide-requires : tie.Need-wide-requires
 wide-requires c κs = search needs
 
--- src/commands.rt:173:22
 get8-requires-2 : tie.Need-get8-requires-2
 get8-requires-2 c κs = search needs
 
--- src/commands.rt:173:42
 get8-requires-3 : tie.Need-get8-requires-3
 get8-requires-3 c κs = search needs
 
--- src/commands.rt:173:9
 expected-requires : tie.Need-expected-requires
 expected-requires c κs = search needs
 
--- src/commands.rt:174:29
 get8-requires-4 : tie.Need-get8-requires-4
 get8-requires-4 c κs = search needs
 
--- src/commands.rt:174:9
 wide-requires-2 : tie.Need-wide-requires-2
 wide-requires-2 c κs = search needs
 
--- src/commands.rt:175:9
 get8-requires-5 : tie.Need-get8-requires-5
 get8-requires-5 c κs = search needs
 
--- src/commands.rt:176:29
 sub-result : tie.Need-sub-result
 sub-result c = search needs
 
--- src/commands.rt:165:1
 returns-2 : tie.Need-returns-2
 unfolding isComplete Rattle.laws.specs.Tests.pick
-returns-2 c = rw (le-ltb _ _ (c .before .before .before .before .before .before .before .before .if1 .left), c .before .before .before .expected .ensures, c .before .before .before .before .before .before .wide .ensures .0, c .before .before .before .before .before .before .before .get8 .ensures, c .before .before .before .before .before .get82 .ensures, c .before .before .before .before .get83 .ensures, c .before .wide2 .ensures .0, c .before .before .get84 .ensures, c .get85 .ensures)
+returns-2 c = rw (
+  le-ltb _ _ (c .before .before .before .before .before .before .before .before .if1 .left),
+  c .before .before .before .expected .ensures,
+  c .before .before .before .before .before .before .wide .ensures .0,
+  c .before .before .before .before .before .before .before .get8 .ensures,
+  c .before .before .before .before .before .get82 .ensures,
+  c .before .before .before .before .get83 .ensures,
+  c .before .wide2 .ensures .0,
+  c .before .before .get84 .ensures,
+  c .get85 .ensures,
+)
 
 pub is-complete-spec : {M : Type 1} → statement M
 is-complete-spec =

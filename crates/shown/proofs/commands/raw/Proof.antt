@@ -1,4 +1,4 @@
-use Rattle.words.specs.Says.{nothing, taken, left}
+use Rattle.words.specs.SaysLaws.{nothing, taken, left}
 use Rattle.model.specs.Quoted.{codes}
 use borrow.Author.Tests.{eq-eqb, ne-eqb}
 use Rattle.shown.specs.Commands.{rawText}
@@ -9,20 +9,16 @@ use Rattle.shown.proofs.commands.raw.Reads as reads
 use Rattle.shown.proofs.commands.raw.Lts as lts
 use Rattle.words.proofs.hex.Reads as hex-reads
 
--- src/commands.rt:35:9
 returns : tie.Need-returns
 unfolding rawText
 returns c = taken _ _ (eq-eqb _ _ (c .if1 .taken)) (nothing _ _)
 
--- src/commands.rt:37:25
 slice-aggregate-hex : tie.Need-slice-aggregate-hex
 slice-aggregate-hex c = search needs
 
--- src/commands.rt:37:5
 hex-requires : tie.Need-hex-requires
 hex-requires c κs = search needs
 
--- src/commands.rt:31:1
 returns-2 : tie.Need-returns-2
 unfolding rawText codes
 returns-2 c = left _ _ (ne-eqb _ _ (c .before .before .before .if1 .left)) (c .hex .ensures)

@@ -1,4 +1,4 @@
-use Rattle.words.specs.Says.{nothing, then, taken, left}
+use Rattle.words.specs.SaysLaws.{nothing, then, taken, left}
 use Rattle.model.specs.Quoted.{codes}
 use borrow.Author.Tests.{eq-eqb, ne-eqb}
 use Rattle.shown.specs.Commands.{returnedText}
@@ -13,53 +13,49 @@ use Rattle.words.proofs.number.Reads as number-reads
 use Rattle.words.proofs.octet.Reads as octet-reads
 use Rattle.words.proofs.part.Reads as part-reads
 
--- src/commands.rt:122:9
 returns : tie.Need-returns
 unfolding returnedText
 returns c = left _ _ (ne-eqb _ _ (c .if1 .taken)) (nothing _ _)
 
--- src/commands.rt:125:38
 slice-aggregate-octet : tie.Need-slice-aggregate-octet
 slice-aggregate-octet c = search needs
 
--- src/commands.rt:125:9
 octet-requires : tie.Need-octet-requires
 octet-requires c κs = search needs
 
--- src/commands.rt:125:9
 returns-2 : tie.Need-returns-2
 unfolding returnedText codes
-returns-2 c = taken _ _ (eq-eqb _ _ (c .before .before .before .before .if1 .left)) (taken _ _ (c .before .before .before .if2 .taken) (c .octet .ensures))
+returns-2 c = taken _ _ (eq-eqb _ _ (c .before .before .before .before .if1 .left))
+    (taken _ _ (c .before .before .before .if2 .taken) (c .octet .ensures))
 
--- src/commands.rt:128:40
 slice-aggregate-number : tie.Need-slice-aggregate-number
 slice-aggregate-number c = search needs
 
--- src/commands.rt:128:58
 part-requires : tie.Need-part-requires
 part-requires c κs = search needs
 
--- src/commands.rt:128:13
 number-requires : tie.Need-number-requires
 number-requires c κs = search needs
 
--- src/commands.rt:129:38
 behind-requires : tie.Need-behind-requires
 behind-requires c κs = search needs
 
--- src/commands.rt:129:9
 prefix-requires : tie.Need-prefix-requires
 prefix-requires c κs = search needs
 
--- src/commands.rt:129:9
 returns-3 : tie.Need-returns-3
 unfolding returnedText codes
-returns-3 c = taken _ _ (eq-eqb _ _ (c .before .before .before .before .before .before .before .before .before .if1 .left)) (left _ _ (c .before .before .before .before .before .before .before .before .if2 .left) (taken _ _ (eq-eqb _ _ (c .before .before .before .before .before .before .before .if3 .taken)) (then (rw (c .before .before .before .before .part .ensures) at (c .before .before .before .number .ensures)) (rw (c .before .behind .ensures) at (c .prefix .ensures)))))
+returns-3 c = taken _ _
+    (eq-eqb _ _ (c .before .before .before .before .before .before .before .before .before .if1 .left))
+    (left _ _ (c .before .before .before .before .before .before .before .before .if2 .left)
+    (taken _ _ (eq-eqb _ _ (c .before .before .before .before .before .before .before .if3 .taken))
+    (then (rw (c .before .before .before .before .part .ensures) at (c .before .before .before .number .ensures))
+    (rw (c .before .behind .ensures) at (c .prefix .ensures)))))
 
--- src/commands.rt:118:1
 returns-4 : tie.Need-returns-4
 unfolding returnedText
-returns-4 c = taken _ _ (eq-eqb _ _ (c .before .before .if1 .left)) (left _ _ (c .before .if2 .left) (left _ _ (ne-eqb _ _ (c .if3 .left)) (nothing _ _)))
+returns-4 c = taken _ _ (eq-eqb _ _ (c .before .before .if1 .left))
+    (left _ _ (c .before .if2 .left) (left _ _ (ne-eqb _ _ (c .if3 .left)) (nothing _ _)))
 
 pub returned-spec : {M : Type 1} → statement M
 returned-spec =

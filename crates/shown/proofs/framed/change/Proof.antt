@@ -1,4 +1,4 @@
-use Rattle.words.specs.Says.{nothing, then, taken, left}
+use Rattle.words.specs.SaysLaws.{nothing, then, taken, left}
 use Rattle.model.specs.Quoted.{codes}
 use borrow.Author.Tests.{lt-ltb, le-ltb}
 use Rattle.shown.specs.Frames.{changeText}
@@ -16,67 +16,63 @@ use Rattle.words.proofs.device_of.Reads as device-of-reads
 use Rattle.words.proofs.octet.Reads as octet-reads
 use Rattle.words.proofs.part.Reads as part-reads
 
--- src/framed.rt:121:9
 returns : tie.Need-returns
 unfolding changeText
 returns c = taken _ _ (lt-ltb _ _ (c .if1 .taken)) (nothing _ _)
 
--- src/framed.rt:123:51
 sub-get8 : tie.Need-sub-get8
 sub-get8 c = search needs
 
--- src/framed.rt:123:35
 get8-requires : tie.Need-get8-requires
 get8-requires c κs = search needs
 
--- src/framed.rt:123:9
 change-requires : tie.Need-change-requires
 change-requires c κs = search needs
 
--- src/framed.rt:124:35
 slice-aggregate-device : tie.Need-slice-aggregate-device
 slice-aggregate-device c = search needs
 
--- src/framed.rt:124:75
 sub-behind : tie.Need-sub-behind
 sub-behind c = search needs
 
--- src/framed.rt:124:58
 behind-requires : tie.Need-behind-requires
 behind-requires c κs = search needs
 
--- src/framed.rt:124:41
 device-of-requires : tie.Need-device-of-requires
 device-of-requires c κs = search needs
 
--- src/framed.rt:124:9
 device-requires : tie.Need-device-requires
 device-requires c κs = search needs
 
--- src/framed.rt:125:34
 slice-aggregate-octet : tie.Need-slice-aggregate-octet
 slice-aggregate-octet c = search needs
 
--- src/framed.rt:125:52
 sub-octet : tie.Need-sub-octet
 sub-octet c = search needs
 
--- src/framed.rt:125:9
 octet-requires : tie.Need-octet-requires
 octet-requires c κs = search needs
 
--- src/framed.rt:126:27
 part-requires : tie.Need-part-requires
 part-requires c κs = search needs
 
--- src/framed.rt:126:5
 prefix-requires : tie.Need-prefix-requires
 prefix-requires c κs = search needs
 
--- src/framed.rt:116:1
 returns-2 : tie.Need-returns-2
 unfolding changeText codes
-returns-2 c = left _ _ (le-ltb _ _ (c .before .before .before .before .before .before .before .before .before .before .before .before .before .before .if1 .left)) (then (then (then (rw (c .before .before .before .before .before .before .before .before .before .before .before .before .get8 .ensures) at (c .before .before .before .before .before .before .before .before .before .before .before .change .ensures)) (rw (c .before .before .before .before .before .before .before .device-of .ensures, c .before .before .before .before .before .before .before .before .behind .ensures) at (c .before .before .before .before .before .before .device .ensures))) (c .before .before .before .octet .ensures)) (rw (c .before .part .ensures) at (c .prefix .ensures)))
+returns-2 c = left _ _
+    (le-ltb _ _ (c .before .before .before .before .before .before .before .before .before .before .before .before
+    .before .before .if1 .left))
+    (then (then (then
+    (rw (c .before .before .before .before .before .before .before .before .before .before .before .before .get8
+    .ensures) at (c .before .before .before .before .before .before .before .before .before .before .before .change
+    .ensures)) (rw (
+      c .before .before .before .before .before .before .before .device-of .ensures,
+      c .before .before .before .before .before .before .before .before .behind .ensures,
+    ) at
+    (c .before .before .before .before .before .before .device .ensures)))
+    (c .before .before .before .octet .ensures)) (rw (c .before .part .ensures) at (c .prefix .ensures)))
 
 pub change-spec : {M : Type 1} → statement M
 change-spec =

@@ -1,4 +1,4 @@
-use Rattle.words.specs.Says.{then}
+use Rattle.words.specs.SaysLaws.{then}
 use Rattle.shown.specs.Frames.{packetText}
 use borrow.Author.Needs.{needs}
 use Rattle.shown.proofs.framed.packet.Statement.{statement}
@@ -11,30 +11,29 @@ use Rattle.octets.proofs.wide.Reads as wide-reads
 use Rattle.shown.proofs.framed.heard.Reads as heard-reads
 use Rattle.words.proofs.part.Reads as part-reads
 
--- src/framed.rt:60:26
 get8-requires : tie.Need-get8-requires
 get8-requires c κs = search needs
 
--- src/framed.rt:60:9
 wide-requires : tie.Need-wide-requires
 wide-requires c κs = search needs
 
--- src/framed.rt:61:9
 heard-requires : tie.Need-heard-requires
 heard-requires c κs = search needs
 
--- src/framed.rt:62:30
 part-requires : tie.Need-part-requires
 part-requires c κs = search needs
 
--- src/framed.rt:62:5
 structures-requires : tie.Need-structures-requires
 structures-requires c κs = search needs
 
--- src/framed.rt:57:1
 returns : tie.Need-returns
 unfolding packetText
-returns c = (then (c .before .before .before .heard .ensures) (rw (c .before .part .ensures, c .before .before .before .before .before .wide .ensures .0, c .before .before .before .before .before .before .get8 .ensures) at (c .structures .ensures)))
+returns c = (then (c .before .before .before .heard .ensures)
+    (rw (
+      c .before .part .ensures,
+      c .before .before .before .before .before .wide .ensures .0,
+      c .before .before .before .before .before .before .get8 .ensures,
+    ) at (c .structures .ensures)))
 
 pub packet-spec : {M : Type 1} → statement M
 packet-spec =

@@ -1,4 +1,4 @@
-use Rattle.words.specs.Says.{then}
+use Rattle.words.specs.SaysLaws.{then}
 use Rattle.model.specs.Quoted.{codes}
 use Rattle.shown.specs.Frames.{reportText}
 use borrow.Author.Needs.{needs}
@@ -10,23 +10,18 @@ use Rattle.shown.proofs.framed.packet.Reads as packet-reads
 use Rattle.words.proofs.behind.Reads as behind-reads
 use Rattle.words.proofs.put.Reads as put-reads
 
--- src/framed.rt:151:32
 slice-aggregate-put : tie.Need-slice-aggregate-put
 slice-aggregate-put c = search needs
 
--- src/framed.rt:151:9
 put-requires : tie.Need-put-requires
 put-requires c κs = search needs
 
--- src/framed.rt:152:20
 behind-requires : tie.Need-behind-requires
 behind-requires c κs = search needs
 
--- src/framed.rt:152:5
 packet-requires : tie.Need-packet-requires
 packet-requires c κs = search needs
 
--- src/framed.rt:148:1
 returns : tie.Need-returns
 unfolding reportText codes
 returns c = (then (c .before .before .before .put .ensures) (rw (c .before .behind .ensures) at (c .packet .ensures)))

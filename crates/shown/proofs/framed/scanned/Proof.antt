@@ -1,4 +1,4 @@
-use Rattle.words.specs.Says.{then}
+use Rattle.words.specs.SaysLaws.{then}
 use Rattle.model.specs.Quoted.{codes}
 use Rattle.shown.specs.Frames.{scannedText}
 use borrow.Author.Needs.{needs}
@@ -13,58 +13,55 @@ use Rattle.shown.proofs.framed.packet.Reads as packet-reads
 use Rattle.words.proofs.part.Reads as part-reads
 use Rattle.words.proofs.put.Reads as put-reads
 
--- src/framed.rt:69:26
 get8-requires : tie.Need-get8-requires
 get8-requires c κs = search needs
 
--- src/framed.rt:69:9
 wide-requires : tie.Need-wide-requires
 wide-requires c κs = search needs
 
--- src/framed.rt:70:42
 add-get8 : tie.Need-add-get8
 add-get8 c = search needs
 
--- src/framed.rt:70:26
 get8-requires-2 : tie.Need-get8-requires-2
 get8-requires-2 c κs = search needs
 
--- src/framed.rt:70:9
 wide-requires-2 : tie.Need-wide-requires-2
 wide-requires-2 c κs = search needs
 
--- src/framed.rt:71:9
 packet-requires : tie.Need-packet-requires
 packet-requires c κs = search needs
 
--- src/framed.rt:72:32
 slice-aggregate-put : tie.Need-slice-aggregate-put
 slice-aggregate-put c = search needs
 
--- src/framed.rt:72:9
 put-requires : tie.Need-put-requires
 put-requires c κs = search needs
 
--- src/framed.rt:73:45
 add-part : tie.Need-add-part
 add-part c = search needs
 
--- src/framed.rt:73:45
 add-part-2 : tie.Need-add-part-2
 add-part-2 c = search needs
 
--- src/framed.rt:73:30
 part-requires : tie.Need-part-requires
 part-requires c κs = search needs
 
--- src/framed.rt:73:5
 structures-requires : tie.Need-structures-requires
 structures-requires c κs = search needs
 
--- src/framed.rt:66:1
 returns : tie.Need-returns
 unfolding scannedText codes
-returns c = (then (then (c .before .before .before .before .before .before .packet .ensures) (c .before .before .before .put .ensures)) (rw (c .before .part .ensures, c .before .before .before .before .before .before .before .before .wide2 .ensures .0, c .before .before .before .before .before .before .before .before .before .get82 .ensures, c .before .before .before .before .before .before .before .before .before .before .wide .ensures .0, c .before .before .before .before .before .before .before .before .before .before .before .get8 .ensures) at (c .structures .ensures)))
+returns c = (then
+    (then (c .before .before .before .before .before .before .packet .ensures)
+    (c .before .before .before .put .ensures))
+    (rw (
+      c .before .part .ensures,
+      c .before .before .before .before .before .before .before .before .wide2 .ensures .0,
+      c .before .before .before .before .before .before .before .before .before .get82 .ensures,
+      c .before .before .before .before .before .before .before .before .before .before .wide .ensures .0,
+      c .before .before .before .before .before .before .before .before .before .before .before .get8 .ensures,
+    ) at
+    (c .structures .ensures)))
 
 pub scanned-spec : {M : Type 1} → statement M
 scanned-spec =

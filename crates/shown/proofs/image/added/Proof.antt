@@ -1,5 +1,5 @@
 use mathlib.Core.Path.{sym, _∙_}
-use Rattle.words.specs.Says.{nothing, taken, left}
+use Rattle.words.specs.SaysLaws.{nothing, taken, left}
 use borrow.Author.Tests.{eq-eqb, ne-eqb}
 use Rattle.octets.specs.Numbers.{numberAt}
 use Rattle.shown.specs.Image.{addedText}
@@ -13,39 +13,40 @@ use Rattle.octets.proofs.get8.Reads as get8-reads
 use Rattle.octets.proofs.wide.Reads as wide-reads
 use Rattle.words.proofs.part.Reads as part-reads
 
--- src/image.rt:64:26
 get8-requires : tie.Need-get8-requires
 get8-requires c κs = search needs
 
--- src/image.rt:64:9
 wide-requires : tie.Need-wide-requires
 wide-requires c κs = search needs
 
--- src/image.rt:65:8
 get8-requires-2 : tie.Need-get8-requires-2
 get8-requires-2 c κs = search needs
 
--- src/image.rt:66:55
 add-part : tie.Need-add-part
 add-part c = search needs
 
--- src/image.rt:66:40
 part-requires : tie.Need-part-requires
 part-requires c κs = search needs
 
--- src/image.rt:66:9
 peer-requires : tie.Need-peer-requires
 peer-requires c κs = search needs
 
--- src/image.rt:66:9
 returns : tie.Need-returns
 unfolding addedText
-returns c = taken _ _ (eq-eqb (numberAt 1 (c .before .before .before .before .before .before .before .before .args .s .now) 0) 165 (sym (c .before .before .before .before .get82 .ensures) ∙ c .before .before .before .if1 .taken)) (rw (c .before .part .ensures, c .before .before .before .before .before .wide .ensures .0, c .before .before .before .before .before .before .get8 .ensures) at (c .peer .ensures))
+returns c = taken _ _
+    (eq-eqb (numberAt 1 (c .before .before .before .before .before .before .before .before .args .s .now) 0) 165
+    (sym (c .before .before .before .before .get82 .ensures) ∙ c .before .before .before .if1 .taken))
+    (rw (
+      c .before .part .ensures,
+      c .before .before .before .before .before .wide .ensures .0,
+      c .before .before .before .before .before .before .get8 .ensures,
+    ) at (c .peer .ensures))
 
--- src/image.rt:61:1
 returns-2 : tie.Need-returns-2
 unfolding addedText
-returns-2 c = left _ _ (ne-eqb (numberAt 1 (c .before .before .before .before .before .args .s .now) 0) 165 (λ e. c .if1 .left (c .before .get82 .ensures ∙ e))) (nothing _ _)
+returns-2 c = left _ _
+    (ne-eqb (numberAt 1 (c .before .before .before .before .before .args .s .now) 0) 165
+    (λ e. c .if1 .left (c .before .get82 .ensures ∙ e))) (nothing _ _)
 
 pub added-spec : {M : Type 1} → statement M
 added-spec =

@@ -5,7 +5,6 @@ use Rattle.shown.proofs.image.begins.Tie as tie
 use Rattle.shown.proofs.image.begins.Reads as reads
 use Rattle.shown.proofs.image.begins.Lts as lts
 
--- src/image.rt:165:1
 returns : tie.Need-returns
 unfolding begins
 returns c = refl

@@ -1,4 +1,4 @@
-use Rattle.words.specs.Says.{then}
+use Rattle.words.specs.SaysLaws.{then}
 use Rattle.model.specs.Quoted.{codes}
 use Rattle.shown.specs.Image.{headText}
 use borrow.Author.Needs.{needs}
@@ -15,54 +15,49 @@ use Rattle.words.proofs.number.Reads as number-reads
 use Rattle.words.proofs.part.Reads as part-reads
 use Rattle.words.proofs.put.Reads as put-reads
 
--- src/image.rt:45:33
 slice-aggregate-long : tie.Need-slice-aggregate-long
 slice-aggregate-long c = search needs
 
--- src/image.rt:45:9
 long-requires : tie.Need-long-requires
 long-requires c κs = search needs
 
--- src/image.rt:46:32
 slice-aggregate-put : tie.Need-slice-aggregate-put
 slice-aggregate-put c = search needs
 
--- src/image.rt:46:9
 put-requires : tie.Need-put-requires
 put-requires c κs = search needs
 
--- src/image.rt:47:35
 get8-requires : tie.Need-get8-requires
 get8-requires c κs = search needs
 
--- src/image.rt:47:9
 switch-requires : tie.Need-switch-requires
 switch-requires c κs = search needs
 
--- src/image.rt:48:35
 slice-aggregate-number : tie.Need-slice-aggregate-number
 slice-aggregate-number c = search needs
 
--- src/image.rt:48:51
 part-requires : tie.Need-part-requires
 part-requires c κs = search needs
 
--- src/image.rt:48:9
 number-requires : tie.Need-number-requires
 number-requires c κs = search needs
 
--- src/image.rt:49:27
 behind-requires : tie.Need-behind-requires
 behind-requires c κs = search needs
 
--- src/image.rt:49:5
 prefix-requires : tie.Need-prefix-requires
 prefix-requires c κs = search needs
 
--- src/image.rt:42:1
 returns : tie.Need-returns
 unfolding headText codes
-returns c = (then (then (then (then (c .before .before .before .before .before .before .before .before .before .before .before .before .before .long .ensures) (c .before .before .before .before .before .before .before .before .before .before .put .ensures)) (rw (c .before .before .before .before .before .before .before .before .get8 .ensures) at (c .before .before .before .before .before .before .before .switch .ensures))) (rw (c .before .before .before .before .part .ensures) at (c .before .before .before .number .ensures))) (rw (c .before .behind .ensures) at (c .prefix .ensures)))
+returns c = (then
+    (then (then (then
+    (c .before .before .before .before .before .before .before .before .before .before .before .before .before .long
+    .ensures) (c .before .before .before .before .before .before .before .before .before .before .put .ensures))
+    (rw (c .before .before .before .before .before .before .before .before .get8 .ensures) at
+    (c .before .before .before .before .before .before .before .switch .ensures)))
+    (rw (c .before .before .before .before .part .ensures) at (c .before .before .before .number .ensures)))
+    (rw (c .before .behind .ensures) at (c .prefix .ensures)))
 
 pub head-spec : {M : Type 1} → statement M
 head-spec =

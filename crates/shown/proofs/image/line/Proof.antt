@@ -1,5 +1,5 @@
 use mathlib.Core.Path.{sym, _∙_}
-use Rattle.words.specs.Says.{taken, left}
+use Rattle.words.specs.SaysLaws.{taken, left}
 use borrow.Author.Tests.{eq-eqb, ne-eqb}
 use Rattle.octets.specs.Numbers.{numberAt}
 use Rattle.shown.specs.Image.{imageText}
@@ -15,54 +15,82 @@ use Rattle.shown.proofs.image.head.Reads as head-reads
 use Rattle.shown.proofs.image.monitor.Reads as monitor-reads
 use Rattle.shown.proofs.image.pair.Reads as pair-reads
 
--- src/image.rt:118:9
 get8-requires : tie.Need-get8-requires
 get8-requires c κs = search needs
 
--- src/image.rt:120:9
 head-requires : tie.Need-head-requires
 head-requires c κs = search needs
 
--- src/image.rt:120:9
 returns : tie.Need-returns
 unfolding imageText
-returns c = taken _ _ (eq-eqb (numberAt 1 (c .before .before .before .before .before .args .s .now) 0) 160 (sym (c .before .before .before .get8 .ensures) ∙ c .before .before .if1 .taken)) (c .head .ensures)
+returns c = taken _ _
+    (eq-eqb (numberAt 1 (c .before .before .before .before .before .args .s .now) 0) 160
+    (sym (c .before .before .before .get8 .ensures) ∙ c .before .before .if1 .taken)) (c .head .ensures)
 
--- src/image.rt:123:9
 edition-requires : tie.Need-edition-requires
 edition-requires c κs = search needs
 
--- src/image.rt:123:9
 returns-2 : tie.Need-returns-2
 unfolding imageText
-returns-2 c = left _ _ (ne-eqb (numberAt 1 (c .before .before .before .before .before .before .args .s .now) 0) 160 (λ e. c .before .before .before .if1 .left (c .before .before .before .before .get8 .ensures ∙ e))) (taken _ _ (eq-eqb (numberAt 1 (c .before .before .before .before .before .before .args .s .now) 0) 164 (sym (c .before .before .before .before .get8 .ensures) ∙ c .before .before .if2 .taken)) (c .edition .ensures))
+returns-2 c = left _ _
+    (ne-eqb (numberAt 1 (c .before .before .before .before .before .before .args .s .now) 0) 160
+    (λ e. c .before .before .before .if1 .left (c .before .before .before .before .get8 .ensures ∙ e)))
+    (taken _ _ (eq-eqb (numberAt 1 (c .before .before .before .before .before .before .args .s .now) 0) 164
+    (sym (c .before .before .before .before .get8 .ensures) ∙ c .before .before .if2 .taken)) (c .edition .ensures))
 
--- src/image.rt:126:9
 pair-requires : tie.Need-pair-requires
 pair-requires c κs = search needs
 
--- src/image.rt:126:9
 returns-3 : tie.Need-returns-3
 unfolding imageText
-returns-3 c = left _ _ (ne-eqb (numberAt 1 (c .before .before .before .before .before .before .before .args .s .now) 0) 160 (λ e. c .before .before .before .before .if1 .left (c .before .before .before .before .before .get8 .ensures ∙ e))) (left _ _ (ne-eqb (numberAt 1 (c .before .before .before .before .before .before .before .args .s .now) 0) 164 (λ e. c .before .before .before .if2 .left (c .before .before .before .before .before .get8 .ensures ∙ e))) (taken _ _ (eq-eqb (numberAt 1 (c .before .before .before .before .before .before .before .args .s .now) 0) 163 (sym (c .before .before .before .before .before .get8 .ensures) ∙ c .before .before .if3 .taken)) (c .pair .ensures)))
+returns-3 c = left _ _
+    (ne-eqb (numberAt 1 (c .before .before .before .before .before .before .before .args .s .now) 0) 160
+    (λ e. c .before .before .before .before .if1 .left
+    (c .before .before .before .before .before .get8 .ensures ∙ e)))
+    (left _ _ (ne-eqb (numberAt 1 (c .before .before .before .before .before .before .before .args .s .now) 0) 164
+    (λ e. c .before .before .before .if2 .left (c .before .before .before .before .before .get8 .ensures ∙ e)))
+    (taken _ _ (eq-eqb (numberAt 1 (c .before .before .before .before .before .before .before .args .s .now) 0) 163
+    (sym (c .before .before .before .before .before .get8 .ensures) ∙ c .before .before .if3 .taken))
+    (c .pair .ensures)))
 
--- src/image.rt:129:9
 end-requires : tie.Need-end-requires
 end-requires c κs = search needs
 
--- src/image.rt:129:9
 returns-4 : tie.Need-returns-4
 unfolding imageText
-returns-4 c = left _ _ (ne-eqb (numberAt 1 (c .before .before .before .before .before .before .before .before .args .s .now) 0) 160 (λ e. c .before .before .before .before .before .if1 .left (c .before .before .before .before .before .before .get8 .ensures ∙ e))) (left _ _ (ne-eqb (numberAt 1 (c .before .before .before .before .before .before .before .before .args .s .now) 0) 164 (λ e. c .before .before .before .before .if2 .left (c .before .before .before .before .before .before .get8 .ensures ∙ e))) (left _ _ (ne-eqb (numberAt 1 (c .before .before .before .before .before .before .before .before .args .s .now) 0) 163 (λ e. c .before .before .before .if3 .left (c .before .before .before .before .before .before .get8 .ensures ∙ e))) (taken _ _ (eq-eqb (numberAt 1 (c .before .before .before .before .before .before .before .before .args .s .now) 0) 175 (sym (c .before .before .before .before .before .before .get8 .ensures) ∙ c .before .before .if4 .taken)) (c .end .ensures))))
+returns-4 c = left _ _
+    (ne-eqb (numberAt 1 (c .before .before .before .before .before .before .before .before .args .s .now) 0) 160
+    (λ e. c .before .before .before .before .before .if1 .left
+    (c .before .before .before .before .before .before .get8 .ensures ∙ e)))
+    (left _ _ (ne-eqb (numberAt 1 (c .before .before .before .before .before .before .before .before .args .s .now) 0)
+    164 (λ e. c .before .before .before .before .if2 .left
+    (c .before .before .before .before .before .before .get8 .ensures ∙ e)))
+    (left _ _ (ne-eqb (numberAt 1 (c .before .before .before .before .before .before .before .before .args .s .now) 0)
+    163 (λ e. c .before .before .before .if3 .left
+    (c .before .before .before .before .before .before .get8 .ensures ∙ e)))
+    (taken _ _ (eq-eqb
+    (numberAt 1 (c .before .before .before .before .before .before .before .before .args .s .now) 0) 175
+    (sym (c .before .before .before .before .before .before .get8 .ensures) ∙ c .before .before .if4 .taken))
+    (c .end .ensures))))
 
--- src/image.rt:131:5
 monitor-requires : tie.Need-monitor-requires
 monitor-requires c κs = search needs
 
--- src/image.rt:115:1
 returns-5 : tie.Need-returns-5
 unfolding imageText
-returns-5 c = left _ _ (ne-eqb (numberAt 1 (c .before .before .before .before .before .before .before .before .args .s .now) 0) 160 (λ e. c .before .before .before .before .before .if1 .left (c .before .before .before .before .before .before .get8 .ensures ∙ e))) (left _ _ (ne-eqb (numberAt 1 (c .before .before .before .before .before .before .before .before .args .s .now) 0) 164 (λ e. c .before .before .before .before .if2 .left (c .before .before .before .before .before .before .get8 .ensures ∙ e))) (left _ _ (ne-eqb (numberAt 1 (c .before .before .before .before .before .before .before .before .args .s .now) 0) 163 (λ e. c .before .before .before .if3 .left (c .before .before .before .before .before .before .get8 .ensures ∙ e))) (left _ _ (ne-eqb (numberAt 1 (c .before .before .before .before .before .before .before .before .args .s .now) 0) 175 (λ e. c .before .before .if4 .left (c .before .before .before .before .before .before .get8 .ensures ∙ e))) (c .monitor .ensures))))
+returns-5 c = left _ _
+    (ne-eqb (numberAt 1 (c .before .before .before .before .before .before .before .before .args .s .now) 0) 160
+    (λ e. c .before .before .before .before .before .if1 .left
+    (c .before .before .before .before .before .before .get8 .ensures ∙ e)))
+    (left _ _ (ne-eqb (numberAt 1 (c .before .before .before .before .before .before .before .before .args .s .now) 0)
+    164 (λ e. c .before .before .before .before .if2 .left
+    (c .before .before .before .before .before .before .get8 .ensures ∙ e)))
+    (left _ _ (ne-eqb (numberAt 1 (c .before .before .before .before .before .before .before .before .args .s .now) 0)
+    163 (λ e. c .before .before .before .if3 .left
+    (c .before .before .before .before .before .before .get8 .ensures ∙ e)))
+    (left _ _ (ne-eqb (numberAt 1 (c .before .before .before .before .before .before .before .before .args .s .now) 0)
+    175 (λ e. c .before .before .if4 .left (c .before .before .before .before .before .before .get8 .ensures ∙ e)))
+    (c .monitor .ensures))))
 
 pub line-spec : {M : Type 1} → statement M
 line-spec =

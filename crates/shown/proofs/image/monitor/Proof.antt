@@ -1,4 +1,4 @@
-use Rattle.words.specs.Says.{then}
+use Rattle.words.specs.SaysLaws.{then}
 use Rattle.model.specs.Quoted.{codes}
 use Rattle.shown.specs.Image.{monitorText}
 use borrow.Author.Needs.{needs}
@@ -16,58 +16,58 @@ use Rattle.words.proofs.octet.Reads as octet-reads
 use Rattle.words.proofs.part.Reads as part-reads
 use Rattle.words.proofs.put.Reads as put-reads
 
--- src/image.rt:75:26
 get8-requires : tie.Need-get8-requires
 get8-requires c κs = search needs
 
--- src/image.rt:75:9
 wide-requires : tie.Need-wide-requires
 wide-requires c κs = search needs
 
--- src/image.rt:76:34
 slice-aggregate-octet : tie.Need-slice-aggregate-octet
 slice-aggregate-octet c = search needs
 
--- src/image.rt:76:9
 octet-requires : tie.Need-octet-requires
 octet-requires c κs = search needs
 
--- src/image.rt:77:32
 slice-aggregate-put : tie.Need-slice-aggregate-put
 slice-aggregate-put c = search needs
 
--- src/image.rt:77:9
 put-requires : tie.Need-put-requires
 put-requires c κs = search needs
 
--- src/image.rt:78:38
 behind-requires : tie.Need-behind-requires
 behind-requires c κs = search needs
 
--- src/image.rt:78:9
 limits-requires : tie.Need-limits-requires
 limits-requires c κs = search needs
 
--- src/image.rt:79:41
 get8-requires-2 : tie.Need-get8-requires-2
 get8-requires-2 c κs = search needs
 
--- src/image.rt:79:61
 part-requires : tie.Need-part-requires
 part-requires c κs = search needs
 
--- src/image.rt:79:9
 condition-requires : tie.Need-condition-requires
 condition-requires c κs = search needs
 
--- src/image.rt:80:5
 added-requires : tie.Need-added-requires
 added-requires c κs = search needs
 
--- src/image.rt:72:1
 returns : tie.Need-returns
 unfolding monitorText codes
-returns c = (then (then (then (then (c .before .before .before .before .before .before .before .before .before .before .before .before .octet .ensures) (c .before .before .before .before .before .before .before .before .before .put .ensures)) (rw (c .before .before .before .before .before .before .before .behind .ensures) at (c .before .before .before .before .before .before .limits .ensures))) (rw (c .before .before .before .before .get82 .ensures, c .before .before .before .part .ensures, c .before .before .before .before .before .before .before .before .before .before .before .before .before .before .before .wide .ensures .0, c .before .before .before .before .before .before .before .before .before .before .before .before .before .before .before .before .get8 .ensures) at (c .before .before .condition .ensures))) (c .added .ensures))
+returns c = (then
+    (then (then (then
+    (c .before .before .before .before .before .before .before .before .before .before .before .before .octet
+    .ensures) (c .before .before .before .before .before .before .before .before .before .put .ensures))
+    (rw (c .before .before .before .before .before .before .before .behind .ensures) at
+    (c .before .before .before .before .before .before .limits .ensures)))
+    (rw (
+      c .before .before .before .before .get82 .ensures,
+      c .before .before .before .part .ensures,
+      c .before .before .before .before .before .before .before .before .before .before .before .before .before .before
+          .before .wide .ensures .0,
+      c .before .before .before .before .before .before .before .before .before .before .before .before .before .before
+          .before .before .get8 .ensures,
+    ) at (c .before .before .condition .ensures))) (c .added .ensures))
 
 pub monitor-spec : {M : Type 1} → statement M
 monitor-spec =

@@ -1,4 +1,4 @@
-use Rattle.words.specs.Says.{then}
+use Rattle.words.specs.SaysLaws.{then}
 use Rattle.model.specs.Quoted.{codes}
 use Rattle.shown.specs.Image.{pairText}
 use borrow.Author.Needs.{needs}
@@ -17,70 +17,70 @@ use Rattle.words.proofs.level.Reads as level-reads
 use Rattle.words.proofs.octet.Reads as octet-reads
 use Rattle.words.proofs.put.Reads as put-reads
 
--- src/image.rt:97:34
 slice-aggregate-octet : tie.Need-slice-aggregate-octet
 slice-aggregate-octet c = search needs
 
--- src/image.rt:97:9
 octet-requires : tie.Need-octet-requires
 octet-requires c κs = search needs
 
--- src/image.rt:98:35
 slice-aggregate-device : tie.Need-slice-aggregate-device
 slice-aggregate-device c = search needs
 
--- src/image.rt:98:59
 behind-requires : tie.Need-behind-requires
 behind-requires c κs = search needs
 
--- src/image.rt:98:42
 device-of-requires : tie.Need-device-of-requires
 device-of-requires c κs = search needs
 
--- src/image.rt:98:9
 device-requires : tie.Need-device-requires
 device-requires c κs = search needs
 
--- src/image.rt:99:9
 counts-requires : tie.Need-counts-requires
 counts-requires c κs = search needs
 
--- src/image.rt:100:34
 slice-aggregate-level : tie.Need-slice-aggregate-level
 slice-aggregate-level c = search needs
 
--- src/image.rt:100:9
 level-requires : tie.Need-level-requires
 level-requires c κs = search needs
 
--- src/image.rt:101:32
 slice-aggregate-put : tie.Need-slice-aggregate-put
 slice-aggregate-put c = search needs
 
--- src/image.rt:101:9
 put-requires : tie.Need-put-requires
 put-requires c κs = search needs
 
--- src/image.rt:102:39
 get8-requires : tie.Need-get8-requires
 get8-requires c κs = search needs
 
--- src/image.rt:102:9
 event-type-requires : tie.Need-event-type-requires
 event-type-requires c κs = search needs
 
--- src/image.rt:103:30
 behind-requires-2 : tie.Need-behind-requires-2
 behind-requires-2 c κs = search needs
 
--- src/image.rt:103:5
 structures-requires : tie.Need-structures-requires
 structures-requires c κs = search needs
 
--- src/image.rt:94:1
 returns : tie.Need-returns
 unfolding pairText codes
-returns c = (then (then (then (then (then (then (c .before .before .before .before .before .before .before .before .before .before .before .before .before .before .before .before .before .before .before .octet .ensures) (rw (c .before .before .before .before .before .before .before .before .before .before .before .before .before .before .before .device-of .ensures, c .before .before .before .before .before .before .before .before .before .before .before .before .before .before .before .before .behind .ensures) at (c .before .before .before .before .before .before .before .before .before .before .before .before .before .before .device .ensures))) (c .before .before .before .before .before .before .before .before .before .before .before .before .counts .ensures)) (c .before .before .before .before .before .before .before .before .before .level .ensures)) (c .before .before .before .before .before .before .put .ensures)) (rw (c .before .before .before .before .get8 .ensures) at (c .before .before .before .event-type .ensures))) (rw (c .before .behind2 .ensures) at (c .structures .ensures)))
+returns c = (then
+    (then (then (then
+    (then (then (c .before .before .before .before .before .before .before .before .before .before .before .before
+    .before .before .before .before .before .before .before .octet .ensures)
+    (rw (
+      c .before .before .before .before .before .before .before .before .before .before .before .before .before
+          .before .before .device-of .ensures,
+      c .before .before .before .before .before .before .before .before .before .before .before .before .before .before
+          .before .before .behind .ensures,
+    ) at
+    (c .before .before .before .before .before .before .before .before .before .before .before .before .before .before
+    .device .ensures)))
+    (c .before .before .before .before .before .before .before .before .before .before .before .before .counts
+    .ensures)) (c .before .before .before .before .before .before .before .before .before .level .ensures))
+    (c .before .before .before .before .before .before .put .ensures))
+    (rw (c .before .before .before .before .get8 .ensures) at (c .before .before .before .event-type .ensures)))
+    (rw (c .before .behind2 .ensures) at (c .structures .ensures)))
 
 pub pair-spec : {M : Type 1} → statement M
 pair-spec =

@@ -6,8 +6,9 @@ use mathlib.Core.Bool.{true}
 use lib.ListN.{length}
 use Rattle.soundness.specs.Below.{allBelow}
 use Rattle.soundness.specs.Clauses.{otherTest}
-use Rattle.soundness.specs.Seen.{marks, Marked, marked-none}
-use Rattle.soundness.specs.CodePairs.{others-stop, others-more}
+use Rattle.soundness.specs.Seen.{marks, Marked}
+use Rattle.soundness.specs.SeenLaws.{marked-none}
+use Rattle.soundness.specs.CodePairsLaws.{others-stop, others-more}
 use Rattle.soundness.proofs.keys.are_others.Statement.{statement}
 use Rattle.soundness.proofs.keys.are_others.Tie as tie
 use Rattle.soundness.proofs.keys.are_others.Reads as reads
@@ -20,38 +21,42 @@ Inv-loop s c seen₀ i₀ seen i = (i ≤ c) × (allBelow (otherTest s) i ≡ tr
 abbrev μ-loop : tie.MeasureT-loop
 μ-loop s c seen₀ i₀ seen i = c - i
 
--- src/keys.rt:57:5
 loop-holds : tie.Need-loop-holds Inv-loop μ-loop
 unfolding Rattle.soundness.specs.Below.allBelow
 loop-holds c = (omega arith, refl, refl, marked-none _ _)
 
--- src/keys.rt:58:22
 slice-aggregate-take-key : tie.Need-slice-aggregate-take-key Inv-loop μ-loop
 slice-aggregate-take-key c = search needs
 
--- src/keys.rt:58:13
 take-key-requires : tie.Need-take-key-requires Inv-loop μ-loop
 take-key-requires c κs = search needs
 
--- src/keys.rt:59:13
 returns : tie.Need-returns Inv-loop μ-loop
-returns c = let a = c .before .before .before .before .before .before .before in others-stop (a .args .s .now) (c .before .before .before .before .before .loop .i) (c .before .before .take-key .ensures .0) (a .args .c) (omega arith) (c .if1 .taken)
+returns c = let a =
+    c .before .before .before .before .before .before .before in others-stop (a .args .s .now)
+    (c .before .before .before .before .before .loop .i) (c .before .before .take-key .ensures .0) (a .args .c)
+    (omega arith) (c .if1 .taken)
 
--- src/keys.rt:61:9
 add-i : tie.Need-add-i Inv-loop μ-loop
 add-i c = omega arith
 
--- src/keys.rt:57:5
 loop-less : tie.Need-loop-less Inv-loop μ-loop
 loop-less c = omega arith
 
--- src/keys.rt:57:5
 loop-again : tie.Need-loop-again Inv-loop μ-loop
-loop-again c = let a = c .before .before .before .before .before .before .before in let l = c .before .before .before .before .before .loop in (omega arith, others-more (a .args .s .now) (l .i) (c .before .before .take-key .ensures .0) (l .inv .1) (c .if1 .left), omega arith, c .before .before .take-key .ensures .1)
+loop-again c = let a = c .before .before .before .before .before .before .before in let l =
+    c .before .before .before .before .before
+    .loop in (
+      omega arith,
+      others-more (a .args .s .now) (l .i) (c .before .before .take-key .ensures .0) (l .inv .1)
+          (c .if1 .left),
+      omega arith,
+      c .before .before .take-key .ensures .1,
+    )
 
--- src/keys.rt:51:1
 returns-2 : tie.Need-returns-2 Inv-loop μ-loop
-returns-2 c = let e : c .before .loop .i ≡ c .before .before .before .args .c = omega arith in sym (rw e at (c .before .loop .inv .1))
+returns-2 c = let e : c .before .loop .i ≡ c .before .before .before .args .c =
+    omega arith in sym (rw e at (c .before .loop .inv .1))
 
 pub are-others-spec : {M : Type 1} → statement M
 are-others-spec =

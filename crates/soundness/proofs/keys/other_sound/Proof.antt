@@ -1,7 +1,7 @@
 use Rattle.soundness.specs.Below.{allBelow}
 use mathlib.Core.Bool.{true}
 use Prim.Native.Nat.{_-_, _≤_}
-use Rattle.soundness.specs.CodePairs.{differs, other-stop, other-more, other-end}
+use Rattle.soundness.specs.CodePairsLaws.{differs, other-stop, other-more, other-end}
 use mathlib.Core.Path.{_≡_, refl, sym, ap, _∙_}
 use native.Mathlib.Omega.{arith}
 use borrow.Author.Needs.{needs}
@@ -17,54 +17,54 @@ Inv-loop s i key j₀ j = (j ≤ i) × (allBelow (differs s i) j ≡ true)
 abbrev μ-loop : tie.MeasureT-loop
 μ-loop s i key j₀ j = i - j
 
--- src/lib.rt:203:39
 mul-get64 : tie.Need-mul-get64 Inv-loop μ-loop
 mul-get64 c = omega arith
 
--- src/lib.rt:203:32
 add-get64 : tie.Need-add-get64 Inv-loop μ-loop
 add-get64 c = omega arith
 
--- src/lib.rt:203:9
 get64-requires : tie.Need-get64-requires Inv-loop μ-loop
 get64-requires c κs = search needs
 
--- src/lib.rt:205:5
 loop-holds : tie.Need-loop-holds Inv-loop μ-loop
 unfolding allBelow
 loop-holds c = (omega arith, refl)
 
--- src/lib.rt:206:43
 mul-get64-2 : tie.Need-mul-get64-2 Inv-loop μ-loop
 mul-get64-2 c = omega arith
 
--- src/lib.rt:206:36
 add-get64-2 : tie.Need-add-get64-2 Inv-loop μ-loop
 add-get64-2 c = omega arith
 
--- src/lib.rt:206:19
 get64-requires-2 : tie.Need-get64-requires-2 Inv-loop μ-loop
 get64-requires-2 c κs = search needs
 
--- src/lib.rt:207:13
 returns : tie.Need-returns Inv-loop μ-loop
-returns c = let a = c .before .before .before .before .before .before in other-stop (a .args .s .now) (a .pre .0) (a .args .i) (c .before .before .before .loop .j) (a .pre .1) (omega arith) (c .before .before .before .before .get64 .ensures) (c .before .get642 .ensures) (c .if1 .taken)
+returns c = let a =
+    c .before .before .before .before .before .before in other-stop (a .args .s .now) (a .pre .0) (a .args .i)
+    (c .before .before .before .loop .j) (a .pre .1) (omega arith) (c .before .before .before .before .get64 .ensures)
+    (c .before .get642 .ensures) (c .if1 .taken)
 
--- src/lib.rt:209:9
 add-j : tie.Need-add-j Inv-loop μ-loop
 add-j c = omega arith
 
--- src/lib.rt:205:5
 loop-less : tie.Need-loop-less Inv-loop μ-loop
 loop-less c = omega arith
 
--- src/lib.rt:205:5
 loop-again : tie.Need-loop-again Inv-loop μ-loop
-loop-again c = let a = c .before .before .before .before .before .before in (omega arith, other-more (a .args .s .now) (a .pre .0) (a .args .i) (c .before .before .before .loop .j) (a .pre .1) (omega arith) (c .before .before .before .before .get64 .ensures) (c .before .get642 .ensures) (c .if1 .left) (c .before .before .before .loop .inv .1))
+loop-again c = let a =
+    c .before .before .before .before .before
+    .before in (
+      omega arith,
+      other-more (a .args .s .now) (a .pre .0) (a .args .i)
+          (c .before .before .before .loop .j) (a .pre .1) (omega arith) (c .before .before .before .before .get64 .ensures)
+          (c .before .get642 .ensures) (c .if1 .left) (c .before .before .before .loop .inv .1),
+    )
 
--- src/lib.rt:199:1
 returns-2 : tie.Need-returns-2 Inv-loop μ-loop
-returns-2 c = let a = c .before .before .before .before in other-end (a .args .s .now) (a .pre .0) (a .args .i) (c .before .loop .j) (c .before .loop .inv .1) (omega arith)
+returns-2 c = let a =
+    c .before .before .before .before in other-end (a .args .s .now) (a .pre .0) (a .args .i) (c .before .loop .j)
+    (c .before .loop .inv .1) (omega arith)
 
 pub other-sound-spec : {M : Type 1} → statement M
 other-sound-spec =

@@ -1,5 +1,5 @@
 use native.Mathlib.Omega.{arith}
-use Rattle.soundness.specs.Tails.{zeros-last, zeros-none}
+use Rattle.soundness.specs.TailsLaws.{zeros-last, zeros-none}
 use borrow.Author.Needs.{needs}
 use Rattle.soundness.proofs.tails.zero_one.Statement.{statement}
 use Rattle.soundness.proofs.tails.zero_one.Tie as tie

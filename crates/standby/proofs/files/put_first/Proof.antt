@@ -7,19 +7,15 @@ use Rattle.standby.proofs.files.put_first.Reads as reads
 use Rattle.standby.proofs.files.put_first.Lts as lts
 use Rattle.standby.proofs.files.put.Reads as put-reads
 
--- src/main.rt:55:9
 returns : tie.Need-returns
 returns c = search needs
 
--- src/main.rt:57:9
 slice-aggregate-put : tie.Need-slice-aggregate-put
 slice-aggregate-put c = simp length-take (omega arith)
 
--- src/main.rt:57:5
 put-requires : tie.Need-put-requires
 put-requires c κs = search needs
 
--- src/main.rt:53:1
 returns-2 : tie.Need-returns-2
 returns-2 c = search needs
 

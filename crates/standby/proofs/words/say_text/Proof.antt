@@ -9,23 +9,20 @@ use Rattle.standby.proofs.words.say_text.Reads as reads
 use Rattle.standby.proofs.words.say_text.Lts as lts
 use Rattle.standby.proofs.words.say.Reads as say-reads
 
--- src/words.rt:14:13
 array-share-prefix-octets : tie.Need-array-share-prefix-octets
-array-share-prefix-octets c = let l : length (c .before .before .args .text .octets) ≡ 256 = search needs in omega (arith, l)
+array-share-prefix-octets c = let l : length (c .before .before .args .text .octets) ≡ 256 =
+    search needs in omega (arith, l)
 
--- src/words.rt:14:13
 slice-aggregate-say : tie.Need-slice-aggregate-say
-slice-aggregate-say c = let l : length (c .before .before .before .args .text .octets) ≡ 256 = search needs in sym (length-take-le _ _ (omega (arith, l)))
+slice-aggregate-say c = let l : length (c .before .before .before .args .text .octets) ≡ 256 =
+    search needs in sym (length-take-le _ _ (omega (arith, l)))
 
--- src/words.rt:14:9
 say-requires : tie.Need-say-requires
 say-requires c κs = search needs
 
--- src/words.rt:10:1
 returns : tie.Need-returns
 returns c = search needs
 
--- src/words.rt:10:1
 returns-2 : tie.Need-returns-2
 returns-2 c = search needs
 

@@ -6,15 +6,12 @@ use Rattle.state.proofs.Seconds.ticks.Tie as tie
 use Rattle.state.proofs.Seconds.ticks.Reads as reads
 use Rattle.state.proofs.Seconds.ticks.Lts as lts
 
--- src/lib.rt:28:17
 cast-n : tie.Need-cast-n
 cast-n c = search needs
 
--- src/lib.rt:29:15
 mul-t3 : tie.Need-mul-t3
 mul-t3 c = search needs
 
--- src/lib.rt:25:5
 returns : tie.Need-returns
 unfolding ticksOf
 returns c = refl

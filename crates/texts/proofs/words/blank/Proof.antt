@@ -5,7 +5,6 @@ use Rattle.texts.proofs.words.blank.Tie as tie
 use Rattle.texts.proofs.words.blank.Reads as reads
 use Rattle.texts.proofs.words.blank.Lts as lts
 
--- src/words.rt:17:1
 returns : tie.Need-returns
 unfolding told
 returns c = refl

@@ -1,6 +1,6 @@
 use Rattle.texts.specs.Text.{room, told}
 use mathlib.Core.List.{_++_}
-use Rattle.texts.specs.Joined.{digits-so, said-so}
+use Rattle.texts.specs.JoinedLaws.{digits-so, said-so}
 use mathlib.Core.Path.{_≡_, refl, sym, ap, _∙_}
 use lib.ListN.{take}
 use lib.Seq.{length-take-le}
@@ -13,37 +13,42 @@ use Rattle.texts.proofs.words.said.Lts as lts
 use Rattle.decimals.proofs.write.Reads as write-reads
 use Rattle.texts.proofs.words.with.Reads as with-reads
 
--- src/words.rt:45:29
 slice-aggregate-write : tie.Need-slice-aggregate-write
 slice-aggregate-write c = search needs
 
--- src/words.rt:45:45
 sub-write : tie.Need-sub-write
 sub-write c = search needs
 
--- src/words.rt:45:9
 write-requires : tie.Need-write-requires
 write-requires c κs = search needs
 
--- src/words.rt:46:9
 with-requires : tie.Need-with-requires
 with-requires c κs = search needs
 
--- src/words.rt:47:18
 array-share-prefix-digits : tie.Need-array-share-prefix-digits
-array-share-prefix-digits c = let w = digits-so (c .before .before .before .before .before .args .n) (c .before .before .write .result) _ (c .before .before .write .last .0) (omega arith) (c .before .before .write .ensures) in omega (arith, w .1)
+array-share-prefix-digits c = let w =
+    digits-so (c .before .before .before .before .before .args .n) (c .before .before .write .result) _
+    (c .before .before .write .last .0) (omega arith) (c .before .before .write .ensures) in omega (arith, w .1)
 
--- src/words.rt:47:18
 slice-aggregate-with : tie.Need-slice-aggregate-with
-slice-aggregate-with c = let w = digits-so (c .before .before .before .before .before .before .args .n) (c .before .before .before .write .result) _ (c .before .before .before .write .last .0) (omega arith) (c .before .before .before .write .ensures) in sym (length-take-le _ _ (omega (arith, w .1)))
+slice-aggregate-with c = let w =
+    digits-so (c .before .before .before .before .before .before .args .n) (c .before .before .before .write .result)
+    _ (c .before .before .before .write .last .0) (omega arith) (c .before .before .before .write .ensures) in sym
+    (length-take-le _ _ (omega (arith, w .1)))
 
--- src/words.rt:47:5
 with-requires-2 : tie.Need-with-requires-2
 with-requires-2 c κs = search needs
 
--- src/words.rt:41:1
 returns : tie.Need-returns
-returns c = let w = digits-so (c .before .before .before .before .before .before .before .args .n) (c .before .before .before .before .write .result) _ (c .before .before .before .before .write .last .0) (omega arith) (c .before .before .before .before .write .ensures) in said-so (told (c .before .before .before .before .before .before .before .args .t)) (c .before .before .before .before .before .before .before .args .words .now) (Rattle.decimals.specs.Decimals.decimal (c .before .before .before .before .before .before .before .args .n)) (c .before .before .with .ensures) (c .with2 .ensures ∙ ap (λ l. take room (told (c .before .before .with .result) ++ l)) (w .0))
+returns c = let w =
+    digits-so (c .before .before .before .before .before .before .before .args .n)
+    (c .before .before .before .before .write .result) _ (c .before .before .before .before .write .last .0)
+    (omega arith) (c .before .before .before .before .write .ensures) in said-so
+    (told (c .before .before .before .before .before .before .before .args .t))
+    (c .before .before .before .before .before .before .before .args .words .now)
+    (Rattle.decimals.specs.Decimals.decimal (c .before .before .before .before .before .before .before .args .n))
+    (c .before .before .with .ensures)
+    (c .with2 .ensures ∙ ap (λ l. take room (told (c .before .before .with .result) ++ l)) (w .0))
 
 pub said-spec : {M : Type 1} → statement M
 said-spec =

@@ -1,4 +1,4 @@
-use Rattle.texts.specs.Joined.{with-so}
+use Rattle.texts.specs.JoinedLaws.{with-so}
 use Rattle.texts.specs.Text.{told}
 use mathlib.Core.Path.{_≡_, refl, sym}
 use lib.Seq.{length-take-le}
@@ -11,38 +11,35 @@ use Rattle.texts.proofs.words.with.Lts as lts
 use Rattle.parts.proofs.copy.Reads as copy-reads
 use Rattle.texts.proofs.words.least.Reads as least-reads
 
--- src/words.rt:31:9
 least-requires : tie.Need-least-requires
 least-requires c κs = search needs
 
--- src/words.rt:32:32
 sub-least : tie.Need-sub-least
 sub-least c = search needs
 
--- src/words.rt:32:9
 least-requires-2 : tie.Need-least-requires-2
 least-requires-2 c κs = search needs
 
--- src/words.rt:33:17
 slice-aggregate-copy : tie.Need-slice-aggregate-copy
 slice-aggregate-copy c = search needs
 
--- src/words.rt:33:34
 slice-aggregate-copy-2 : tie.Need-slice-aggregate-copy-2
 slice-aggregate-copy-2 c = sym (length-take-le _ _ (omega (arith, c .before .before .least2 .ensures)))
 
--- src/words.rt:33:5
 copy-requires : tie.Need-copy-requires
 copy-requires c κs = search needs
 
--- src/words.rt:36:16
 add-t6 : tie.Need-add-t6
 add-t6 c = search needs
 
--- src/words.rt:27:1
 returns : tie.Need-returns
 unfolding told
-returns c = let a = c .before .before .before .before .before .before .before .before .args in with-so (a .t .octets) (a .words .now) (c .before .copy .last .0) (a .t .count) (c .before .before .before .before .before .least .result) (c .before .before .before .before .least2 .result) (c .before .copy .result) (search needs) (c .before .before .before .before .before .least .ensures) (c .before .before .before .before .least2 .ensures) (c .before .copy .ensures .0) (c .before .copy .ensures .1)
+returns c = let a =
+    c .before .before .before .before .before .before .before .before .args in with-so (a .t .octets) (a .words .now)
+    (c .before .copy .last .0) (a .t .count) (c .before .before .before .before .before .least .result)
+    (c .before .before .before .before .least2 .result) (c .before .copy .result) (search needs)
+    (c .before .before .before .before .before .least .ensures) (c .before .before .before .before .least2 .ensures)
+    (c .before .copy .ensures .0) (c .before .copy .ensures .1)
 
 pub with-spec : {M : Type 1} → statement M
 with-spec =

@@ -1,14 +1,15 @@
 use Prim.Native.Nat.{_+_, _*_}
 use borrow.Rule.Slice.PartMut.{same-len-mid}
 use Rattle.model.specs.Layout.{pairSize}
-use Rattle.ticks.specs.Calm.{part-length}
+use Rattle.ticks.specs.CalmLaws.{part-length}
 use Prim.Native.Nat.{_-_, _≤_}
 use mathlib.Core.Path.{_≡_, refl, _∙_}
 use native.Mathlib.Omega.{arith}
 use lib.ListN.{length}
 use borrow.Author.Needs.{needs}
 use borrow.Author.Tests.{not-true, not-false}
-use Rattle.ticks.specs.Calm.{CalmOn, calm-none, calm-more, calm-left, calm-turn}
+use Rattle.ticks.specs.Calm.{CalmOn}
+use Rattle.ticks.specs.CalmLaws.{calm-none, calm-more, calm-left, calm-turn}
 use Rattle.ticks.proofs.calm.calm_rows.Statement.{statement}
 use Rattle.ticks.proofs.calm.calm_rows.Tie as tie
 use Rattle.ticks.proofs.calm.calm_rows.Reads as reads
@@ -16,72 +17,70 @@ use Rattle.ticks.proofs.calm.calm_rows.Lts as lts
 use Rattle.ticks.proofs.calm.calm_row.Reads as calm-row-reads
 
 abbrev Inv-loop : tie.InvT-loop
-Inv-loop t₀ from n intervals periods i₀ t i = (from ≤ i) × (i ≤ n) × (length t ≡ length t₀) × CalmOn intervals periods t₀ t from from i
+Inv-loop t₀ from n intervals periods i₀ t i =
+    (from ≤ i) × (i ≤ n) × (length t ≡ length t₀) × CalmOn intervals periods t₀ t from from i
 
 abbrev μ-loop : tie.MeasureT-loop
 μ-loop t₀ from n intervals periods i₀ t i = n - i
 
--- src/calm.rt:57:5
 loop-holds : tie.Need-loop-holds Inv-loop μ-loop
 loop-holds c = (omega arith, omega arith, refl, calm-none _ _ _ _ _)
 
--- src/calm.rt:58:21
 mul-start : tie.Need-mul-start Inv-loop μ-loop
 mul-start c = omega arith
 
--- src/calm.rt:59:19
 add-end : tie.Need-add-end Inv-loop μ-loop
 add-end c = omega arith
 
--- src/calm.rt:60:22
 sub-calm-row : tie.Need-sub-calm-row Inv-loop μ-loop
 sub-calm-row c = omega arith
 
--- src/calm.rt:60:22
 part-calm-row-start : tie.Need-part-calm-row-start Inv-loop μ-loop
 part-calm-row-start c = omega arith
 
--- src/calm.rt:60:22
 part-calm-row-end : tie.Need-part-calm-row-end Inv-loop μ-loop
 part-calm-row-end c = omega arith
 
--- src/calm.rt:60:13
 calm-row-requires : tie.Need-calm-row-requires Inv-loop μ-loop
-calm-row-requires c κs = let p = c .before .before .before .before .before .before .pre in let l = c .before .before .loop in (part-length (l .i) (l .t) (omega arith) (l .inv .2 ∙ p .2), p .3, p .4)
+calm-row-requires c κs = let p = c .before .before .before .before .before .before .pre in let l =
+    c .before .before .loop in (part-length (l .i) (l .t) (omega arith) (l .inv .2 ∙ p .2), p .3, p .4)
 
--- src/calm.rt:61:13
 same-length : tie.Need-same-length Inv-loop μ-loop
-same-length c = let l = c .before .before .before .before .before .before .loop in let r = c .before .before .before .calm-row in same-len-mid (pairSize * l .i) (pairSize * l .i + pairSize - pairSize * l .i) (l .t) (r .last .0) (r .kept .0) ∙ l .inv .2
+same-length c = let l = c .before .before .before .before .before .before .loop in let r =
+    c .before .before .before .calm-row in same-len-mid (pairSize * l .i)
+    (pairSize * l .i + pairSize - pairSize * l .i) (l .t) (r .last .0) (r .kept .0) ∙ l .inv .2
 
--- src/calm.rt:61:13
 returns : tie.Need-returns Inv-loop μ-loop
-returns c = let a = c .before .before .before .before .before .before .before .before .before .before .args in let p = c .before .before .before .before .before .before .before .before .before .before .pre in let l = c .before .before .before .before .before .before .loop in let r = c .before .before .before .calm-row in
-    let e = calm-left (a .intervals .now) (a .periods .now) (l .t) (l .i) (omega arith) (l .inv .2 ∙ p .2) refl (r .ensures .0 (not-true _ (c .if1 .taken))) in
+returns c = let a = c .before .before .before .before .before .before .before .before .before .before .args in let p =
+    c .before .before .before .before .before .before .before .before .before .before .pre in let l = c .before
+    .before .before .before .before .before .loop in let r = c .before .before .before .calm-row in
+    let e = calm-left (a .intervals .now) (a .periods .now) (l .t) (l .i) (omega arith) (l .inv .2 ∙ p .2) refl
+    (r .ensures .0 (not-true _ (c .if1 .taken))) in
     (l .inv .0, l .inv .1, rw e (l .inv .3))
 
--- src/calm.rt:63:9
 add-i : tie.Need-add-i Inv-loop μ-loop
 add-i c = omega arith
 
--- src/calm.rt:57:5
 loop-less : tie.Need-loop-less Inv-loop μ-loop
 loop-less c = omega arith
 
--- src/calm.rt:57:5
 loop-again : tie.Need-loop-again Inv-loop μ-loop
-loop-again c = let a = c .before .before .before .before .before .before .before .before .before .before .args in let p = c .before .before .before .before .before .before .before .before .before .before .pre in let l = c .before .before .before .before .before .before .loop in let r = c .before .before .before .calm-row in (
-  omega arith,
-  omega arith,
-  same-len-mid (pairSize * l .i) (pairSize * l .i + pairSize - pairSize * l .i) (l .t) (r .last .0) (r .kept .0) ∙ l .inv .2,
-  calm-more (a .intervals .now) (a .periods .now) (a .t .now) (a .from) (l .i) (l .inv .0) (l .inv .3)
-      (calm-turn (a .intervals .now) (a .periods .now) (l .t) (l .i) (omega arith) (l .inv .2 ∙ p .2) refl (r .ensures .1 (not-false _ (c .if1 .left)))),
-)
+loop-again c = let a =
+    c .before .before .before .before .before .before .before .before .before .before .args in let p = c .before
+    .before .before .before .before .before .before .before .before .before .pre in let l = c .before .before .before
+    .before .before .before .loop in let r = c .before .before .before .calm-row in (
+      omega arith,
+      omega arith,
+      same-len-mid (pairSize * l .i) (pairSize * l .i + pairSize - pairSize * l .i) (l .t) (r .last .0) (r .kept .0)
+          ∙ l .inv .2,
+      calm-more (a .intervals .now) (a .periods .now) (a .t .now) (a .from) (l .i) (l .inv .0) (l .inv .3)
+          (calm-turn (a .intervals .now) (a .periods .now) (l .t) (l .i) (omega arith) (l .inv .2 ∙ p .2) refl
+          (r .ensures .1 (not-false _ (c .if1 .left)))),
+    )
 
--- src/calm.rt:52:1
 same-length-2 : tie.Need-same-length-2 Inv-loop μ-loop
 same-length-2 c = c .before .loop .inv .2
 
--- src/calm.rt:52:1
 returns-2 : tie.Need-returns-2 Inv-loop μ-loop
 returns-2 c = let a = c .before .before .before .before .before .args in let l = c .before .loop in
     let e : l .i ≡ a .n = omega (arith, l .inv .1) in

@@ -10,15 +10,12 @@ use Rattle.ticks.proofs.tells.closes.Reads as reads
 use Rattle.ticks.proofs.tells.closes.Lts as lts
 use Rattle.ticks.proofs.tells.windowed.Reads as windowed-reads
 
--- src/tells.rt:27:9
 windowed-requires : tie.Need-windowed-requires
 windowed-requires c κs = search needs
 
--- src/tells.rt:28:30
 add-result : tie.Need-add-result
 add-result c = search needs
 
--- src/tells.rt:24:1
 returns : tie.Need-returns
 unfolding closesAt
 returns c = ap (λ (b : Bool). b && leb (c .before .args .period) (c .before .args .ticks + 1)) (c .windowed .ensures)

@@ -1,41 +1,33 @@
 use mathlib.Core.Path.{sym}
 use native.Mathlib.Omega.{arith}
-use Rattle.model.specs.Levels.{mean-up, mean-down}
+use Rattle.model.specs.LevelsLaws.{mean-up, mean-down}
 use borrow.Author.Needs.{needs}
 use Rattle.ticks.proofs.tells.mean_of.Statement.{statement}
 use Rattle.ticks.proofs.tells.mean_of.Tie as tie
 use Rattle.ticks.proofs.tells.mean_of.Reads as reads
 use Rattle.ticks.proofs.tells.mean_of.Lts as lts
 
--- src/tells.rt:41:17
 div-result : tie.Need-div-result
 div-result c = search needs
 
--- src/tells.rt:41:16
 cast-result : tie.Need-cast-result
 cast-result c = search needs
 
--- src/tells.rt:41:9
 returns : tie.Need-returns
 returns c = let a = c .before .args in sym (mean-up (a .sum) (a .packets) (c .if1 .taken))
 
--- src/tells.rt:43:18
 sub-below : tie.Need-sub-below
 sub-below c = search needs
 
--- src/tells.rt:43:17
 div-below : tie.Need-div-below
 div-below c = search needs
 
--- src/tells.rt:44:6
 sub-result : tie.Need-sub-result
 sub-result c = search needs
 
--- src/tells.rt:44:5
 cast-result-2 : tie.Need-cast-result-2
 cast-result-2 c = search needs
 
--- src/tells.rt:36:1
 returns-2 : tie.Need-returns-2
 returns-2 c = let a = c .before .args in sym (mean-down (a .sum) (a .packets) (c .if1 .left) (omega arith))
 

@@ -1,5 +1,5 @@
-use Rattle.ticks.specs.Written.{window-appended}
-use Rattle.octets.specs.Numbers.{number-of}
+use Rattle.ticks.specs.WrittenLaws.{window-appended}
+use Rattle.octets.specs.NumbersLaws.{number-of}
 use Rattle.octets.specs.Little.{little}
 use native.Mathlib.Omega.{arith}
 use mathlib.Core.Path.{_≡_}
@@ -14,77 +14,65 @@ use Rattle.octets.proofs.get64.Reads as get64-reads
 use Rattle.ticks.proofs.tells.mean_of.Reads as mean-of-reads
 use Rattle.model.specs.Layout.{packetsAt}
 
--- src/lib.rt:71:19
 get32-requires : tie.Need-get32-requires
 get32-requires c κs = search needs
 
--- src/lib.rt:71:19
 cast-packets : tie.Need-cast-packets
 cast-packets c = search needs
 
--- src/lib.rt:72:24
 get64-requires : tie.Need-get64-requires
 get64-requires c κs = search needs
 
--- src/lib.rt:72:9
 mean-of-requires : tie.Need-mean-of-requires
 mean-of-requires c κs = let a = c .before .before .before .before .args in
-    let p : c .before .get32 .result ≡ little 4 (a .r .now) packetsAt = number-of 4 (a .r .now) 11 (c .before .get32 .ensures) (omega arith) in
+    let p : c .before .get32 .result ≡ little 4 (a .r .now) packetsAt =
+    number-of 4 (a .r .now) 11 (c .before .get32 .ensures) (omega arith) in
     omega arith
 
--- src/lib.rt:73:20
 shared-slice-read-end : tie.Need-shared-slice-read-end
 shared-slice-read-end c = search needs
 
--- src/lib.rt:73:20
 cast-end : tie.Need-cast-end
 cast-end c = search needs
 
--- src/lib.rt:73:15
 add-end : tie.Need-add-end
 add-end c = search needs
 
--- src/lib.rt:74:33
 shared-slice-read-put-report : tie.Need-shared-slice-read-put-report
 shared-slice-read-put-report c = search needs
 
--- src/lib.rt:74:40
 sub-put-report : tie.Need-sub-put-report
 sub-put-report c = search needs
 
--- src/lib.rt:74:40
 part-put-report-start : tie.Need-part-put-report-start
 part-put-report-start c = search needs
 
--- src/lib.rt:74:40
 part-put-report-end : tie.Need-part-put-report-end
 part-put-report-end c = search needs
 
--- src/lib.rt:74:50
 sub-put-report-2 : tie.Need-sub-put-report-2
 sub-put-report-2 c = search needs
 
--- src/lib.rt:74:50
 part-put-report-start-2 : tie.Need-part-put-report-start-2
 part-put-report-start-2 c = search needs
 
--- src/lib.rt:74:50
 part-put-report-end-2 : tie.Need-part-put-report-end-2
 part-put-report-end-2 c = search needs
 
--- src/lib.rt:74:5
 put-report-requires : tie.Need-put-report-requires
 put-report-requires c κs = search needs
 
--- src/lib.rt:67:1
 same-length : tie.Need-same-length
 same-length c = search needs
 
--- src/lib.rt:67:1
 returns : tie.Need-returns
-returns c = let a = c .before .before .before .before .before .before .before .before .before .before .before .before .before .args in
-    window-appended (a .out .now) (a .at) (a .r .now) (omega arith) (omega arith) (omega arith) (c .before .before .before .before .before .before .before .before .before .before .get32 .ensures) (c .before .before .before .before .before .before .before .before .before .get64 .ensures)
-    (c .before .before .before .before .before .before .before .before .mean-of .ensures) (c .before .before .put-report .ensures .0) (c .before .before .put-report .ensures .1)
+returns c = let a =
+    c .before .before .before .before .before .before .before .before .before .before .before .before .before .args in
+    window-appended (a .out .now) (a .at) (a .r .now) (omega arith) (omega arith) (omega arith)
+    (c .before .before .before .before .before .before .before .before .before .before .get32 .ensures)
+    (c .before .before .before .before .before .before .before .before .before .get64 .ensures)
+    (c .before .before .before .before .before .before .before .before .mean-of .ensures)
+    (c .before .before .put-report .ensures .0) (c .before .before .put-report .ensures .1)
 
 pub put-window-spec : {M : Type 1} → statement M
 put-window-spec =

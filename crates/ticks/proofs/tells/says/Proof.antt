@@ -1,4 +1,4 @@
-use Rattle.ticks.specs.Written.{says-of, says-open}
+use Rattle.ticks.specs.WrittenLaws.{says-of, says-open}
 use mathlib.Core.Path.{sym, _∙_}
 use native.Mathlib.Omega.{arith}
 use borrow.Author.Tests.{not-true, not-false}
@@ -12,52 +12,45 @@ use Rattle.state.proofs.lets_through.Reads as lets-through-reads
 use Rattle.ticks.proofs.tells.closes.Reads as closes-reads
 use Rattle.ticks.proofs.tells.octet_at.Reads as octet-at-reads
 
--- src/lib.rt:80:24
 shared-slice-read-closes : tie.Need-shared-slice-read-closes
 shared-slice-read-closes c = search needs
 
--- src/lib.rt:80:9
 closes-requires : tie.Need-closes-requires
 closes-requires c κs = search needs
 
--- src/lib.rt:81:9
 returns : tie.Need-returns
 returns c = let a = c .before .before .before .before .before .args in
-    says-open (a .on) (a .period) (a .filters .now) (a .r .now) (sym (c .before .closes .ensures) ∙ not-true _ (c .if1 .taken))
+    says-open (a .on) (a .period) (a .filters .now) (a .r .now)
+    (sym (c .before .closes .ensures) ∙ not-true _ (c .if1 .taken))
 
--- src/lib.rt:83:9
 get32-requires : tie.Need-get32-requires
 get32-requires c κs = search needs
 
--- src/lib.rt:84:36
 shared-slice-read-octet-at : tie.Need-shared-slice-read-octet-at
 shared-slice-read-octet-at c = search needs
 
--- src/lib.rt:84:36
 cast-octet-at : tie.Need-cast-octet-at
 cast-octet-at c = omega (arith, c .shared-slice-known4 .given 0)
 
--- src/lib.rt:84:9
 octet-at-requires : tie.Need-octet-at-requires
 octet-at-requires c κs = search needs
 
--- src/lib.rt:85:47
 shared-slice-read-lets-through : tie.Need-shared-slice-read-lets-through
 shared-slice-read-lets-through c = search needs
 
--- src/lib.rt:85:9
 lets-through-requires : tie.Need-lets-through-requires
 lets-through-requires c κs = search needs
 
--- src/lib.rt:86:30
 shared-slice-read-result : tie.Need-shared-slice-read-result
 shared-slice-read-result c = search needs
 
--- src/lib.rt:76:1
 returns-2 : tie.Need-returns-2
 returns-2 c = let a = c .before .before .before .before .before .before .before .before .before .before .before .args in
     says-of (a .on) (a .period) (a .filters .now) (a .r .now) (omega arith)
-    (sym (c .before .before .before .before .before .before .before .closes .ensures) ∙ not-false _ (c .before .before .before .before .before .before .if1 .left)) (c .before .before .before .before .before .get32 .ensures) (c .before .before .before .octet-at .ensures) (c .before .lets-through .ensures)
+    (sym (c .before .before .before .before .before .before .before .closes .ensures)
+    ∙ not-false _ (c .before .before .before .before .before .before .if1 .left))
+    (c .before .before .before .before .before .get32 .ensures) (c .before .before .before .octet-at .ensures)
+    (c .before .lets-through .ensures)
 
 pub says-spec : {M : Type 1} → statement M
 says-spec =

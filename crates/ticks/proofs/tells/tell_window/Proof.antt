@@ -1,4 +1,4 @@
-use Rattle.ticks.specs.Written.{says, appended-none, appended-some}
+use Rattle.ticks.specs.WrittenLaws.{says, appended-none, appended-some}
 use mathlib.Core.Path.{_∙_, sym}
 use native.Mathlib.Omega.{arith}
 use borrow.Author.Needs.{needs}
@@ -9,25 +9,23 @@ use Rattle.ticks.proofs.tells.tell_window.Lts as lts
 use Rattle.ticks.proofs.tells.put_window.Reads as put-window-reads
 use Rattle.ticks.proofs.tells.says.Reads as says-reads
 
--- src/lib.rt:82:8
 says-requires : tie.Need-says-requires
 says-requires c κs = search needs
 
--- src/lib.rt:83:9
 put-window-requires : tie.Need-put-window-requires
 put-window-requires c κs = let a = c .before .before .before .before .before .before .args in
-    let f = says (a .on) (a .period) (a .filters .now) (a .r .now) (sym (c .before .before .says .ensures) ∙ c .before .if1 .taken) in
+    let f = says (a .on) (a .period) (a .filters .now) (a .r .now)
+    (sym (c .before .before .says .ensures) ∙ c .before .if1 .taken) in
     (omega arith, f .packets, f .short, omega arith)
 
--- src/lib.rt:83:9
 same-length : tie.Need-same-length
 same-length c = search needs
 
--- src/lib.rt:83:9
 returns : tie.Need-returns
-returns c = appended-some _ _ _ _ (sym (c .before .before .before .before .before .says .ensures) ∙ c .before .before .before .before .if1 .taken) (c .before .before .put-window .ensures)
+returns c = appended-some _ _ _ _
+    (sym (c .before .before .before .before .before .says .ensures) ∙ c .before .before .before .before .if1 .taken)
+    (c .before .before .put-window .ensures)
 
--- src/lib.rt:78:1
 returns-2 : tie.Need-returns-2
 returns-2 c = appended-none _ _ _ _ (sym (c .before .says .ensures) ∙ c .if1 .left)
 

@@ -5,7 +5,6 @@ use Rattle.ticks.proofs.tells.windowed.Tie as tie
 use Rattle.ticks.proofs.tells.windowed.Reads as reads
 use Rattle.ticks.proofs.tells.windowed.Lts as lts
 
--- src/lib.rt:29:1
 returns : tie.Need-returns
 unfolding windowedBy
 returns c = refl

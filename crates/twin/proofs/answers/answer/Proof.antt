@@ -1,5 +1,5 @@
-use Rattle.twin.specs.Answered.{says-tick, says-packet}
-use Rattle.twin.specs.Passed.{frames-less, packet-comes}
+use Rattle.twin.specs.AnsweredLaws.{says-tick, says-packet}
+use Rattle.twin.specs.PassedLaws.{frames-less, packet-comes}
 use native.Mathlib.Omega.{arith}
 use mathlib.Core.Path.{_≡_, refl, sym, _∙_}
 use borrow.Author.Needs.{needs}
@@ -13,49 +13,78 @@ use Rattle.twin.proofs.kept.kind_at.Reads as kind-at-reads
 use Rattle.twin.proofs.replies.reply.Reads as reply-reads
 use Rattle.twin.proofs.watch.after_all.Reads as after-all-reads
 
--- src/answers.rt:287:9
 kind-at-requires : tie.Need-kind-at-requires
-kind-at-requires c κs = c .before .before .before .pre .1 .formed (c .before .before .before .args .i) (omega arith) .stands
+kind-at-requires c κs =
+    c .before .before .before .pre .1 .formed (c .before .before .before .args .i) (omega arith) .stands
 
--- src/answers.rt:289:43
 after-all-requires : tie.Need-after-all-requires
-after-all-requires c κs = frames-less (c .before .before .before .before .before .args .t .now) _ (c .before .before .before .before .before .args .i) (omega arith) (c .before .before .before .before .before .pre .1)
+after-all-requires c κs =
+    frames-less (c .before .before .before .before .before .args .t .now) _
+    (c .before .before .before .before .before .args .i) (omega arith)
+    (c .before .before .before .before .before .pre .1)
 
--- src/answers.rt:289:9
 reply-requires : tie.Need-reply-requires
-reply-requires c κs = (c .before .before .before .before .before .before .before .pre .0, c .before .before .before .before .before .before .before .pre .1 .formed (c .before .before .before .before .before .before .before .args .i) (omega arith), sym (c .before .before .before .kind-at .ensures) ∙ c .before .before .if1 .taken, c .before .after-all .ensures, c .before .before .before .before .before .before .before .pre .2)
+reply-requires c κs = (
+  c .before .before .before .before .before .before .before .pre .0,
+  c .before .before .before .before .before .before .before .pre .1 .formed
+      (c .before .before .before .before .before .before .before .args .i) (omega arith),
+  sym
+      (c .before .before .before .kind-at .ensures)
+      ∙ c .before .before .if1 .taken,
+  c .before .after-all .ensures,
+  c .before .before .before .before .before .before .before .pre .2,
+)
 
--- src/answers.rt:289:9
 same-length : tie.Need-same-length
 same-length c = search needs
 
--- src/answers.rt:289:9
 returns : tie.Need-returns
 returns c = search needs
 
--- src/answers.rt:292:9
 tick-requires : tie.Need-tick-requires
 tick-requires c κs = search needs
 
--- src/answers.rt:292:9
 same-length-2 : tie.Need-same-length-2
 same-length-2 c = search needs
 
--- src/answers.rt:292:9
 returns-2 : tie.Need-returns-2
-returns-2 c = says-tick (c .before .before .before .before .before .before .before .before .before .before .args .head .now) (c .before .before .before .before .before .before .before .before .before .before .args .t .now) (c .before .before .before .before .before .before .before .before .before .before .args .i) (c .before .before .before .before .before .before .before .before .before .before .pre .1 .formed (c .before .before .before .before .before .before .before .before .before .before .args .i) (omega arith)) (sym (c .before .before .before .before .before .before .kind-at .ensures) ∙ c .before .before .before .before .if2 .taken) (c .before .before .tick .ensures)
+returns-2 c = says-tick
+    (c .before .before .before .before .before .before .before .before .before .before .args .head .now)
+    (c .before .before .before .before .before .before .before .before .before .before .args .t .now)
+    (c .before .before .before .before .before .before .before .before .before .before .args .i)
+    (c .before .before .before .before .before .before .before .before .before .before .pre .1 .formed
+    (c .before .before .before .before .before .before .before .before .before .before .args .i) (omega arith))
+    (sym (c .before .before .before .before .before .before .kind-at .ensures)
+    ∙ c .before .before .before .before .if2 .taken) (c .before .before .tick .ensures)
 
--- src/answers.rt:294:5
 packet-requires : tie.Need-packet-requires
-packet-requires c κs = (c .before .before .before .before .before .before .before .pre .0, c .before .before .before .before .before .before .before .pre .1, packet-comes (c .before .before .before .before .before .before .before .args .t .now) (c .before .before .before .before .before .before .before .args .i) (c .before .before .before .before .before .before .before .pre .1) (λ z. c .before .before .if1 .left (c .before .before .before .kind-at .ensures ∙ z)) (λ z. c .before .if2 .left (c .before .before .before .kind-at .ensures ∙ z)), c .before .before .before .before .before .before .before .pre .2)
+packet-requires c κs = (
+  c .before .before .before .before .before .before .before .pre .0,
+  c .before .before .before .before .before .before .before .pre .1,
+  packet-comes
+      (c .before .before .before .before .before .before .before .args .t .now)
+      (c .before .before .before .before .before .before .before .args .i)
+      (c .before .before .before .before .before .before .before .pre .1)
+      (λ z. c .before .before .if1 .left (c .before .before .before .kind-at .ensures ∙ z))
+      (λ z. c .before .if2 .left (c .before .before .before .kind-at .ensures ∙ z)),
+  c .before .before .before .before .before .before .before .pre .2,
+)
 
--- src/answers.rt:283:1
 same-length-3 : tie.Need-same-length-3
 same-length-3 c = search needs
 
--- src/answers.rt:283:1
 returns-3 : tie.Need-returns-3
-returns-3 c = says-packet (c .before .before .before .before .before .before .before .before .before .before .args .head .now) (c .before .before .before .before .before .before .before .before .before .before .args .t .now) (c .before .before .before .before .before .before .before .before .before .before .args .i) (packet-comes (c .before .before .before .before .before .before .before .before .before .before .args .t .now) (c .before .before .before .before .before .before .before .before .before .before .args .i) (c .before .before .before .before .before .before .before .before .before .before .pre .1) (λ z. c .before .before .before .before .before .if1 .left (c .before .before .before .before .before .before .kind-at .ensures ∙ z)) (λ z. c .before .before .before .before .if2 .left (c .before .before .before .before .before .before .kind-at .ensures ∙ z))) (c .before .before .packet .ensures)
+returns-3 c = says-packet
+    (c .before .before .before .before .before .before .before .before .before .before .args .head .now)
+    (c .before .before .before .before .before .before .before .before .before .before .args .t .now)
+    (c .before .before .before .before .before .before .before .before .before .before .args .i)
+    (packet-comes (c .before .before .before .before .before .before .before .before .before .before .args .t .now)
+    (c .before .before .before .before .before .before .before .before .before .before .args .i)
+    (c .before .before .before .before .before .before .before .before .before .before .pre .1)
+    (λ z. c .before .before .before .before .before .if1 .left
+    (c .before .before .before .before .before .before .kind-at .ensures ∙ z))
+    (λ z. c .before .before .before .before .if2 .left
+    (c .before .before .before .before .before .before .kind-at .ensures ∙ z))) (c .before .before .packet .ensures)
 
 pub answer-spec : {M : Type 1} → statement M
 answer-spec =

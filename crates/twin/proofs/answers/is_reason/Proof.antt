@@ -1,6 +1,6 @@
-use Rattle.twin.specs.Reported.{reason-sampled, reason-unheard, reason-barred, reason-asked, sent-next}
-use Rattle.twin.specs.Numbered.{start-added}
-use Rattle.twin.specs.Filters.{added-long}
+use Rattle.twin.specs.ReportedLaws.{reason-sampled, reason-unheard, reason-barred, reason-asked, sent-next}
+use Rattle.twin.specs.NumberedLaws.{start-added}
+use Rattle.twin.specs.FiltersLaws.{added-long}
 use borrow.Author.Tests.{not-true, not-false}
 use native.Mathlib.Omega.{arith}
 use borrow.Author.Needs.{needs}
@@ -14,53 +14,99 @@ use Rattle.twin.proofs.pairs.allows.Reads as allows-reads
 use Rattle.twin.proofs.pairs.duplicates.Reads as duplicates-reads
 use Rattle.twin.proofs.pairs.last_reason.Reads as last-reason-reads
 
--- src/answers.rt:100:8
 params-of-requires : tie.Need-params-of-requires
 params-of-requires c κs = search needs
 
--- src/answers.rt:100:8
 shared-slice-read-if1 : tie.Need-shared-slice-read-if1
-shared-slice-read-if1 c = omega (arith, added-long (c .before .before .before .args .t .now) (c .before .before .before .args .a) _ (start-added (c .before .before .before .args .t .now) (c .before .before .before .args .a) (c .before .before .before .args .k) (c .before .before .before .pre .0 .start)) (c .before .params-of .ensures))
+shared-slice-read-if1 c =
+    omega (
+      arith,
+      added-long (c .before .before .before .args .t .now) (c .before .before .before .args .a) _
+          (start-added (c .before .before .before .args .t .now) (c .before .before .before .args .a)
+          (c .before .before .before .args .k) (c .before .before .before .pre .0 .start)) (c .before .params-of .ensures),
+    )
 
--- src/answers.rt:101:9
 returns : tie.Need-returns
-returns c = λ h. reason-sampled (c .before .before .before .before .args .t .now) (c .before .before .before .before .args .i) (c .before .before .before .before .args .a) (c .before .before .before .before .args .k) h (c .before .before .before .before .pre .1) (c .before .before .before .before .pre .2) (c .before .before .before .before .pre .0 .order) _ (c .before .before .params-of .ensures) (c .if1 .taken)
+returns c = λ h. reason-sampled (c .before .before .before .before .args .t .now)
+    (c .before .before .before .before .args .i) (c .before .before .before .before .args .a)
+    (c .before .before .before .before .args .k) h (c .before .before .before .before .pre .1)
+    (c .before .before .before .before .pre .2) (c .before .before .before .before .pre .0 .order) _
+    (c .before .before .params-of .ensures) (c .if1 .taken)
 
--- src/answers.rt:103:9
 is-heard-requires : tie.Need-is-heard-requires
 is-heard-requires c κs = search needs
 
--- src/answers.rt:104:9
 returns-2 : tie.Need-returns-2
-returns-2 c = λ h. reason-unheard (c .before .before .before .before .before .before .args .t .now) (c .before .before .before .before .before .before .args .i) (c .before .before .before .before .before .before .args .a) (c .before .before .before .before .before .before .args .k) h (c .before .before .before .before .before .before .pre .1) (c .before .before .before .before .before .before .pre .2) (c .before .before .before .before .before .before .pre .0 .order) (c .before .is-heard .ensures) (not-true _ (c .if2 .taken))
+returns-2 c = λ h. reason-unheard (c .before .before .before .before .before .before .args .t .now)
+    (c .before .before .before .before .before .before .args .i)
+    (c .before .before .before .before .before .before .args .a)
+    (c .before .before .before .before .before .before .args .k) h
+    (c .before .before .before .before .before .before .pre .1)
+    (c .before .before .before .before .before .before .pre .2)
+    (c .before .before .before .before .before .before .pre .0 .order) (c .before .is-heard .ensures)
+    (not-true _ (c .if2 .taken))
 
--- src/answers.rt:106:29
 add-allows : tie.Need-add-allows
 add-allows c = search needs
 
--- src/answers.rt:106:9
 allows-requires : tie.Need-allows-requires
-allows-requires c κs = (start-added (c .before .before .before .before .before .before .args .t .now) (c .before .before .before .before .before .before .args .a) (c .before .before .before .before .before .before .args .k) (c .before .before .before .before .before .before .pre .0 .start), sent-next (c .before .before .before .before .before .before .args .t .now) (c .before .before .before .before .before .before .args .i) (c .before .before .before .before .before .before .pre .1))
+allows-requires c κs = (
+  start-added (c .before .before .before .before .before .before .args .t .now)
+      (c .before .before .before .before .before .before .args .a)
+      (c .before .before .before .before .before .before .args .k)
+      (c .before .before .before .before .before .before .pre .0 .start),
+  sent-next
+      (c .before .before .before .before .before .before .args .t .now)
+      (c .before .before .before .before .before .before .args .i)
+      (c .before .before .before .before .before .before .pre .1),
+)
 
--- src/answers.rt:107:9
 returns-3 : tie.Need-returns-3
-returns-3 c = λ h. reason-barred (c .before .before .before .before .before .before .before .before .args .t .now) (c .before .before .before .before .before .before .before .before .args .i) (c .before .before .before .before .before .before .before .before .args .a) (c .before .before .before .before .before .before .before .before .args .k) h (c .before .before .before .before .before .before .before .before .pre .1) (c .before .before .before .before .before .before .before .before .pre .2) (c .before .before .before .before .before .before .before .before .pre .0 .order) _ (c .before .before .before .before .before .before .params-of .ensures) (c .before .before .before .before .if1 .left) (c .before .before .before .is-heard .ensures) (not-false _ (c .before .before .if2 .left)) (c .before .allows .ensures) (not-true _ (c .if3 .taken))
+returns-3 c = λ h. reason-barred (c .before .before .before .before .before .before .before .before .args .t .now)
+    (c .before .before .before .before .before .before .before .before .args .i)
+    (c .before .before .before .before .before .before .before .before .args .a)
+    (c .before .before .before .before .before .before .before .before .args .k) h
+    (c .before .before .before .before .before .before .before .before .pre .1)
+    (c .before .before .before .before .before .before .before .before .pre .2)
+    (c .before .before .before .before .before .before .before .before .pre .0 .order) _
+    (c .before .before .before .before .before .before .params-of .ensures)
+    (c .before .before .before .before .if1 .left) (c .before .before .before .is-heard .ensures)
+    (not-false _ (c .before .before .if2 .left)) (c .before .allows .ensures) (not-true _ (c .if3 .taken))
 
--- src/answers.rt:109:30
 last-reason-requires : tie.Need-last-reason-requires
 last-reason-requires c κs = search needs
 
--- src/answers.rt:109:62
 add-duplicates : tie.Need-add-duplicates
 add-duplicates c = search needs
 
--- src/answers.rt:109:6
 duplicates-requires : tie.Need-duplicates-requires
-duplicates-requires c κs = (start-added (c .before .before .before .before .before .before .before .before .before .args .t .now) (c .before .before .before .before .before .before .before .before .before .args .a) (c .before .before .before .before .before .before .before .before .before .args .k) (c .before .before .before .before .before .before .before .before .before .pre .0 .start), c .last-reason .ensures .0 .sent, sent-next (c .before .before .before .before .before .before .before .before .before .args .t .now) (c .before .before .before .before .before .before .before .before .before .args .i) (c .before .before .before .before .before .before .before .before .before .pre .1))
+duplicates-requires c κs = (
+  start-added (c .before .before .before .before .before .before .before .before .before .args .t .now)
+      (c .before .before .before .before .before .before .before .before .before .args .a)
+      (c .before .before .before .before .before .before .before .before .before .args .k)
+      (c .before .before .before .before .before .before .before .before .before .pre .0 .start),
+  c .last-reason .ensures .0 .sent,
+  sent-next
+      (c .before .before .before .before .before .before .before .before .before .args .t .now)
+      (c .before .before .before .before .before .before .before .before .before .args .i)
+      (c .before .before .before .before .before .before .before .before .before .pre .1),
+)
 
--- src/answers.rt:96:1
 returns-4 : tie.Need-returns-4
-returns-4 c = λ h. reason-asked (c .before .before .before .before .before .before .before .before .before .before .args .t .now) (c .before .before .before .before .before .before .before .before .before .before .args .i) (c .before .before .before .before .before .before .before .before .before .before .args .a) (c .before .before .before .before .before .before .before .before .before .before .args .k) h (c .before .before .before .before .before .before .before .before .before .before .pre .1) (c .before .before .before .before .before .before .before .before .before .before .pre .2) (c .before .before .before .before .before .before .before .before .before .before .pre .0 .order) _ (c .before .before .before .before .before .before .before .before .params-of .ensures) (c .before .before .before .before .before .before .if1 .left) (c .before .before .before .before .before .is-heard .ensures) (not-false _ (c .before .before .before .before .if2 .left)) (c .before .before .before .allows .ensures) (c .before .last-reason .result) (not-false _ (c .before .before .if3 .left)) (c .before .last-reason .ensures .1 h) (c .duplicates .ensures)
+returns-4 c = λ h. reason-asked
+    (c .before .before .before .before .before .before .before .before .before .before .args .t .now)
+    (c .before .before .before .before .before .before .before .before .before .before .args .i)
+    (c .before .before .before .before .before .before .before .before .before .before .args .a)
+    (c .before .before .before .before .before .before .before .before .before .before .args .k) h
+    (c .before .before .before .before .before .before .before .before .before .before .pre .1)
+    (c .before .before .before .before .before .before .before .before .before .before .pre .2)
+    (c .before .before .before .before .before .before .before .before .before .before .pre .0 .order) _
+    (c .before .before .before .before .before .before .before .before .params-of .ensures)
+    (c .before .before .before .before .before .before .if1 .left)
+    (c .before .before .before .before .before .is-heard .ensures)
+    (not-false _ (c .before .before .before .before .if2 .left)) (c .before .before .before .allows .ensures)
+    (c .before .last-reason .result) (not-false _ (c .before .before .if3 .left))
+    (c .before .last-reason .ensures .1 h) (c .duplicates .ensures)
 
 pub is-reason-spec : {M : Type 1} → statement M
 is-reason-spec =

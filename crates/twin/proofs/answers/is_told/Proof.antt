@@ -1,7 +1,7 @@
-use Rattle.twin.specs.Ticking.{start-looks}
-use Rattle.twin.specs.Marks.{looks-at}
-use Rattle.twin.specs.Reported.{toldBy, told-at, told-all}
-use Rattle.twin.specs.Starts.{below-pairs, some-hit, some-miss, some-end}
+use Rattle.twin.specs.TickingLaws.{start-looks}
+use Rattle.twin.specs.MarksLaws.{looks-at}
+use Rattle.twin.specs.ReportedLaws.{toldBy, told-at, told-all}
+use Rattle.twin.specs.StartsLaws.{below-pairs, some-hit, some-miss, some-end}
 use Rattle.twin.specs.Seen.{listOf, begunAt}
 use Rattle.laws.specs.Loops.{some as someOf}
 use borrow.Author.Needs.{needs}
@@ -18,46 +18,89 @@ use Rattle.twin.proofs.watch.monitor_of.Reads as monitor-of-reads
 use Rattle.twin.proofs.watch.packet_of.Reads as packet-of-reads
 
 abbrev Inv-loop : tie.InvT-loop
-Inv-loop t i seen j₀ j = (j ≤ seen .count) × (someOf (toldBy t i) (drop j (listOf seen)) ≡ someOf (toldBy t i) (listOf seen))
+Inv-loop t i seen j₀ j =
+    (j ≤ seen .count) × (someOf (toldBy t i) (drop j (listOf seen)) ≡ someOf (toldBy t i) (listOf seen))
 
 abbrev μ-loop : tie.MeasureT-loop
 μ-loop t i seen j₀ j = seen .count - j
 
--- src/answers.rt:118:5
 loop-holds : tie.Need-loop-holds Inv-loop μ-loop
 loop-holds c = (omega arith, refl)
 
--- src/answers.rt:119:28
 monitor-of-requires : tie.Need-monitor-of-requires Inv-loop μ-loop
-monitor-of-requires c κs = below-pairs (c .before .before .before .before .args .seen) (c .before .before .before .before .pre .2 .shows .held) (c .before .before .loop .j) (c .if1 .taken)
+monitor-of-requires c κs =
+    below-pairs (c .before .before .before .before .args .seen)
+    (c .before .before .before .before .pre .2 .shows .held) (c .before .before .loop .j) (c .if1 .taken)
 
--- src/answers.rt:119:56
 packet-of-requires : tie.Need-packet-of-requires Inv-loop μ-loop
-packet-of-requires c κs = below-pairs (c .before .before .before .before .before .args .seen) (c .before .before .before .before .before .pre .2 .shows .held) (c .before .before .before .loop .j) (c .before .if1 .taken)
+packet-of-requires c κs =
+    below-pairs (c .before .before .before .before .before .args .seen)
+    (c .before .before .before .before .before .pre .2 .shows .held) (c .before .before .before .loop .j)
+    (c .before .if1 .taken)
 
--- src/answers.rt:119:12
 is-reason-requires : tie.Need-is-reason-requires Inv-loop μ-loop
-is-reason-requires c κs = (looks-at (c .before .before .before .before .before .before .args .t .now) (c .before .before .before .before .before .before .args .i) _ _ (begunAt (c .before .before .before .before .before .before .args .seen) (c .before .before .before .before .loop .j)) (c .before .monitor-of .ensures) (c .packet-of .ensures) (start-looks (c .before .before .before .before .before .before .args .t .now) (c .before .before .before .before .before .before .args .i) _ (c .before .before .before .before .before .before .args .seen) (c .before .before .before .before .loop .j) (c .before .before .before .before .before .before .pre .0) refl (c .before .before .before .before .before .before .pre .2) (c .before .before .if1 .taken) .1), c .before .before .before .before .before .before .pre .1, c .before .before .before .before .before .before .pre .0 .formed (c .before .before .before .before .before .before .args .i) (omega arith))
+is-reason-requires c κs = (
+  looks-at (c .before .before .before .before .before .before .args .t .now)
+      (c .before .before .before .before .before .before .args .i) _ _
+      (begunAt (c .before .before .before .before .before .before .args .seen)
+      (c .before .before .before .before .loop .j)) (c .before .monitor-of .ensures) (c .packet-of .ensures)
+      (start-looks (c .before .before .before .before .before .before .args .t .now)
+      (c .before .before .before .before .before .before .args .i) _
+      (c .before .before .before .before .before .before .args .seen) (c .before .before .before .before .loop .j)
+      (c .before .before .before .before .before .before .pre .0) refl
+      (c .before .before .before .before .before .before .pre .2) (c .before .before .if1 .taken) .1),
+  c .before .before .before .before .before .before .pre .1,
+  c .before .before .before .before .before .before .pre .0 .formed
+      (c .before .before .before .before .before .before .args .i) (omega arith),
+)
 
--- src/answers.rt:120:13
 returns : tie.Need-returns Inv-loop μ-loop
-returns c = sym (some-hit (toldBy (c .before .before .before .before .before .before .before .before .args .t .now) (c .before .before .before .before .before .before .before .before .args .i)) (c .before .before .before .before .before .before .before .before .args .seen) (c .before .before .before .before .before .before .loop .j) (c .before .before .before .before .before .before .before .before .pre .2 .shows .held) (c .before .before .before .before .if1 .taken) (told-at (c .before .before .before .before .before .before .before .before .args .t .now) (c .before .before .before .before .before .before .before .before .args .i) _ _ _ (c .before .before .before .monitor-of .ensures) (c .before .before .packet-of .ensures) (c .before .is-reason .ensures)) (c .if2 .taken)) ∙ c .before .before .before .before .before .before .loop .inv .1 ∙ told-all (c .before .before .before .before .before .before .before .before .args .t .now) (c .before .before .before .before .before .before .before .before .args .i) (c .before .before .before .before .before .before .before .before .args .seen) (c .before .before .before .before .before .before .before .before .pre .2)
+returns c = sym (some-hit
+    (toldBy (c .before .before .before .before .before .before .before .before .args .t .now)
+    (c .before .before .before .before .before .before .before .before .args .i))
+    (c .before .before .before .before .before .before .before .before .args .seen)
+    (c .before .before .before .before .before .before .loop .j)
+    (c .before .before .before .before .before .before .before .before .pre .2 .shows .held)
+    (c .before .before .before .before .if1 .taken)
+    (told-at (c .before .before .before .before .before .before .before .before .args .t .now)
+    (c .before .before .before .before .before .before .before .before .args .i) _ _ _
+    (c .before .before .before .monitor-of .ensures) (c .before .before .packet-of .ensures)
+    (c .before .is-reason .ensures)) (c .if2 .taken))
+    ∙ c .before .before .before .before .before .before .loop .inv .1
+    ∙ told-all (c .before .before .before .before .before .before .before .before .args .t .now)
+    (c .before .before .before .before .before .before .before .before .args .i)
+    (c .before .before .before .before .before .before .before .before .args .seen)
+    (c .before .before .before .before .before .before .before .before .pre .2)
 
--- src/answers.rt:122:9
 add-j : tie.Need-add-j Inv-loop μ-loop
 add-j c = search needs
 
--- src/answers.rt:118:5
 loop-less : tie.Need-loop-less Inv-loop μ-loop
 loop-less c = search needs
 
--- src/answers.rt:118:5
 loop-again : tie.Need-loop-again Inv-loop μ-loop
-loop-again c = (omega (arith, c .before .before .before .before .if1 .taken), sym (some-miss (toldBy (c .before .before .before .before .before .before .before .before .args .t .now) (c .before .before .before .before .before .before .before .before .args .i)) (c .before .before .before .before .before .before .before .before .args .seen) (c .before .before .before .before .before .before .loop .j) (c .before .before .before .before .before .before .before .before .pre .2 .shows .held) (c .before .before .before .before .if1 .taken) (told-at (c .before .before .before .before .before .before .before .before .args .t .now) (c .before .before .before .before .before .before .before .before .args .i) _ _ _ (c .before .before .before .monitor-of .ensures) (c .before .before .packet-of .ensures) (c .before .is-reason .ensures)) (c .if2 .left)) ∙ c .before .before .before .before .before .before .loop .inv .1)
+loop-again c = (
+  omega (arith, c .before .before .before .before .if1 .taken),
+  sym
+      (some-miss (toldBy (c .before .before .before .before .before .before .before .before .args .t .now)
+      (c .before .before .before .before .before .before .before .before .args .i))
+      (c .before .before .before .before .before .before .before .before .args .seen)
+      (c .before .before .before .before .before .before .loop .j)
+      (c .before .before .before .before .before .before .before .before .pre .2 .shows .held)
+      (c .before .before .before .before .if1 .taken)
+      (told-at (c .before .before .before .before .before .before .before .before .args .t .now)
+      (c .before .before .before .before .before .before .before .before .args .i) _ _ _
+      (c .before .before .before .monitor-of .ensures) (c .before .before .packet-of .ensures)
+      (c .before .is-reason .ensures)) (c .if2 .left)) ∙ c .before .before .before .before .before .before .loop .inv .1,
+)
 
--- src/answers.rt:113:1
 returns-2 : tie.Need-returns-2 Inv-loop μ-loop
-returns-2 c = sym (some-end (toldBy (c .before .before .before .before .args .t .now) (c .before .before .before .before .args .i)) (c .before .before .before .before .args .seen) (c .before .before .loop .j) (c .before .before .before .before .pre .2 .shows .held) (c .if1 .left)) ∙ c .before .before .loop .inv .1 ∙ told-all (c .before .before .before .before .args .t .now) (c .before .before .before .before .args .i) (c .before .before .before .before .args .seen) (c .before .before .before .before .pre .2)
+returns-2 c = sym
+    (some-end (toldBy (c .before .before .before .before .args .t .now) (c .before .before .before .before .args .i))
+    (c .before .before .before .before .args .seen) (c .before .before .loop .j)
+    (c .before .before .before .before .pre .2 .shows .held) (c .if1 .left)) ∙ c .before .before .loop .inv .1
+    ∙ told-all (c .before .before .before .before .args .t .now) (c .before .before .before .before .args .i)
+    (c .before .before .before .before .args .seen) (c .before .before .before .before .pre .2)
 
 pub is-told-spec : {M : Type 1} → statement M
 is-told-spec =

@@ -1,6 +1,6 @@
-use Rattle.twin.specs.Turning.{packet-quiet, packet-told}
-use Rattle.twin.specs.Passed.{frames-less}
-use Rattle.twin.specs.Marks.{packet-framed-at}
+use Rattle.twin.specs.TurningTurns.{packet-quiet, packet-told}
+use Rattle.twin.specs.PassedLaws.{frames-less}
+use Rattle.twin.specs.MarksLaws.{packet-framed-at}
 use Rattle.commands.specs.Replies.{prefixIn}
 use borrow.Author.Tests.{not-true, not-false}
 use lib.ListN.{length}
@@ -12,50 +12,75 @@ use Rattle.twin.proofs.answers.packet.Tie as tie
 use Rattle.twin.proofs.answers.packet.Reads as reads
 use Rattle.twin.proofs.answers.packet.Lts as lts
 use Rattle.twin.proofs.answers.is_reported.Reads as is-reported-reads
-use Rattle.twin.proofs.answers.put_reports.Reads as put-reports-reads
+use Rattle.twin.proofs.writes.put_reports.Reads as put-reports-reads
 use Rattle.twin.proofs.answers.put_turns.Reads as put-turns-reads
 use Rattle.twin.proofs.kept.payload_at.Reads as payload-at-reads
 use Rattle.twin.proofs.watch.after_all.Reads as after-all-reads
 
--- src/answers.rt:219:9
 after-all-requires : tie.Need-after-all-requires
-after-all-requires c κs = frames-less (c .before .before .before .args .t .now) _ (c .before .before .before .args .i) (omega arith) (c .before .before .before .pre .1)
+after-all-requires c κs =
+    frames-less (c .before .before .before .args .t .now) _ (c .before .before .before .args .i) (omega arith)
+    (c .before .before .before .pre .1)
 
--- src/answers.rt:220:9
 put-turns-requires : tie.Need-put-turns-requires
 put-turns-requires c κs = search needs
 
--- src/answers.rt:221:9
 is-reported-requires : tie.Need-is-reported-requires
 is-reported-requires c κs = search needs
 
--- src/answers.rt:222:9
 same-length : tie.Need-same-length
 same-length c = search needs
 
--- src/answers.rt:222:9
 returns : tie.Need-returns
-returns c = packet-quiet (prefixIn (c .before .before .before .before .before .before .before .before .before .before .args .head .now)) (c .before .before .before .before .before .before .before .before .before .before .args .t .now) (c .before .before .before .before .before .before .before .before .before .before .args .i) (c .before .before .before .before .put-turns .ensures .1) (c .before .is-reported .ensures) (not-true _ (c .if1 .taken))
+returns c = packet-quiet
+    (prefixIn (c .before .before .before .before .before .before .before .before .before .before .args .head .now))
+    (c .before .before .before .before .before .before .before .before .before .before .args .t .now)
+    (c .before .before .before .before .before .before .before .before .before .before .args .i)
+    (c .before .before .before .before .put-turns .ensures .1) (c .before .is-reported .ensures)
+    (not-true _ (c .if1 .taken))
 
--- src/answers.rt:224:22
 payload-at-requires : tie.Need-payload-at-requires
 payload-at-requires c κs = search needs
 
--- src/answers.rt:224:10
 put-reports-requires : tie.Need-put-reports-requires
-put-reports-requires c κs = (packet-framed-at (c .before .before .before .before .before .before .before .before .before .before .before .before .args .t .now) (c .before .before .before .before .before .before .before .before .before .before .before .before .args .i) _ (c .before .before .before .before .before .before .before .before .before .before .before .before .pre .2) (c .before .payload-at .ensures), omega (arith, c .before .before .before .before .before .before .before .before .before .before .before .before .pre .3, c .before .before .before .before .before .before .put-turns .ensures .0, c .before .before .before .before .before .out .given))
+put-reports-requires c κs = (
+  packet-framed-at
+      (c .before .before .before .before .before .before .before .before .before .before .before .before .args .t .now)
+      (c .before .before .before .before .before .before .before .before .before .before .before .before .args .i) _
+      (c .before .before .before .before .before .before .before .before .before .before .before .before .pre .2)
+      (c .before .payload-at .ensures),
+  omega (
+    arith,
+    c .before .before .before .before .before .before .before .before .before .before .before .before .pre .3,
+    c .before .before .before .before .before .before .put-turns .ensures .0,
+    c .before .before .before .before .before .out .given,
+  ),
+)
 
--- src/answers.rt:224:5
 add-result : tie.Need-add-result
 add-result c = search needs
 
--- src/answers.rt:215:1
 same-length-2 : tie.Need-same-length-2
 same-length-2 c = search needs
 
--- src/answers.rt:215:1
 returns-2 : tie.Need-returns-2
-returns-2 c = packet-told (prefixIn (c .before .before .before .before .before .before .before .before .before .before .before .before .before .before .before .args .head .now)) (c .before .before .before .before .before .before .before .before .before .before .before .before .before .before .before .args .t .now) (c .before .before .before .before .before .before .before .before .before .before .before .before .before .before .before .args .i) (omega (arith, c .before .before .before .before .before .before .before .before .before .before .before .before .before .before .before .pre .3, c .before .before .before .before .before .before .before .before .before .put-turns .ensures .0)) (c .before .before .before .before .before .before .before .before .before .put-turns .ensures .1) (c .before .before .before .before .before .before .is-reported .ensures) (not-false _ (c .before .before .before .before .before .if1 .left)) (c .before .before .before .before .payload-at .ensures) (c .before .before .put-reports .ensures .1)
+returns-2 c = packet-told
+    (prefixIn (c .before .before .before .before .before .before .before .before .before .before .before .before
+    .before .before .before .args .head .now))
+    (c .before .before .before .before .before .before .before .before .before .before .before .before .before .before
+    .before .args .t .now)
+    (c .before .before .before .before .before .before .before .before .before .before .before .before .before .before
+    .before .args .i)
+    (omega (
+      arith,
+      c .before .before .before .before .before .before .before .before .before .before .before .before
+          .before .before .before .pre .3,
+      c .before .before .before .before .before .before .before .before .before .put-turns .ensures .0,
+    ))
+    (c .before .before .before .before .before .before .before .before .before .put-turns .ensures .1)
+    (c .before .before .before .before .before .before .is-reported .ensures)
+    (not-false _ (c .before .before .before .before .before .if1 .left))
+    (c .before .before .before .before .payload-at .ensures) (c .before .before .put-reports .ensures .1)
 
 pub packet-spec : {M : Type 1} → statement M
 packet-spec =

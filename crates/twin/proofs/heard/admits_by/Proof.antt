@@ -1,4 +1,4 @@
-use Rattle.twin.specs.Heard.{admits-any, admits-peer, admits-key}
+use Rattle.twin.specs.HeardLaws.{admits-any, admits-peer, admits-key}
 use borrow.Author.Needs.{needs}
 use Rattle.twin.proofs.heard.admits_by.Statement.{statement}
 use Rattle.twin.proofs.heard.admits_by.Tie as tie
@@ -7,29 +7,29 @@ use Rattle.twin.proofs.heard.admits_by.Lts as lts
 use Rattle.twin.proofs.heard.is_owner.Reads as is-owner-reads
 use Rattle.twin.proofs.heard.is_peer.Reads as is-peer-reads
 
--- src/heard.rt:46:8
 shared-slice-read-if1 : tie.Need-shared-slice-read-if1
 shared-slice-read-if1 c = search needs
 
--- src/heard.rt:47:9
 returns : tie.Need-returns
-returns c = admits-any (c .before .before .before .before .args .extra .now) (c .before .before .before .before .args .payload .now) (c .if1 .taken)
+returns c = admits-any (c .before .before .before .before .args .extra .now)
+    (c .before .before .before .before .args .payload .now) (c .if1 .taken)
 
--- src/heard.rt:49:8
 is-peer-requires : tie.Need-is-peer-requires
 is-peer-requires c κs = search needs
 
--- src/heard.rt:50:9
 returns-2 : tie.Need-returns-2
-returns-2 c = admits-peer (c .before .before .before .before .before .before .args .extra .now) (c .before .before .before .before .before .before .args .payload .now) (c .before .before .if1 .left) (c .before .is-peer .ensures) (c .if2 .taken)
+returns-2 c = admits-peer (c .before .before .before .before .before .before .args .extra .now)
+    (c .before .before .before .before .before .before .args .payload .now) (c .before .before .if1 .left)
+    (c .before .is-peer .ensures) (c .if2 .taken)
 
--- src/heard.rt:52:5
 is-owner-requires : tie.Need-is-owner-requires
 is-owner-requires c κs = search needs
 
--- src/heard.rt:42:1
 returns-3 : tie.Need-returns-3
-returns-3 c = admits-key (c .before .before .before .before .before .before .before .args .extra .now) (c .before .before .before .before .before .before .before .args .payload .now) (c .before .before .before .if1 .left) (c .before .before .is-peer .ensures) (c .before .if2 .left) (c .is-owner .ensures)
+returns-3 c = admits-key (c .before .before .before .before .before .before .before .args .extra .now)
+    (c .before .before .before .before .before .before .before .args .payload .now)
+    (c .before .before .before .if1 .left) (c .before .before .is-peer .ensures) (c .before .if2 .left)
+    (c .is-owner .ensures)
 
 pub admits-by-spec : {M : Type 1} → statement M
 admits-by-spec =

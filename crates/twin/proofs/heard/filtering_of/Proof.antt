@@ -1,4 +1,4 @@
-use Rattle.twin.specs.Filters.{filtering-first, filtering-long, filtering-second}
+use Rattle.twin.specs.FiltersLaws.{filtering-first, filtering-long, filtering-second}
 use borrow.Author.Needs.{needs}
 use Rattle.twin.proofs.heard.filtering_of.Statement.{statement}
 use Rattle.twin.proofs.heard.filtering_of.Tie as tie
@@ -6,25 +6,24 @@ use Rattle.twin.proofs.heard.filtering_of.Reads as reads
 use Rattle.twin.proofs.heard.filtering_of.Lts as lts
 use Rattle.statuses.proofs.type_at.Reads as type-at-reads
 
--- src/heard.rt:122:26
 shared-slice-read-type-at : tie.Need-shared-slice-read-type-at
 shared-slice-read-type-at c = search needs
 
--- src/heard.rt:122:8
 type-at-requires : tie.Need-type-at-requires
 type-at-requires c κs = search needs
 
--- src/heard.rt:123:9
 returns : tie.Need-returns
-returns c = filtering-first (c .before .before .before .before .args .params .now) _ (c .before .type-at .ensures) (c .if1 .taken)
+returns c = filtering-first (c .before .before .before .before .args .params .now) _ (c .before .type-at .ensures)
+    (c .if1 .taken)
 
--- src/heard.rt:125:5
 shared-slice-read-result : tie.Need-shared-slice-read-result
-shared-slice-read-result c = filtering-long (c .before .before .before .before .before .args .params .now) _ (c .before .before .before .before .before .pre) (c .before .before .type-at .ensures) (c .before .if1 .left)
+shared-slice-read-result c =
+    filtering-long (c .before .before .before .before .before .args .params .now) _
+    (c .before .before .before .before .before .pre) (c .before .before .type-at .ensures) (c .before .if1 .left)
 
--- src/heard.rt:118:1
 returns-2 : tie.Need-returns-2
-returns-2 c = filtering-second (c .before .before .before .before .before .args .params .now) _ (c .before .before .type-at .ensures) (c .before .if1 .left)
+returns-2 c = filtering-second (c .before .before .before .before .before .args .params .now) _
+    (c .before .before .type-at .ensures) (c .before .if1 .left)
 
 pub filtering-of-spec : {M : Type 1} → statement M
 filtering-of-spec =

@@ -1,6 +1,6 @@
 use native.Mathlib.Omega.{arith}
 use borrow.Author.Tests.{not-true, not-false}
-use Rattle.twin.specs.Hears.{hears-other, long-part, start-part, hears-stranger, heard-framed, hears-match}
+use Rattle.twin.specs.HearsLaws.{hears-other, long-part, start-part, hears-stranger, heard-framed, hears-match}
 use borrow.Author.Needs.{needs}
 use Rattle.twin.proofs.heard.is_heard.Statement.{statement}
 use Rattle.twin.proofs.heard.is_heard.Tie as tie
@@ -12,69 +12,98 @@ use Rattle.twin.proofs.heard.params_of.Reads as params-of-reads
 use Rattle.twin.proofs.kept.is_packet.Reads as is-packet-reads
 use Rattle.twin.proofs.kept.payload_at.Reads as payload-at-reads
 
--- src/heard.rt:106:9
 is-packet-requires : tie.Need-is-packet-requires
 is-packet-requires c κs = search needs
 
--- src/heard.rt:107:9
 returns : tie.Need-returns
-returns c = hears-other (c .before .before .before .args .t .now) (c .before .before .before .args .a) (c .before .before .before .args .k) (c .before .before .before .args .i) (c .before .is-packet .ensures) (not-true _ (c .if1 .taken))
+returns c = hears-other (c .before .before .before .args .t .now) (c .before .before .before .args .a)
+    (c .before .before .before .args .k) (c .before .before .before .args .i) (c .before .is-packet .ensures)
+    (not-true _ (c .if1 .taken))
 
--- src/heard.rt:109:9
 payload-at-requires : tie.Need-payload-at-requires
 payload-at-requires c κs = search needs
 
--- src/heard.rt:110:33
 sub-payload-at : tie.Need-sub-payload-at
 sub-payload-at c = search needs
 
--- src/heard.rt:110:9
 payload-at-requires-2 : tie.Need-payload-at-requires-2
 payload-at-requires-2 c κs = search needs
 
--- src/heard.rt:111:21
 sub-same : tie.Need-sub-same
 sub-same c = search needs
 
--- src/heard.rt:111:21
 part-same-start : tie.Need-part-same-start
 part-same-start c = search needs
 
--- src/heard.rt:111:21
 part-same-end : tie.Need-part-same-end
-part-same-end c = let k = long-part (c .before .before .before .before .before .args .t .now) (c .before .before .before .before .before .args .a) (c .before .before .before .before .before .args .k) (c .before .before .before .before .before .args .i) _ (c .before .before .before .before .before .pre .1) (c .before .before .before .is-packet .ensures) (not-false _ (c .before .before .if1 .left)) (c .before .payload-at .ensures) in omega (arith, k)
+part-same-end c = let k =
+    long-part (c .before .before .before .before .before .args .t .now)
+    (c .before .before .before .before .before .args .a) (c .before .before .before .before .before .args .k)
+    (c .before .before .before .before .before .args .i) _ (c .before .before .before .before .before .pre .1)
+    (c .before .before .before .is-packet .ensures) (not-false _ (c .before .before .if1 .left))
+    (c .before .payload-at .ensures) in omega (arith, k)
 
--- src/heard.rt:111:31
 sub-same-2 : tie.Need-sub-same-2
 sub-same-2 c = search needs
 
--- src/heard.rt:111:31
 part-same-start-2 : tie.Need-part-same-start-2
 part-same-start-2 c = search needs
 
--- src/heard.rt:111:31
 part-same-end-2 : tie.Need-part-same-end-2
-part-same-end-2 c = let k = start-part (c .before .before .before .before .before .before .args .t .now) (c .before .before .before .before .before .before .args .a) (c .before .before .before .before .before .before .args .k) (c .before .before .before .before .before .before .args .i) _ (c .before .before .before .before .before .before .pre .0) (c .before .payload-at2 .ensures) in omega (arith, k)
+part-same-end-2 c = let k =
+    start-part (c .before .before .before .before .before .before .args .t .now)
+    (c .before .before .before .before .before .before .args .a)
+    (c .before .before .before .before .before .before .args .k)
+    (c .before .before .before .before .before .before .args .i) _
+    (c .before .before .before .before .before .before .pre .0) (c .before .payload-at2 .ensures) in omega (arith, k)
 
--- src/heard.rt:111:9
 same-requires : tie.Need-same-requires
 same-requires c κs = search needs
 
--- src/heard.rt:112:9
 returns-2 : tie.Need-returns-2
-returns-2 c = hears-stranger (c .before .before .before .before .before .before .before .before .before .args .t .now) (c .before .before .before .before .before .before .before .before .before .args .a) (c .before .before .before .before .before .before .before .before .before .args .k) (c .before .before .before .before .before .before .before .before .before .args .i) (c .before .before .before .before .before .before .before .before .before .pre .1) (c .before .before .before .before .before .before .before .before .before .pre .0) _ _ (c .before .before .before .before .before .before .before .is-packet .ensures) (not-false _ (c .before .before .before .before .before .before .if1 .left)) (c .before .before .before .before .before .payload-at .ensures) (c .before .before .before .before .payload-at2 .ensures) (c .before .same .ensures) (not-true _ (c .if2 .taken))
+returns-2 c = hears-stranger (c .before .before .before .before .before .before .before .before .before .args .t .now)
+    (c .before .before .before .before .before .before .before .before .before .args .a)
+    (c .before .before .before .before .before .before .before .before .before .args .k)
+    (c .before .before .before .before .before .before .before .before .before .args .i)
+    (c .before .before .before .before .before .before .before .before .before .pre .1)
+    (c .before .before .before .before .before .before .before .before .before .pre .0) _ _
+    (c .before .before .before .before .before .before .before .is-packet .ensures)
+    (not-false _ (c .before .before .before .before .before .before .if1 .left))
+    (c .before .before .before .before .before .payload-at .ensures)
+    (c .before .before .before .before .payload-at2 .ensures) (c .before .same .ensures) (not-true _ (c .if2 .taken))
 
--- src/heard.rt:114:14
 params-of-requires : tie.Need-params-of-requires
 params-of-requires c κs = search needs
 
--- src/heard.rt:114:5
 is-match-requires : tie.Need-is-match-requires
-is-match-requires c κs = (rw (c .params-of .ensures) (c .before .before .before .before .before .before .before .before .before .before .pre .0 .adds), rw (c .before .before .before .before .before .before .payload-at .ensures) (heard-framed (c .before .before .before .before .before .before .before .before .before .before .args .t .now) (c .before .before .before .before .before .before .before .before .before .before .args .a) (c .before .before .before .before .before .before .before .before .before .before .args .k) (c .before .before .before .before .before .before .before .before .before .before .args .i) (c .before .before .before .before .before .before .before .before .before .before .pre .1) (c .before .before .before .before .before .before .before .before .is-packet .ensures) (not-false _ (c .before .before .before .before .before .before .before .if1 .left))))
+is-match-requires c κs = (
+  rw (c .params-of .ensures)
+      (c .before .before .before .before .before .before .before .before .before .before .pre .0 .adds),
+  rw
+      (c .before .before .before .before .before .before .payload-at .ensures)
+      (heard-framed (c .before .before .before .before .before .before .before .before .before .before .args .t .now)
+      (c .before .before .before .before .before .before .before .before .before .before .args .a)
+      (c .before .before .before .before .before .before .before .before .before .before .args .k)
+      (c .before .before .before .before .before .before .before .before .before .before .args .i)
+      (c .before .before .before .before .before .before .before .before .before .before .pre .1)
+      (c .before .before .before .before .before .before .before .before .is-packet .ensures)
+      (not-false _ (c .before .before .before .before .before .before .before .if1 .left))),
+)
 
--- src/heard.rt:102:1
 returns-3 : tie.Need-returns-3
-returns-3 c = hears-match (c .before .before .before .before .before .before .before .before .before .before .before .args .t .now) (c .before .before .before .before .before .before .before .before .before .before .before .args .a) (c .before .before .before .before .before .before .before .before .before .before .before .args .k) (c .before .before .before .before .before .before .before .before .before .before .before .args .i) (c .before .before .before .before .before .before .before .before .before .before .before .pre .1) (c .before .before .before .before .before .before .before .before .before .before .before .pre .0) _ _ (c .before .before .before .before .before .before .before .before .before .is-packet .ensures) (not-false _ (c .before .before .before .before .before .before .before .before .if1 .left)) (c .before .before .before .before .before .before .before .payload-at .ensures) (c .before .before .before .before .before .before .payload-at2 .ensures) (c .before .before .before .same .ensures) (not-false _ (c .before .before .if2 .left)) (c .before .params-of .ensures) (c .is-match .ensures)
+returns-3 c = hears-match
+    (c .before .before .before .before .before .before .before .before .before .before .before .args .t .now)
+    (c .before .before .before .before .before .before .before .before .before .before .before .args .a)
+    (c .before .before .before .before .before .before .before .before .before .before .before .args .k)
+    (c .before .before .before .before .before .before .before .before .before .before .before .args .i)
+    (c .before .before .before .before .before .before .before .before .before .before .before .pre .1)
+    (c .before .before .before .before .before .before .before .before .before .before .before .pre .0) _ _
+    (c .before .before .before .before .before .before .before .before .before .is-packet .ensures)
+    (not-false _ (c .before .before .before .before .before .before .before .before .if1 .left))
+    (c .before .before .before .before .before .before .before .payload-at .ensures)
+    (c .before .before .before .before .before .before .payload-at2 .ensures)
+    (c .before .before .before .same .ensures) (not-false _ (c .before .before .if2 .left))
+    (c .before .params-of .ensures) (c .is-match .ensures)
 
 pub is-heard-spec : {M : Type 1} → statement M
 is-heard-spec =

@@ -1,7 +1,7 @@
 use mathlib.Core.Path.{refl}
 use native.Mathlib.Omega.{arith}
 use borrow.Author.Tests.{not-true, not-false}
-use Rattle.twin.specs.Heard.{match-none, match-first, match-second, second-is, type-in, extra-length}
+use Rattle.twin.specs.HeardLaws.{match-none, match-first, match-second, second-is, type-in, extra-length}
 use borrow.Author.Needs.{needs}
 use Rattle.twin.proofs.heard.is_match.Statement.{statement}
 use Rattle.twin.proofs.heard.is_match.Tie as tie
@@ -11,45 +11,56 @@ use Rattle.statuses.proofs.type_at.Reads as type-at-reads
 use Rattle.twin.proofs.heard.admits_by.Reads as admits-by-reads
 use Rattle.twin.proofs.heard.meets.Reads as meets-reads
 
--- src/heard.rt:80:9
 meets-requires : tie.Need-meets-requires
 meets-requires c κs = search needs
 
--- src/heard.rt:81:9
 returns : tie.Need-returns
-returns c = match-none (c .before .before .before .before .args .params .now) (c .before .before .before .before .args .payload .now) (c .before .meets .ensures) (not-true _ (c .if1 .taken))
+returns c = match-none (c .before .before .before .before .args .params .now)
+    (c .before .before .before .before .args .payload .now) (c .before .meets .ensures) (not-true _ (c .if1 .taken))
 
--- src/heard.rt:83:32
 shared-slice-read-type-at : tie.Need-shared-slice-read-type-at
 shared-slice-read-type-at c = search needs
 
--- src/heard.rt:83:9
 type-at-requires : tie.Need-type-at-requires
 type-at-requires c κs = search needs
 
--- src/heard.rt:85:9
 returns-2 : tie.Need-returns-2
-returns-2 c = match-first (c .before .before .before .before .before .before .before .args .params .now) (c .before .before .before .before .before .before .before .args .payload .now) _ (c .before .type-at .ensures) (c .if2 .taken) (c .before .before .before .before .meets .ensures) (not-false _ (c .before .before .before .if1 .left))
+returns-2 c = match-first (c .before .before .before .before .before .before .before .args .params .now)
+    (c .before .before .before .before .before .before .before .args .payload .now) _ (c .before .type-at .ensures)
+    (c .if2 .taken) (c .before .before .before .before .meets .ensures)
+    (not-false _ (c .before .before .before .if1 .left))
 
--- src/heard.rt:87:15
 sub-admits-by : tie.Need-sub-admits-by
-sub-admits-by c = let k = second-is (c .before .before .before .before .before .before .before .args .params .now) (c .before .type-at .result) (c .before .type-at .ensures) (c .if2 .left) in omega (arith, k .1)
+sub-admits-by c = let k =
+    second-is (c .before .before .before .before .before .before .before .args .params .now)
+    (c .before .type-at .result) (c .before .type-at .ensures) (c .if2 .left) in omega (arith, k .1)
 
--- src/heard.rt:87:15
 part-admits-by-start : tie.Need-part-admits-by-start
-part-admits-by-start c = let k = second-is (c .before .before .before .before .before .before .before .args .params .now) (c .before .type-at .result) (c .before .type-at .ensures) (c .if2 .left) in omega (arith, k .1)
+part-admits-by-start c = let k =
+    second-is (c .before .before .before .before .before .before .before .args .params .now)
+    (c .before .type-at .result) (c .before .type-at .ensures) (c .if2 .left) in omega (arith, k .1)
 
--- src/heard.rt:87:15
 part-admits-by-end : tie.Need-part-admits-by-end
-part-admits-by-end c = let k = type-in (c .before .before .before .before .before .before .before .args .params .now) (c .before .type-at .result) (c .before .before .before .before .before .before .before .pre .0) (c .before .type-at .ensures) in omega (arith, k)
+part-admits-by-end c = let k =
+    type-in (c .before .before .before .before .before .before .before .args .params .now)
+    (c .before .type-at .result) (c .before .before .before .before .before .before .before .pre .0)
+    (c .before .type-at .ensures) in omega (arith, k)
 
--- src/heard.rt:87:5
 admits-by-requires : tie.Need-admits-by-requires
-admits-by-requires c κs = (extra-length (c .before .before .before .before .before .before .before .before .args .params .now) (c .before .before .type-at .result) (c .before .before .before .before .before .before .before .before .pre .0) (c .before .before .type-at .ensures) (c .before .if2 .left), c .before .before .before .before .before .before .before .before .pre .1)
+admits-by-requires c κs = (
+  extra-length (c .before .before .before .before .before .before .before .before .args .params .now)
+      (c .before .before .type-at .result) (c .before .before .before .before .before .before .before .before .pre .0)
+      (c .before .before .type-at .ensures) (c .before .if2 .left),
+  c .before .before .before .before .before .before .before .before .pre .1,
+)
 
--- src/heard.rt:76:1
 returns-3 : tie.Need-returns-3
-returns-3 c = match-second (c .before .before .before .before .before .before .before .before .before .args .params .now) (c .before .before .before .before .before .before .before .before .before .args .payload .now) _ (c .before .before .before .type-at .ensures) (c .before .before .if2 .left) (c .before .before .before .before .before .before .meets .ensures) (not-false _ (c .before .before .before .before .before .if1 .left)) refl (c .admits-by .ensures)
+returns-3 c = match-second
+    (c .before .before .before .before .before .before .before .before .before .args .params .now)
+    (c .before .before .before .before .before .before .before .before .before .args .payload .now) _
+    (c .before .before .before .type-at .ensures) (c .before .before .if2 .left)
+    (c .before .before .before .before .before .before .meets .ensures)
+    (not-false _ (c .before .before .before .before .before .if1 .left)) refl (c .admits-by .ensures)
 
 pub is-match-spec : {M : Type 1} → statement M
 is-match-spec =

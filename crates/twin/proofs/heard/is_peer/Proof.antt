@@ -1,5 +1,5 @@
 use mathlib.Core.Path.{refl}
-use Rattle.twin.specs.Heard.{peer-off, peer-other, peer-asked}
+use Rattle.twin.specs.HeardLaws.{peer-off, peer-other, peer-asked}
 use borrow.Author.Needs.{needs}
 use Rattle.twin.proofs.heard.is_peer.Statement.{statement}
 use Rattle.twin.proofs.heard.is_peer.Tie as tie
@@ -7,57 +7,50 @@ use Rattle.twin.proofs.heard.is_peer.Reads as reads
 use Rattle.twin.proofs.heard.is_peer.Lts as lts
 use Rattle.parts.proofs.same.Reads as same-reads
 
--- src/heard.rt:18:8
 shared-slice-read-if1 : tie.Need-shared-slice-read-if1
 shared-slice-read-if1 c = search needs
 
--- src/heard.rt:19:9
 returns : tie.Need-returns
-returns c = peer-off (c .before .before .before .before .args .extra .now) (c .before .before .before .before .args .payload .now) (c .if1 .taken)
+returns c = peer-off (c .before .before .before .before .args .extra .now)
+    (c .before .before .before .before .args .payload .now) (c .if1 .taken)
 
--- src/heard.rt:21:8
 shared-slice-read-if2 : tie.Need-shared-slice-read-if2
 shared-slice-read-if2 c = search needs
 
--- src/heard.rt:21:20
 shared-slice-read-if2-2 : tie.Need-shared-slice-read-if2-2
 shared-slice-read-if2-2 c = search needs
 
--- src/heard.rt:22:9
 returns-2 : tie.Need-returns-2
-returns-2 c = peer-other (c .before .before .before .before .before .before .before .args .extra .now) (c .before .before .before .before .before .before .before .args .payload .now) (c .if2 .taken)
+returns-2 c = peer-other (c .before .before .before .before .before .before .before .args .extra .now)
+    (c .before .before .before .before .before .before .before .args .payload .now) (c .if2 .taken)
 
--- src/heard.rt:24:17
 sub-same : tie.Need-sub-same
 sub-same c = search needs
 
--- src/heard.rt:24:17
 part-same-start : tie.Need-part-same-start
 part-same-start c = search needs
 
--- src/heard.rt:24:17
 part-same-end : tie.Need-part-same-end
 part-same-end c = search needs
 
--- src/heard.rt:24:31
 sub-same-2 : tie.Need-sub-same-2
 sub-same-2 c = search needs
 
--- src/heard.rt:24:31
 part-same-start-2 : tie.Need-part-same-start-2
 part-same-start-2 c = search needs
 
--- src/heard.rt:24:31
 part-same-end-2 : tie.Need-part-same-end-2
 part-same-end-2 c = search needs
 
--- src/heard.rt:24:5
 same-requires : tie.Need-same-requires
 same-requires c κs = search needs
 
--- src/heard.rt:14:1
 returns-3 : tie.Need-returns-3
-returns-3 c = peer-asked (c .before .before .before .before .before .before .before .before .before .before .args .extra .now) (c .before .before .before .before .before .before .before .before .before .before .args .payload .now) (c .before .before .before .before .before .before .if1 .left) (c .before .before .before .if2 .left) refl refl (c .same .ensures)
+returns-3 c = peer-asked
+    (c .before .before .before .before .before .before .before .before .before .before .args .extra .now)
+    (c .before .before .before .before .before .before .before .before .before .before .args .payload .now)
+    (c .before .before .before .before .before .before .if1 .left) (c .before .before .before .if2 .left) refl refl
+    (c .same .ensures)
 
 pub is-peer-spec : {M : Type 1} → statement M
 is-peer-spec =

@@ -3,7 +3,7 @@ use mathlib.Core.Path.{_≡_, refl, ap}
 use lib.ListN.{take, drop, getD}
 use borrow.Author.Needs.{needs}
 use native.Mathlib.Omega.{arith}
-use Rattle.twin.specs.Heard.{condition-asked, type-in}
+use Rattle.twin.specs.HeardLaws.{condition-asked, type-in}
 use Rattle.twin.proofs.heard.meets.Statement.{statement}
 use Rattle.twin.proofs.heard.meets.Tie as tie
 use Rattle.twin.proofs.heard.meets.Reads as reads
@@ -13,104 +13,100 @@ use Rattle.marks.proofs.scan_at.Reads as scan-at-reads
 use Rattle.octets.proofs.wide.Reads as wide-reads
 use Rattle.statuses.proofs.type_at.Reads as type-at-reads
 
--- src/heard.rt:40:32
 shared-slice-read-type-at : tie.Need-shared-slice-read-type-at
 shared-slice-read-type-at c = search needs
 
--- src/heard.rt:40:9
 type-at-requires : tie.Need-type-at-requires
 type-at-requires c κs = search needs
 
--- src/heard.rt:41:32
 shared-slice-read-wide : tie.Need-shared-slice-read-wide
 shared-slice-read-wide c = search needs
 
--- src/heard.rt:41:19
 wide-requires : tie.Need-wide-requires
 wide-requires c κs = search needs
 
--- src/heard.rt:41:15
 add-end : tie.Need-add-end
 add-end c = search needs
 
--- src/heard.rt:42:9
 scan-at-requires : tie.Need-scan-at-requires
 scan-at-requires c κs = search needs
 
--- src/heard.rt:43:16
 sub-last : tie.Need-sub-last
 sub-last c = search needs
 
--- src/heard.rt:44:16
 add-from : tie.Need-add-from
-add-from c = let k = type-in (c .before .before .before .before .before .before .before .args .params .now) (c .before .before .before .type-at .result) (c .before .before .before .before .before .before .before .pre .0) (c .before .before .before .type-at .ensures) in omega (arith, k)
+add-from c = let k =
+    type-in (c .before .before .before .before .before .before .before .args .params .now)
+    (c .before .before .before .type-at .result) (c .before .before .before .before .before .before .before .pre .0)
+    (c .before .before .before .type-at .ensures) in omega (arith, k)
 
--- src/heard.rt:46:9
 shared-slice-read-match-packet : tie.Need-shared-slice-read-match-packet
-shared-slice-read-match-packet c = let k = type-in (c .before .before .before .before .before .before .before .before .args .params .now) (c .before .before .before .before .type-at .result) (c .before .before .before .before .before .before .before .before .pre .0) (c .before .before .before .before .type-at .ensures) in omega (arith, k)
+shared-slice-read-match-packet c = let k =
+    type-in (c .before .before .before .before .before .before .before .before .args .params .now)
+    (c .before .before .before .before .type-at .result)
+    (c .before .before .before .before .before .before .before .before .pre .0)
+    (c .before .before .before .before .type-at .ensures) in omega (arith, k)
 
--- src/heard.rt:47:9
 sub-match-packet : tie.Need-sub-match-packet
-sub-match-packet c = let k = type-in (c .before .before .before .before .before .before .before .before .args .params .now) (c .before .before .before .before .type-at .result) (c .before .before .before .before .before .before .before .before .pre .0) (c .before .before .before .before .type-at .ensures) in omega (arith, k)
+sub-match-packet c = let k =
+    type-in (c .before .before .before .before .before .before .before .before .args .params .now)
+    (c .before .before .before .before .type-at .result)
+    (c .before .before .before .before .before .before .before .before .pre .0)
+    (c .before .before .before .before .type-at .ensures) in omega (arith, k)
 
--- src/heard.rt:47:9
 part-match-packet-start : tie.Need-part-match-packet-start
-part-match-packet-start c = let k = type-in (c .before .before .before .before .before .before .before .before .args .params .now) (c .before .before .before .before .type-at .result) (c .before .before .before .before .before .before .before .before .pre .0) (c .before .before .before .before .type-at .ensures) in omega (arith, k)
+part-match-packet-start c = let k =
+    type-in (c .before .before .before .before .before .before .before .before .args .params .now)
+    (c .before .before .before .before .type-at .result)
+    (c .before .before .before .before .before .before .before .before .pre .0)
+    (c .before .before .before .before .type-at .ensures) in omega (arith, k)
 
--- src/heard.rt:47:9
 part-match-packet-end : tie.Need-part-match-packet-end
 part-match-packet-end c = search needs
 
--- src/heard.rt:48:9
 shared-slice-read-match-packet-2 : tie.Need-shared-slice-read-match-packet-2
 shared-slice-read-match-packet-2 c = search needs
 
--- src/heard.rt:49:9
 sub-match-packet-2 : tie.Need-sub-match-packet-2
 sub-match-packet-2 c = search needs
 
--- src/heard.rt:49:9
 part-match-packet-start-2 : tie.Need-part-match-packet-start-2
 part-match-packet-start-2 c = search needs
 
--- src/heard.rt:49:9
 part-match-packet-end-2 : tie.Need-part-match-packet-end-2
 part-match-packet-end-2 c = search needs
 
--- src/heard.rt:50:9
 sub-match-packet-3 : tie.Need-sub-match-packet-3
 sub-match-packet-3 c = search needs
 
--- src/heard.rt:50:9
 part-match-packet-start-3 : tie.Need-part-match-packet-start-3
 part-match-packet-start-3 c = search needs
 
--- src/heard.rt:50:9
 part-match-packet-end-3 : tie.Need-part-match-packet-end-3
 part-match-packet-end-3 c = search needs
 
--- src/heard.rt:51:9
 sub-match-packet-4 : tie.Need-sub-match-packet-4
 sub-match-packet-4 c = search needs
 
--- src/heard.rt:51:9
 part-match-packet-start-4 : tie.Need-part-match-packet-start-4
 part-match-packet-start-4 c = search needs
 
--- src/heard.rt:51:9
 part-match-packet-end-4 : tie.Need-part-match-packet-end-4
 part-match-packet-end-4 c = search needs
 
--- src/heard.rt:45:5
 match-packet-requires : tie.Need-match-packet-requires
 match-packet-requires c κs = search needs
 
--- src/heard.rt:36:1
 returns : tie.Need-returns
-returns c = let a = c .before .before .before .before .before .before .before .before .before .before .before .before .before .before .args in
+returns c = let a =
+    c .before .before .before .before .before .before .before .before .before .before .before .before .before .before
+    .args in
     let w = c .before .before .before .before .before .before .before .before .wide in
     let j : 9 + w .result - 9 ≡ getD (a .payload .now) 8 0 = omega (arith, w .ensures .0) in
-    condition-asked (a .params .now) (a .payload .now) _ _ (c .before .before .before .before .before .before .before .before .before .before .type-at .ensures) (c .before .before .before .before .before .before .before .before .before .before .before .before .before .before .pre .1) (c .before .before .before .before .before .before .before .scan-at .ensures) refl refl
+    condition-asked (a .params .now) (a .payload .now) _ _
+    (c .before .before .before .before .before .before .before .before .before .before .type-at .ensures)
+    (c .before .before .before .before .before .before .before .before .before .before .before .before .before
+    .before .pre .1) (c .before .before .before .before .before .before .before .scan-at .ensures) refl refl
     (ap (λ (i : ℕ). take i (drop 9 (a .payload .now))) j) refl (c .match-packet .ensures)
 
 pub meets-spec : {M : Type 1} → statement M

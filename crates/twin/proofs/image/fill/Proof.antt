@@ -1,7 +1,7 @@
 use Rattle.model.specs.Layout.{countAt}
 use lib.ListN.{length, length-set, set}
 use mathlib.Core.Path.{_≡_, _∙_}
-use Rattle.twin.specs.Filled.{filled, shows-names}
+use Rattle.twin.specs.FilledLaws.{filled, shows-names}
 use native.Mathlib.Omega.{arith}
 use borrow.Author.Needs.{needs}
 use Rattle.twin.proofs.image.fill.Statement.{statement}
@@ -13,45 +13,111 @@ use Rattle.twin.proofs.image.put_monitors.Reads as put-monitors-reads
 use Rattle.twin.proofs.image.put_pairs.Reads as put-pairs-reads
 use Rattle.twin.proofs.watch.after_all.Reads as after-all-reads
 
--- src/image.rt:173:9
 after-all-requires : tie.Need-after-all-requires
 after-all-requires c κs = search needs
 
--- src/image.rt:175:42
 cast-put32 : tie.Need-cast-put32
 cast-put32 c = search needs
 
--- src/image.rt:175:5
 put32-requires : tie.Need-put32-requires
 put32-requires c κs = search needs
 
--- src/image.rt:176:5
 slice-write-b : tie.Need-slice-write-b
 slice-write-b c = search needs
 
--- src/image.rt:177:5
 put-monitors-requires : tie.Need-put-monitors-requires
-put-monitors-requires c κs = let j : length (set (c .before .before .before .before .put32 .last .0) 4 (c .before .before .before .before .before .before .before .after-all .result .filter)) ≡ length (c .before .before .before .before .put32 .last .0) = simp length-set in let e = j ∙ c .before .before .before .before .put32 .kept .0 in (omega (arith, e, c .before .before .before .before .before .before .before .before .before .before .pre .0), shows-names (c .before .before .before .before .before .before .before .before .before .before .args .t .now) (c .before .before .before .before .before .before .before .before .before .before .args .n) _ (c .before .before .before .before .before .before .before .after-all .result) (c .before .before .before .before .before .before .before .after-all .ensures .shows))
+put-monitors-requires c κs =
+    let j : length (set (c .before .before .before .before .put32 .last .0) 4
+    (c .before .before .before .before .before .before .before .after-all .result .filter))
+    ≡ length (c .before .before .before .before .put32 .last .0) = simp length-set in let e = j
+    ∙ c .before .before .before .before .put32 .kept
+    .0 in (
+      omega (
+        arith,
+        e,
+        c .before .before .before .before .before .before .before .before .before .before .pre .0,
+      ),
+      shows-names
+          (c .before .before .before .before .before .before .before .before .before .before .args .t .now)
+          (c .before .before .before .before .before .before .before .before .before .before .args .n) _
+          (c .before .before .before .before .before .before .before .after-all .result)
+          (c .before .before .before .before .before .before .before .after-all .ensures .shows),
+    )
 
--- src/image.rt:178:5
 put-pairs-requires : tie.Need-put-pairs-requires
-put-pairs-requires c κs = let j : length (set (c .before .before .before .before .before .before .before .before .put32 .last .0) 4 (c .before .before .before .before .before .before .before .before .before .before .before .after-all .result .filter)) ≡ length (c .before .before .before .before .before .before .before .before .put32 .last .0) = simp length-set in let e = c .before .before .before .put-monitors .kept .0 ∙ j ∙ c .before .before .before .before .before .before .before .before .put32 .kept .0 in (omega (arith, e, c .before .before .before .before .before .before .before .before .before .before .before .before .before .before .pre .0), c .before .before .before .before .before .before .before .before .before .before .before .before .before .before .pre .1, c .before .before .before .before .before .before .before .before .before .before .before .after-all .ensures .shows .held, c .before .before .before .before .before .before .before .before .before .before .before .after-all .ensures .shows .marks)
+put-pairs-requires c κs =
+    let j : length (set (c .before .before .before .before .before .before .before .before .put32 .last .0) 4
+    (c .before .before .before .before .before .before .before .before .before .before .before .after-all .result
+    .filter)) ≡ length (c .before .before .before .before .before .before .before .before .put32 .last .0) = simp
+    length-set in let e = c .before .before .before .put-monitors .kept .0 ∙ j
+    ∙ c .before .before .before .before .before .before .before .before .put32 .kept
+    .0 in (
+      omega (
+        arith,
+        e,
+        c .before .before .before .before .before .before .before .before .before .before .before .before .before .before
+            .pre .0,
+      ),
+      c .before .before .before .before .before .before .before .before .before .before .before .before
+          .before .before .pre .1,
+      c .before .before .before .before .before .before .before .before .before .before .before .after-all .ensures
+          .shows .held,
+      c .before .before .before .before .before .before .before .before .before .before .before .after-all
+          .ensures .shows .marks,
+    )
 
--- src/image.rt:179:26
 cast-b : tie.Need-cast-b
 cast-b c = search needs
 
--- src/image.rt:179:5
 slice-write-b-2 : tie.Need-slice-write-b-2
-slice-write-b-2 c = let j : length (set (c .before .before .before .before .before .before .before .before .before .before .before .before .put32 .last .0) 4 (c .before .before .before .before .before .before .before .before .before .before .before .before .before .before .before .after-all .result .filter)) ≡ length (c .before .before .before .before .before .before .before .before .before .before .before .before .put32 .last .0) = simp length-set in let e = c .before .before .before .put-pairs .kept .0 ∙ c .before .before .before .before .before .before .before .put-monitors .kept .0 ∙ j ∙ c .before .before .before .before .before .before .before .before .before .before .before .before .put32 .kept .0 in omega (arith, e, c .before .before .before .before .before .before .before .before .before .before .before .before .before .before .before .before .before .before .pre .0)
+slice-write-b-2 c =
+    let j : length (set
+    (c .before .before .before .before .before .before .before .before .before .before .before .before .put32 .last
+    .0) 4 (c .before .before .before .before .before .before .before .before .before .before .before .before .before
+    .before .before .after-all .result .filter))
+    ≡ length (c .before .before .before .before .before .before .before .before .before .before .before .before .put32
+    .last .0) = simp length-set in let e = c .before .before .before .put-pairs .kept .0
+    ∙ c .before .before .before .before .before .before .before .put-monitors .kept .0 ∙ j
+    ∙ c .before .before .before .before .before .before .before .before .before .before .before .before .put32 .kept
+    .0 in omega (
+      arith,
+      e,
+      c .before .before .before .before .before .before .before .before .before .before .before .before .before .before
+          .before .before .before .before .pre .0,
+    )
 
--- src/image.rt:169:1
 same-length : tie.Need-same-length
-same-length c = let j : length (set (c .before .before .before .before .before .before .before .before .before .before .before .before .put32 .last .0) 4 (c .before .before .before .before .before .before .before .before .before .before .before .before .before .before .before .after-all .result .filter)) ≡ length (c .before .before .before .before .before .before .before .before .before .before .before .before .put32 .last .0) = simp length-set in let i : length (set (c .before .before .before .put-pairs .last .0) countAt (c .before .before .before .before .before .before .before .before .before .before .before .before .before .before .before .after-all .result .count)) ≡ length (c .before .before .before .put-pairs .last .0) = simp length-set in i ∙ c .before .before .before .put-pairs .kept .0 ∙ c .before .before .before .before .before .before .before .put-monitors .kept .0 ∙ j ∙ c .before .before .before .before .before .before .before .before .before .before .before .before .put32 .kept .0
+same-length c = let j : length
+    (set (c .before .before .before .before .before .before .before .before .before .before .before .before .put32
+    .last .0) 4 (c .before .before .before .before .before .before .before .before .before .before .before .before
+    .before .before .before .after-all .result .filter))
+    ≡ length (c .before .before .before .before .before .before .before .before .before .before .before .before .put32
+    .last .0) = simp length-set in let i : length
+    (set (c .before .before .before .put-pairs .last .0) countAt
+    (c .before .before .before .before .before .before .before .before .before .before .before .before .before .before
+    .before .after-all .result .count))
+    ≡ length (c .before .before .before .put-pairs .last .0) = simp length-set in i
+    ∙ c .before .before .before .put-pairs .kept .0
+    ∙ c .before .before .before .before .before .before .before .put-monitors .kept .0 ∙ j
+    ∙ c .before .before .before .before .before .before .before .before .before .before .before .before .put32 .kept .0
 
--- src/image.rt:169:1
 returns : tie.Need-returns
-returns c = filled (c .before .before .before .before .before .before .before .before .before .before .before .before .before .before .before .before .before .before .args .t .now) (c .before .before .before .before .before .before .before .before .before .before .before .before .before .before .before .before .before .before .args .n) (c .before .before .before .before .before .before .before .before .before .before .before .before .before .before .before .after-all .result) (c .before .before .before .before .before .before .before .before .before .before .before .before .before .before .before .before .before .before .args .b .now) (c .before .before .before .before .before .before .before .before .before .before .before .before .before .before .before .after-all .ensures) (c .before .before .before .before .before .before .before .before .before .before .before .before .before .before .before .before .before .before .pre .0) (c .before .before .before .before .before .before .before .before .before .before .before .before .put32 .ensures) (c .before .before .before .before .before .before .before .put-monitors .ensures) (c .before .before .before .put-pairs .ensures)
+returns c = filled
+    (c .before .before .before .before .before .before .before .before .before .before .before .before .before .before
+    .before .before .before .before .args .t .now)
+    (c .before .before .before .before .before .before .before .before .before .before .before .before .before .before
+    .before .before .before .before .args .n)
+    (c .before .before .before .before .before .before .before .before .before .before .before .before .before .before
+    .before .after-all .result)
+    (c .before .before .before .before .before .before .before .before .before .before .before .before .before .before
+    .before .before .before .before .args .b .now)
+    (c .before .before .before .before .before .before .before .before .before .before .before .before .before .before
+    .before .after-all .ensures)
+    (c .before .before .before .before .before .before .before .before .before .before .before .before .before .before
+    .before .before .before .before .pre .0)
+    (c .before .before .before .before .before .before .before .before .before .before .before .before .put32
+    .ensures) (c .before .before .before .before .before .before .before .put-monitors .ensures)
+    (c .before .before .before .put-pairs .ensures)
 
 pub fill-spec : {M : Type 1} → statement M
 fill-spec =

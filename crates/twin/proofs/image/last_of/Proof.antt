@@ -1,4 +1,4 @@
-use Rattle.twin.specs.PairRows.{last-sifted, last-window}
+use Rattle.twin.specs.PairRowsLaws.{last-sifted, last-window}
 use borrow.Author.Needs.{needs}
 use Rattle.twin.proofs.image.last_of.Statement.{statement}
 use Rattle.twin.proofs.image.last_of.Tie as tie
@@ -8,25 +8,32 @@ use Rattle.twin.proofs.pairs.is_sifting.Reads as is-sifting-reads
 use Rattle.twin.proofs.pairs.last_reason.Reads as last-reason-reads
 use Rattle.twin.proofs.pairs.window_of.Reads as window-of-reads
 
--- src/image.rt:101:8
 is-sifting-requires : tie.Need-is-sifting-requires
 is-sifting-requires c κs = search needs
 
--- src/image.rt:102:9
 last-reason-requires : tie.Need-last-reason-requires
 last-reason-requires c κs = search needs
 
--- src/image.rt:102:9
 returns : tie.Need-returns
-returns c = (c .last-reason .ensures .0, last-sifted (c .before .before .before .before .args .t .now) (c .before .before .before .before .args .a) (c .before .before .before .before .args .k) (c .before .before .before .before .args .n) (c .last-reason .result) (c .before .before .is-sifting .ensures) (c .before .if1 .taken) (c .last-reason .ensures .1))
+returns c = (
+  c .last-reason .ensures .0,
+  last-sifted (c .before .before .before .before .args .t .now)
+      (c .before .before .before .before .args .a) (c .before .before .before .before .args .k)
+      (c .before .before .before .before .args .n) (c .last-reason .result) (c .before .before .is-sifting .ensures)
+      (c .before .if1 .taken) (c .last-reason .ensures .1),
+)
 
--- src/image.rt:104:9
 window-of-requires : tie.Need-window-of-requires
 window-of-requires c κs = search needs
 
--- src/image.rt:97:1
 returns-2 : tie.Need-returns-2
-returns-2 c = (c .window-of .ensures .number, last-window (c .before .before .before .before .args .t .now) (c .before .before .before .before .args .a) (c .before .before .before .before .args .k) (c .before .before .before .before .args .n) (c .window-of .result .last) (c .before .before .is-sifting .ensures) (c .before .if1 .left) (c .window-of .ensures .last-is))
+returns-2 c = (
+  c .window-of .ensures .number,
+  last-window (c .before .before .before .before .args .t .now)
+      (c .before .before .before .before .args .a) (c .before .before .before .before .args .k)
+      (c .before .before .before .before .args .n) (c .window-of .result .last) (c .before .before .is-sifting .ensures)
+      (c .before .if1 .left) (c .window-of .ensures .last-is),
+)
 
 pub last-of-spec : {M : Type 1} → statement M
 last-of-spec =

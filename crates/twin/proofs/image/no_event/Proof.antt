@@ -1,4 +1,4 @@
-use Rattle.laws.specs.Tests.{pick-true, pick-false}
+use Rattle.laws.specs.TestsLaws.{pick-true, pick-false}
 use mathlib.Core.Path.{sym, _∙_}
 use borrow.Author.Needs.{needs}
 use Rattle.twin.proofs.image.no_event.Statement.{statement}
@@ -7,15 +7,12 @@ use Rattle.twin.proofs.image.no_event.Reads as reads
 use Rattle.twin.proofs.image.no_event.Lts as lts
 use Rattle.twin.proofs.pairs.is_sifting.Reads as is-sifting-reads
 
--- src/image.rt:113:8
 is-sifting-requires : tie.Need-is-sifting-requires
 is-sifting-requires c κs = search needs
 
--- src/image.rt:114:9
 returns : tie.Need-returns
 returns c = sym (pick-true _ _ (sym (c .before .is-sifting .ensures) ∙ c .if1 .taken))
 
--- src/image.rt:109:1
 returns-2 : tie.Need-returns-2
 returns-2 c = sym (pick-false _ _ (sym (c .before .is-sifting .ensures) ∙ c .if1 .left))
 

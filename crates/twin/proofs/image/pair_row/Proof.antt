@@ -1,5 +1,5 @@
-use Rattle.twin.specs.Hears.{start-part}
-use Rattle.twin.specs.PairRows.{row-written}
+use Rattle.twin.specs.HearsLaws.{start-part}
+use Rattle.twin.specs.PairRowsLaws.{row-written}
 use native.Mathlib.Omega.{arith}
 use borrow.Author.Needs.{needs}
 use Rattle.twin.proofs.image.pair_row.Statement.{statement}
@@ -13,65 +13,81 @@ use Rattle.twin.proofs.image.put_latest.Reads as put-latest-reads
 use Rattle.twin.proofs.image.put_numbers.Reads as put-numbers-reads
 use Rattle.twin.proofs.kept.payload_at.Reads as payload-at-reads
 
--- src/image.rt:141:33
 sub-payload-at : tie.Need-sub-payload-at
 sub-payload-at c = search needs
 
--- src/image.rt:141:9
 payload-at-requires : tie.Need-payload-at-requires
 payload-at-requires c κs = search needs
 
--- src/image.rt:142:5
 array-write-row : tie.Need-array-write-row
 array-write-row c = search needs
 
--- src/image.rt:143:17
 slice-aggregate-copy : tie.Need-slice-aggregate-copy
 slice-aggregate-copy c = search needs
 
--- src/image.rt:143:43
 sub-copy : tie.Need-sub-copy
 sub-copy c = search needs
 
--- src/image.rt:143:43
 part-copy-start : tie.Need-part-copy-start
 part-copy-start c = search needs
 
--- src/image.rt:143:43
 part-copy-end : tie.Need-part-copy-end
-part-copy-end c = let k = start-part (c .before .before .before .args .t .now) (c .before .before .before .args .a) (c .before .before .before .args .k) 0 (c .before .payload-at .result .now) (c .before .before .before .pre .start) (c .before .payload-at .ensures) in omega (arith, k)
+part-copy-end c = let k =
+    start-part (c .before .before .before .args .t .now) (c .before .before .before .args .a)
+    (c .before .before .before .args .k) 0 (c .before .payload-at .result .now)
+    (c .before .before .before .pre .start) (c .before .payload-at .ensures) in omega (arith, k)
 
--- src/image.rt:143:5
 copy-requires : tie.Need-copy-requires
 copy-requires c κs = search needs
 
--- src/image.rt:144:17
 slice-aggregate-put-numbers : tie.Need-slice-aggregate-put-numbers
 slice-aggregate-put-numbers c = search needs
 
--- src/image.rt:144:5
 put-numbers-requires : tie.Need-put-numbers-requires
 put-numbers-requires c κs = search needs
 
--- src/image.rt:145:16
 slice-aggregate-put-latest : tie.Need-slice-aggregate-put-latest
 slice-aggregate-put-latest c = search needs
 
--- src/image.rt:145:29
 no-event-requires : tie.Need-no-event-requires
 no-event-requires c κs = search needs
 
--- src/image.rt:145:45
 last-of-requires : tie.Need-last-of-requires
 last-of-requires c κs = search needs
 
--- src/image.rt:145:5
 put-latest-requires : tie.Need-put-latest-requires
 put-latest-requires c κs = search needs
 
--- src/image.rt:136:1
 returns : tie.Need-returns
-returns c = let k = start-part (c .before .before .before .before .before .before .before .before .before .before .before .before .before .before .args .t .now) (c .before .before .before .before .before .before .before .before .before .before .before .before .before .before .args .a) (c .before .before .before .before .before .before .before .before .before .before .before .before .before .before .args .k) 0 (c .before .before .before .before .before .before .before .before .before .before .before .before .payload-at .result .now) (c .before .before .before .before .before .before .before .before .before .before .before .before .before .before .pre .start) (c .before .before .before .before .before .before .before .before .before .before .before .before .payload-at .ensures) in row-written (c .before .before .before .before .before .before .before .before .before .before .before .before .before .before .args .t .now) (c .before .before .before .before .before .before .before .before .before .before .before .before .before .before .args .n) (c .before .before .before .before .before .before .before .before .before .before .before .before .before .before .args .h) (c .before .before .before .before .before .before .before .before .before .before .before .before .before .before .args .a) (c .before .before .before .before .before .before .before .before .before .before .before .before .before .before .args .k) (c .before .before .before .no-event .result) (c .before .before .last-of .result) (c .before .before .before .before .before .before .before .before .before .before .before .before .before .before .pre .start) (c .before .before .before .before .before .before .before .before .before .before .before .before .payload-at .ensures) (omega (arith, k)) (c .before .before .before .before .before .before .before .before .before .copy .ensures) (c .before .before .before .before .before .before .put-numbers .ensures (c .before .before .before .before .before .before .before .before .before .before .before .before .before .before .args .h)) (c .before .before .before .no-event .ensures) (c .before .before .last-of .ensures .1 (c .before .before .before .before .before .before .before .before .before .before .before .before .before .before .args .h)) (c .before .put-latest .ensures)
+returns c = let k =
+    start-part (c .before .before .before .before .before .before .before .before .before .before .before .before
+    .before .before .args .t .now)
+    (c .before .before .before .before .before .before .before .before .before .before .before .before .before .before
+    .args .a) (c .before .before .before .before .before .before .before .before .before .before .before .before
+    .before .before .args .k) 0
+    (c .before .before .before .before .before .before .before .before .before .before .before .before .payload-at
+    .result .now) (c .before .before .before .before .before .before .before .before .before .before .before .before
+    .before .before .pre .start)
+    (c .before .before .before .before .before .before .before .before .before .before .before .before .payload-at
+    .ensures) in row-written
+    (c .before .before .before .before .before .before .before .before .before .before .before .before .before .before
+    .args .t .now) (c .before .before .before .before .before .before .before .before .before .before .before .before
+    .before .before .args .n)
+    (c .before .before .before .before .before .before .before .before .before .before .before .before .before .before
+    .args .h) (c .before .before .before .before .before .before .before .before .before .before .before .before
+    .before .before .args .a)
+    (c .before .before .before .before .before .before .before .before .before .before .before .before .before .before
+    .args .k) (c .before .before .before .no-event .result) (c .before .before .last-of .result)
+    (c .before .before .before .before .before .before .before .before .before .before .before .before .before .before
+    .pre .start) (c .before .before .before .before .before .before .before .before .before .before .before .before
+    .payload-at .ensures) (omega (arith, k))
+    (c .before .before .before .before .before .before .before .before .before .copy .ensures)
+    (c .before .before .before .before .before .before .put-numbers .ensures
+    (c .before .before .before .before .before .before .before .before .before .before .before .before .before .before
+    .args .h)) (c .before .before .before .no-event .ensures)
+    (c .before .before .last-of .ensures .1
+    (c .before .before .before .before .before .before .before .before .before .before .before .before .before .before
+    .args .h)) (c .before .put-latest .ensures)
 
 pub pair-row-spec : {M : Type 1} → statement M
 pair-row-spec =

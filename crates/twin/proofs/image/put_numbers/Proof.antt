@@ -1,6 +1,6 @@
 use lib.ListN.{length, length-set, set}
 use mathlib.Core.Path.{_≡_, _∙_}
-use Rattle.twin.specs.PairRows.{numbers-written}
+use Rattle.twin.specs.PairRowsLaws.{numbers-written}
 use native.Mathlib.Omega.{arith}
 use borrow.Author.Needs.{needs}
 use Rattle.twin.proofs.image.put_numbers.Statement.{statement}
@@ -15,53 +15,82 @@ use Rattle.twin.proofs.pairs.phase.Reads as phase-reads
 use Rattle.twin.proofs.pairs.silent.Reads as silent-reads
 use Rattle.twin.proofs.pairs.window_of.Reads as window-of-reads
 
--- src/image.rt:87:9
 window-of-requires : tie.Need-window-of-requires
 window-of-requires c κs = search needs
 
--- src/image.rt:88:42
 silent-requires : tie.Need-silent-requires
 silent-requires c κs = search needs
 
--- src/image.rt:88:5
 put16-requires : tie.Need-put16-requires
 put16-requires c κs = search needs
 
--- src/image.rt:89:28
 phase-requires : tie.Need-phase-requires
 phase-requires c κs = search needs
 
--- src/image.rt:89:28
 cast-row : tie.Need-cast-row
 cast-row c = search needs
 
--- src/image.rt:89:5
 slice-write-row : tie.Need-slice-write-row
 slice-write-row c = search needs
 
--- src/image.rt:90:5
 put32-requires : tie.Need-put32-requires
 put32-requires c κs = search needs
 
--- src/image.rt:91:5
 put64-requires : tie.Need-put64-requires
 put64-requires c κs = search needs
 
--- src/image.rt:92:27
 kept-rssi-requires : tie.Need-kept-rssi-requires
 kept-rssi-requires c κs = search needs
 
--- src/image.rt:92:5
 slice-write-row-2 : tie.Need-slice-write-row-2
-slice-write-row-2 c = let j : length (set (c .before .before .before .before .before .before .before .before .before .before .before .before .put16 .last .0) 10 (c .before .before .before .before .before .before .before .before .before .phase .result)) ≡ length (c .before .before .before .before .before .before .before .before .before .before .before .before .put16 .last .0) = simp length-set in let e = c .before .before .before .put64 .kept .0 ∙ c .before .before .before .before .before .before .before .put32 .kept .0 ∙ j ∙ c .before .before .before .before .before .before .before .before .before .before .before .before .put16 .kept .0 in omega (arith, e, c .before .before .before .before .before .before .before .before .before .before .before .before .before .before .before .before .before .before .pre .0)
+slice-write-row-2 c =
+    let j : length (set
+    (c .before .before .before .before .before .before .before .before .before .before .before .before .put16 .last
+    .0) 10 (c .before .before .before .before .before .before .before .before .before .phase .result))
+    ≡ length (c .before .before .before .before .before .before .before .before .before .before .before .before .put16
+    .last .0) = simp length-set in let e = c .before .before .before .put64 .kept .0
+    ∙ c .before .before .before .before .before .before .before .put32 .kept .0 ∙ j
+    ∙ c .before .before .before .before .before .before .before .before .before .before .before .before .put16 .kept
+    .0 in omega (
+      arith,
+      e,
+      c .before .before .before .before .before .before .before .before .before .before .before .before .before .before
+          .before .before .before .before .pre .0,
+    )
 
--- src/image.rt:83:1
 same-length : tie.Need-same-length
-same-length c = let j : length (set (c .before .before .before .before .before .before .before .before .before .before .before .before .put16 .last .0) 10 (c .before .before .before .before .before .before .before .before .before .phase .result)) ≡ length (c .before .before .before .before .before .before .before .before .before .before .before .before .put16 .last .0) = simp length-set in let e = c .before .before .before .put64 .kept .0 ∙ c .before .before .before .before .before .before .before .put32 .kept .0 ∙ j ∙ c .before .before .before .before .before .before .before .before .before .before .before .before .put16 .kept .0 in let i : length (set (c .before .before .before .put64 .last .0) 23 (c .kept-rssi .result)) ≡ length (c .before .before .before .put64 .last .0) = simp length-set in i ∙ e
+same-length c = let j : length
+    (set (c .before .before .before .before .before .before .before .before .before .before .before .before .put16
+    .last .0) 10 (c .before .before .before .before .before .before .before .before .before .phase .result))
+    ≡ length (c .before .before .before .before .before .before .before .before .before .before .before .before .put16
+    .last .0) = simp length-set in let e = c .before .before .before .put64 .kept .0
+    ∙ c .before .before .before .before .before .before .before .put32 .kept .0 ∙ j
+    ∙ c .before .before .before .before .before .before .before .before .before .before .before .before .put16 .kept
+    .0 in let i : length (set (c .before .before .before .put64 .last .0) 23 (c .kept-rssi .result))
+    ≡ length (c .before .before .before .put64 .last .0) = simp length-set in i ∙ e
 
--- src/image.rt:83:1
 returns : tie.Need-returns
-returns c = numbers-written (c .before .before .before .before .before .before .before .before .before .before .before .before .before .before .before .before .before .before .args .t .now) (c .before .before .before .before .before .before .before .before .before .before .before .before .before .before .before .before .before .before .args .n) (c .before .before .before .before .before .before .before .before .before .before .before .before .before .before .before .before .before .before .args .a) (c .before .before .before .before .before .before .before .before .before .before .before .before .before .before .before .before .before .before .args .k) (c .before .before .before .before .before .before .before .before .before .before .before .before .before .before .before .before .before .before .args .row .now) (c .before .before .before .before .before .before .before .before .before .before .before .before .before .before .before .before .before .before .pre .0) (c .before .before .before .before .before .before .before .before .before .before .before .before .before .before .before .window-of .ensures) (c .before .before .before .before .before .before .before .before .before .before .before .before .before .silent .ensures) (c .before .before .before .before .before .before .before .before .before .phase .ensures .0) (c .kept-rssi .ensures) (c .before .before .before .before .before .before .before .before .before .before .before .before .put16 .ensures) (c .before .before .before .before .before .before .before .put32 .ensures) (c .before .before .before .put64 .ensures)
+returns c = numbers-written
+    (c .before .before .before .before .before .before .before .before .before .before .before .before .before .before
+    .before .before .before .before .args .t .now)
+    (c .before .before .before .before .before .before .before .before .before .before .before .before .before .before
+    .before .before .before .before .args .n)
+    (c .before .before .before .before .before .before .before .before .before .before .before .before .before .before
+    .before .before .before .before .args .a)
+    (c .before .before .before .before .before .before .before .before .before .before .before .before .before .before
+    .before .before .before .before .args .k)
+    (c .before .before .before .before .before .before .before .before .before .before .before .before .before .before
+    .before .before .before .before .args .row .now)
+    (c .before .before .before .before .before .before .before .before .before .before .before .before .before .before
+    .before .before .before .before .pre .0)
+    (c .before .before .before .before .before .before .before .before .before .before .before .before .before .before
+    .before .window-of .ensures)
+    (c .before .before .before .before .before .before .before .before .before .before .before .before .before .silent
+    .ensures) (c .before .before .before .before .before .before .before .before .before .phase .ensures .0)
+    (c .kept-rssi .ensures)
+    (c .before .before .before .before .before .before .before .before .before .before .before .before .put16
+    .ensures) (c .before .before .before .before .before .before .before .put32 .ensures)
+    (c .before .before .before .put64 .ensures)
 
 pub put-numbers-spec : {M : Type 1} → statement M
 put-numbers-spec =

@@ -1,4 +1,4 @@
-use Rattle.twin.specs.PairRows.{Rowed, looks-of, rowed-all, rowed-more, rowed-none}
+use Rattle.twin.specs.PairRowsLaws.{Rowed, looks-of, rowed-all, rowed-more, rowed-none}
 use Prim.Native.Nat.{_-_}
 use borrow.Author.Needs.{needs}
 use native.Mathlib.Omega.{arith}
@@ -18,61 +18,93 @@ Inv-loop b₀ t n seen j₀ b j = Rowed t n seen b₀ j b
 abbrev μ-loop : tie.MeasureT-loop
 μ-loop b₀ t n seen j₀ b j = seen .count - j
 
--- src/image.rt:155:5
 loop-holds : tie.Need-loop-holds Inv-loop μ-loop
-loop-holds c = rowed-none (c .before .before .args .t .now) (c .before .before .args .n) (c .before .before .args .seen) (c .before .before .args .b .now)
+loop-holds c = rowed-none (c .before .before .args .t .now) (c .before .before .args .n)
+    (c .before .before .args .seen) (c .before .before .args .b .now)
 
--- src/image.rt:159:13
 handle-of-requires : tie.Need-handle-of-requires Inv-loop μ-loop
-handle-of-requires c κs = let f = c .before .before .before .before .before .pre .2 .few in let l = c .if1 .taken in omega (arith, f, l)
+handle-of-requires c κs = let f = c .before .before .before .before .before .pre .2 .few in let l =
+    c .if1 .taken in omega (arith, f, l)
 
--- src/image.rt:160:13
 monitor-of-requires : tie.Need-monitor-of-requires Inv-loop μ-loop
-monitor-of-requires c κs = let f = c .before .before .before .before .before .before .pre .2 .few in let l = c .before .if1 .taken in omega (arith, f, l)
+monitor-of-requires c κs = let f = c .before .before .before .before .before .before .pre .2 .few in let l =
+    c .before .if1 .taken in omega (arith, f, l)
 
--- src/image.rt:161:13
 packet-of-requires : tie.Need-packet-of-requires Inv-loop μ-loop
-packet-of-requires c κs = let f = c .before .before .before .before .before .before .before .pre .2 .few in let l = c .before .before .if1 .taken in omega (arith, f, l)
+packet-of-requires c κs = let f = c .before .before .before .before .before .before .before .pre .2 .few in let l =
+    c .before .before .if1 .taken in omega (arith, f, l)
 
--- src/image.rt:156:19
 pair-row-requires : tie.Need-pair-row-requires Inv-loop μ-loop
-pair-row-requires c κs = looks-of (c .before .before .before .before .before .before .before .before .args .t .now) (c .before .before .before .before .before .before .before .before .args .n) (c .before .before .before .before .before .before .before .before .args .seen) (c .before .before .before .before .before .loop .j) (c .before .before .before .before .before .before .before .before .pre .1) (c .before .before .before .before .before .before .before .before .pre .2) (c .before .before .before .before .before .before .before .before .pre .3) (c .before .before .before .if1 .taken) (c .before .monitor-of .ensures) (c .packet-of .ensures)
+pair-row-requires c κs =
+    looks-of (c .before .before .before .before .before .before .before .before .args .t .now)
+    (c .before .before .before .before .before .before .before .before .args .n)
+    (c .before .before .before .before .before .before .before .before .args .seen)
+    (c .before .before .before .before .before .loop .j)
+    (c .before .before .before .before .before .before .before .before .pre .1)
+    (c .before .before .before .before .before .before .before .before .pre .2)
+    (c .before .before .before .before .before .before .before .before .pre .3)
+    (c .before .before .before .if1 .taken) (c .before .monitor-of .ensures) (c .packet-of .ensures)
 
--- src/image.rt:163:42
 mul-copy : tie.Need-mul-copy Inv-loop μ-loop
-mul-copy c = let f = c .before .before .before .before .before .before .before .before .before .before .pre .2 .few in let l = c .before .before .before .before .before .if1 .taken in omega (arith, f, l)
+mul-copy c = let f =
+    c .before .before .before .before .before .before .before .before .before .before .pre .2 .few in let l = c
+    .before .before .before .before .before .if1 .taken in omega (arith, f, l)
 
--- src/image.rt:163:24
 add-copy : tie.Need-add-copy Inv-loop μ-loop
-add-copy c = let f = c .before .before .before .before .before .before .before .before .before .before .pre .2 .few in let l = c .before .before .before .before .before .if1 .taken in omega (arith, f, l)
+add-copy c = let f =
+    c .before .before .before .before .before .before .before .before .before .before .pre .2 .few in let l = c
+    .before .before .before .before .before .if1 .taken in omega (arith, f, l)
 
--- src/image.rt:163:63
 slice-aggregate-copy : tie.Need-slice-aggregate-copy Inv-loop μ-loop
 slice-aggregate-copy c = search needs
 
--- src/image.rt:163:9
 copy-requires : tie.Need-copy-requires Inv-loop μ-loop
 copy-requires c κs = search needs
 
--- src/image.rt:164:9
 add-j : tie.Need-add-j Inv-loop μ-loop
-add-j c = let f = c .before .before .before .before .before .before .before .before .before .before .before .before .before .before .pre .2 .few in let l = c .before .before .before .before .before .before .before .before .before .if1 .taken in omega (arith, f, l)
+add-j c = let f =
+    c .before .before .before .before .before .before .before .before .before .before .before .before .before .before
+    .pre .2 .few in let l = c .before .before .before .before .before .before .before .before .before .if1
+    .taken in omega (arith, f, l)
 
--- src/image.rt:155:5
 loop-less : tie.Need-loop-less Inv-loop μ-loop
-loop-less c = let f = c .before .before .before .before .before .before .before .before .before .before .before .before .before .before .pre .2 .few in let l = c .before .before .before .before .before .before .before .before .before .if1 .taken in omega (arith, f, l)
+loop-less c = let f =
+    c .before .before .before .before .before .before .before .before .before .before .before .before .before .before
+    .pre .2 .few in let l = c .before .before .before .before .before .before .before .before .before .if1
+    .taken in omega (arith, f, l)
 
--- src/image.rt:155:5
 loop-again : tie.Need-loop-again Inv-loop μ-loop
-loop-again c = rowed-more (c .before .before .before .before .before .before .before .before .before .before .before .before .before .before .args .t .now) (c .before .before .before .before .before .before .before .before .before .before .before .before .before .before .args .n) (c .before .before .before .before .before .before .before .before .before .before .before .before .before .before .args .seen) (c .before .before .before .before .before .before .before .before .before .before .before .before .before .before .args .b .now) (c .before .before .before .before .before .before .before .before .before .before .before .loop .j) (c .before .before .before .before .before .before .before .before .handle-of .result) (c .before .before .before .before .before .before .before .monitor-of .result) (c .before .before .before .before .before .before .packet-of .result) (c .before .before .before .before .before .before .before .before .before .before .before .loop .b) (c .before .before .before .before .before .pair-row .result) (c .before .before .before .before .before .before .before .before .before .before .before .before .before .before .pre .0) (c .before .before .before .before .before .before .before .before .before .before .before .before .before .before .pre .2) (c .before .before .before .before .before .before .before .before .before .if1 .taken) (c .before .before .before .before .before .before .before .before .before .before .before .loop .inv) (c .before .before .before .before .before .before .before .before .handle-of .ensures) (c .before .before .before .before .before .before .before .monitor-of .ensures) (c .before .before .before .before .before .before .packet-of .ensures) (c .before .before .before .before .before .pair-row .ensures) (search needs) (c .before .before .copy .ensures)
+loop-again c = rowed-more
+    (c .before .before .before .before .before .before .before .before .before .before .before .before .before .before
+    .args .t .now) (c .before .before .before .before .before .before .before .before .before .before .before .before
+    .before .before .args .n)
+    (c .before .before .before .before .before .before .before .before .before .before .before .before .before .before
+    .args .seen) (c .before .before .before .before .before .before .before .before .before .before .before .before
+    .before .before .args .b .now)
+    (c .before .before .before .before .before .before .before .before .before .before .before .loop .j)
+    (c .before .before .before .before .before .before .before .before .handle-of .result)
+    (c .before .before .before .before .before .before .before .monitor-of .result)
+    (c .before .before .before .before .before .before .packet-of .result)
+    (c .before .before .before .before .before .before .before .before .before .before .before .loop .b)
+    (c .before .before .before .before .before .pair-row .result)
+    (c .before .before .before .before .before .before .before .before .before .before .before .before .before .before
+    .pre .0) (c .before .before .before .before .before .before .before .before .before .before .before .before
+    .before .before .pre .2) (c .before .before .before .before .before .before .before .before .before .if1 .taken)
+    (c .before .before .before .before .before .before .before .before .before .before .before .loop .inv)
+    (c .before .before .before .before .before .before .before .before .handle-of .ensures)
+    (c .before .before .before .before .before .before .before .monitor-of .ensures)
+    (c .before .before .before .before .before .before .packet-of .ensures)
+    (c .before .before .before .before .before .pair-row .ensures) (search needs) (c .before .before .copy .ensures)
 
--- src/image.rt:150:1
 same-length : tie.Need-same-length Inv-loop μ-loop
 same-length c = c .before .before .loop .inv .long
 
--- src/image.rt:150:1
 returns : tie.Need-returns Inv-loop μ-loop
-returns c = rowed-all (c .before .before .before .before .before .args .t .now) (c .before .before .before .before .before .args .n) (c .before .before .before .before .before .args .seen) (c .before .before .before .before .before .args .b .now) (c .before .before .loop .j) (c .before .before .loop .b) (c .before .before .before .before .before .pre .2) (let l = c .if1 .left in omega (arith, l)) (c .before .before .loop .inv)
+returns c = rowed-all (c .before .before .before .before .before .args .t .now)
+    (c .before .before .before .before .before .args .n) (c .before .before .before .before .before .args .seen)
+    (c .before .before .before .before .before .args .b .now) (c .before .before .loop .j)
+    (c .before .before .loop .b) (c .before .before .before .before .before .pre .2)
+    (let l = c .if1 .left in omega (arith, l)) (c .before .before .loop .inv)
 
 pub put-pairs-spec : {M : Type 1} → statement M
 put-pairs-spec =

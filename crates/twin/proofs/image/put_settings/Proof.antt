@@ -2,7 +2,7 @@ use lib.ListN.{getD, set}
 use Prim.Native.Nat.{_+_, _-_}
 use lib.ListN.{length, length-set}
 use mathlib.Core.Path.{_≡_, _∙_}
-use Rattle.twin.specs.MonitorRows.{condition-short, settings-put, type-at-range}
+use Rattle.twin.specs.MonitorRowsLaws.{condition-short, settings-put, type-at-range}
 use native.Mathlib.Omega.{arith}
 use borrow.Author.Needs.{needs}
 use Rattle.twin.proofs.image.put_settings.Statement.{statement}
@@ -12,81 +12,129 @@ use Rattle.twin.proofs.image.put_settings.Lts as lts
 use Rattle.parts.proofs.copy.Reads as copy-reads
 use Rattle.statuses.proofs.type_at.Reads as type-at-reads
 
--- src/image.rt:36:32
 shared-slice-read-type-at : tie.Need-shared-slice-read-type-at
 shared-slice-read-type-at c = search needs
 
--- src/image.rt:36:9
 type-at-requires : tie.Need-type-at-requires
 type-at-requires c κs = search needs
 
--- src/image.rt:37:16
 add-from : tie.Need-add-from
-add-from c = let g = type-at-range (c .before .before .before .before .args .params .now) (c .type-at .result) (c .before .before .before .before .pre .1) (c .type-at .ensures) in omega (arith, g .1)
+add-from c = let g =
+    type-at-range (c .before .before .before .before .args .params .now) (c .type-at .result)
+    (c .before .before .before .before .pre .1) (c .type-at .ensures) in omega (arith, g .1)
 
--- src/image.rt:38:5
 slice-write-row : tie.Need-slice-write-row
 slice-write-row c = search needs
 
--- src/image.rt:39:38
 sub-copy : tie.Need-sub-copy
 sub-copy c = search needs
 
--- src/image.rt:39:38
 part-copy-start : tie.Need-part-copy-start
 part-copy-start c = search needs
 
--- src/image.rt:39:38
 part-copy-end : tie.Need-part-copy-end
-part-copy-end c = let g = type-at-range (c .before .before .before .before .before .args .params .now) (c .before .type-at .result) (c .before .before .before .before .before .pre .1) (c .before .type-at .ensures) in omega (arith, g .0, g .2)
+part-copy-end c = let g =
+    type-at-range (c .before .before .before .before .before .args .params .now) (c .before .type-at .result)
+    (c .before .before .before .before .before .pre .1) (c .before .type-at .ensures) in omega (arith, g .0, g .2)
 
--- src/image.rt:39:5
 copy-requires : tie.Need-copy-requires
 copy-requires c κs = search needs
 
--- src/image.rt:40:27
 shared-slice-read-row : tie.Need-shared-slice-read-row
-shared-slice-read-row c = let g = type-at-range (c .before .before .before .before .before .before .before .before .before .before .args .params .now) (c .before .before .before .before .before .before .type-at .result) (c .before .before .before .before .before .before .before .before .before .before .pre .1) (c .before .before .before .before .before .before .type-at .ensures) in omega (arith, g .2)
+shared-slice-read-row c = let g =
+    type-at-range (c .before .before .before .before .before .before .before .before .before .before .args .params
+    .now) (c .before .before .before .before .before .before .type-at .result)
+    (c .before .before .before .before .before .before .before .before .before .before .pre .1)
+    (c .before .before .before .before .before .before .type-at .ensures) in omega (arith, g .2)
 
--- src/image.rt:40:5
 slice-write-row-2 : tie.Need-slice-write-row-2
-slice-write-row-2 c = let e : length (c .before .before .before .copy .last .0) ≡ length (c .before .before .before .before .before .before .before .before .before .before .args .row .now) = c .before .before .before .copy .kept .0 ∙ length-set (c .before .before .before .before .before .before .before .before .before .before .args .row .now) 0 (c .before .before .before .before .before .before .before .before .before .before .args .h) in omega (arith, e, c .before .before .before .before .before .before .before .before .before .before .pre .0)
+slice-write-row-2 c =
+    let e : length (c .before .before .before .copy .last .0)
+    ≡ length (c .before .before .before .before .before .before .before .before .before .before .args .row .now) = c
+    .before .before .before .copy .kept .0
+    ∙ length-set (c .before .before .before .before .before .before .before .before .before .before .args .row .now) 0
+    (c .before .before .before .before .before .before .before .before .before .before .args .h) in omega
+    (arith, e, c .before .before .before .before .before .before .before .before .before .before .pre .0)
 
--- src/image.rt:41:40
 sub-row : tie.Need-sub-row
-sub-row c = let g = type-at-range (c .before .before .before .before .before .before .before .before .before .before .args .params .now) (c .before .before .before .before .before .before .type-at .result) (c .before .before .before .before .before .before .before .before .before .before .pre .1) (c .before .before .before .before .before .before .type-at .ensures) in omega (arith, g .2)
+sub-row c = let g =
+    type-at-range (c .before .before .before .before .before .before .before .before .before .before .args .params
+    .now) (c .before .before .before .before .before .before .type-at .result)
+    (c .before .before .before .before .before .before .before .before .before .before .pre .1)
+    (c .before .before .before .before .before .before .type-at .ensures) in omega (arith, g .2)
 
--- src/image.rt:41:39
 cast-row : tie.Need-cast-row
-cast-row c = let q = condition-short (c .before .before .before .before .before .before .before .before .before .before .args .params .now) (c .before .before .before .before .before .before .type-at .result) (c .before .before .before .before .before .before .before .before .before .before .pre .2) (c .before .before .before .before .before .before .type-at .ensures) in omega (arith, q)
+cast-row c = let q =
+    condition-short (c .before .before .before .before .before .before .before .before .before .before .args .params
+    .now) (c .before .before .before .before .before .before .type-at .result)
+    (c .before .before .before .before .before .before .before .before .before .before .pre .2)
+    (c .before .before .before .before .before .before .type-at .ensures) in omega (arith, q)
 
--- src/image.rt:41:5
 slice-write-row-3 : tie.Need-slice-write-row-3
-slice-write-row-3 c = let e : length (c .before .before .before .copy .last .0) ≡ length (c .before .before .before .before .before .before .before .before .before .before .args .row .now) = c .before .before .before .copy .kept .0 ∙ length-set (c .before .before .before .before .before .before .before .before .before .before .args .row .now) 0 (c .before .before .before .before .before .before .before .before .before .before .args .h) in simp length-set (omega (arith, e, c .before .before .before .before .before .before .before .before .before .before .pre .0))
+slice-write-row-3 c =
+    let e : length (c .before .before .before .copy .last .0)
+    ≡ length (c .before .before .before .before .before .before .before .before .before .before .args .row .now) = c
+    .before .before .before .copy .kept .0
+    ∙ length-set (c .before .before .before .before .before .before .before .before .before .before .args .row .now) 0
+    (c .before .before .before .before .before .before .before .before .before .before .args .h) in simp length-set
+    (omega (arith, e, c .before .before .before .before .before .before .before .before .before .before .pre .0))
 
--- src/image.rt:42:43
 sub-copy-2 : tie.Need-sub-copy-2
-sub-copy-2 c = let g = type-at-range (c .before .before .before .before .before .before .before .before .before .before .before .args .params .now) (c .before .before .before .before .before .before .before .type-at .result) (c .before .before .before .before .before .before .before .before .before .before .before .pre .1) (c .before .before .before .before .before .before .before .type-at .ensures) in omega (arith, g .2)
+sub-copy-2 c = let g =
+    type-at-range (c .before .before .before .before .before .before .before .before .before .before .before .args
+    .params .now) (c .before .before .before .before .before .before .before .type-at .result)
+    (c .before .before .before .before .before .before .before .before .before .before .before .pre .1)
+    (c .before .before .before .before .before .before .before .type-at .ensures) in omega (arith, g .2)
 
--- src/image.rt:42:43
 part-copy-start-2 : tie.Need-part-copy-start-2
-part-copy-start-2 c = let g = type-at-range (c .before .before .before .before .before .before .before .before .before .before .before .args .params .now) (c .before .before .before .before .before .before .before .type-at .result) (c .before .before .before .before .before .before .before .before .before .before .before .pre .1) (c .before .before .before .before .before .before .before .type-at .ensures) in omega (arith, g .2)
+part-copy-start-2 c = let g =
+    type-at-range (c .before .before .before .before .before .before .before .before .before .before .before .args
+    .params .now) (c .before .before .before .before .before .before .before .type-at .result)
+    (c .before .before .before .before .before .before .before .before .before .before .before .pre .1)
+    (c .before .before .before .before .before .before .before .type-at .ensures) in omega (arith, g .2)
 
--- src/image.rt:42:43
 part-copy-end-2 : tie.Need-part-copy-end-2
 part-copy-end-2 c = search needs
 
--- src/image.rt:42:5
 copy-requires-2 : tie.Need-copy-requires-2
 copy-requires-2 c κs = search needs
 
--- src/image.rt:32:1
 same-length : tie.Need-same-length
-same-length c = let e : length (c .before .before .before .before .before .before .before .before .copy .last .0) ≡ length (c .before .before .before .before .before .before .before .before .before .before .before .before .before .before .before .args .row .now) = c .before .before .before .before .before .before .before .before .copy .kept .0 ∙ length-set (c .before .before .before .before .before .before .before .before .before .before .before .before .before .before .before .args .row .now) 0 (c .before .before .before .before .before .before .before .before .before .before .before .before .before .before .before .args .h) in let j : length (set (set (c .before .before .before .before .before .before .before .before .copy .last .0) 5 (getD (c .before .before .before .before .before .before .before .before .before .before .before .before .before .before .before .args .params .now) (c .before .before .before .before .before .before .before .before .before .before .before .type-at .result) 0)) 6 (length (c .before .before .before .before .before .before .before .before .before .before .before .before .before .before .before .args .params .now) - (c .before .before .before .before .before .before .before .before .before .before .before .type-at .result + 1))) ≡ length (c .before .before .before .before .before .before .before .before .copy .last .0) = simp length-set in c .before .before .copy2 .kept .0 ∙ j ∙ e
+same-length c = let e : length (c .before .before .before .before .before .before .before .before .copy .last .0)
+    ≡ length (c .before .before .before .before .before .before .before .before .before .before .before .before
+    .before .before .before .args .row .now) = c .before .before .before .before .before .before .before .before .copy
+    .kept .0 ∙ length-set
+    (c .before .before .before .before .before .before .before .before .before .before .before .before .before .before
+    .before .args .row .now) 0
+    (c .before .before .before .before .before .before .before .before .before .before .before .before .before .before
+    .before .args .h) in let j : length
+    (set (set (c .before .before .before .before .before .before .before .before .copy .last .0) 5
+    (getD (c .before .before .before .before .before .before .before .before .before .before .before .before .before
+    .before .before .args .params .now)
+    (c .before .before .before .before .before .before .before .before .before .before .before .type-at .result) 0)) 6
+    (length (c .before .before .before .before .before .before .before .before .before .before .before .before .before
+    .before .before .args .params .now) -
+    (c .before .before .before .before .before .before .before .before .before .before .before .type-at .result + 1)))
+    ≡ length (c .before .before .before .before .before .before .before .before .copy .last .0) = simp
+    length-set in c .before .before .copy2 .kept .0 ∙ j ∙ e
 
--- src/image.rt:32:1
 returns : tie.Need-returns
-returns c = settings-put (c .before .before .before .before .before .before .before .before .before .before .before .before .before .before .before .args .row .now) (c .before .before .before .before .before .before .before .before .before .before .before .before .before .before .before .args .params .now) (c .before .before .before .before .before .before .before .before .before .before .before .before .before .before .before .args .h) (c .before .before .before .before .before .before .before .before .before .before .before .type-at .result) (c .before .before .before .before .before .before .before .before .before .before .before .before .before .before .before .pre .0) (c .before .before .before .before .before .before .before .before .before .before .before .before .before .before .before .pre .1) (c .before .before .before .before .before .before .before .before .before .before .before .type-at .ensures) (c .before .before .before .before .before .before .before .before .before .before .before .before .before .before .before .pre .2) (c .before .before .before .before .before .before .before .before .copy .ensures) (c .before .before .copy2 .ensures)
+returns c = settings-put
+    (c .before .before .before .before .before .before .before .before .before .before .before .before .before .before
+    .before .args .row .now)
+    (c .before .before .before .before .before .before .before .before .before .before .before .before .before .before
+    .before .args .params .now)
+    (c .before .before .before .before .before .before .before .before .before .before .before .before .before .before
+    .before .args .h)
+    (c .before .before .before .before .before .before .before .before .before .before .before .type-at .result)
+    (c .before .before .before .before .before .before .before .before .before .before .before .before .before .before
+    .before .pre .0)
+    (c .before .before .before .before .before .before .before .before .before .before .before .before .before .before
+    .before .pre .1)
+    (c .before .before .before .before .before .before .before .before .before .before .before .type-at .ensures)
+    (c .before .before .before .before .before .before .before .before .before .before .before .before .before .before
+    .before .pre .2) (c .before .before .before .before .before .before .before .before .copy .ensures)
+    (c .before .before .copy2 .ensures)
 
 pub put-settings-spec : {M : Type 1} → statement M
 put-settings-spec =

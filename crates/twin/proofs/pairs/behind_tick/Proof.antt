@@ -1,4 +1,4 @@
-use Rattle.twin.specs.Windows.{look-end, look-first, look-other, look-stopped, look-tick, looked}
+use Rattle.twin.specs.WindowsLaws.{look-end, look-first, look-other, look-stopped, look-tick, looked}
 use Rattle.twin.specs.Table.{after}
 use Rattle.pasts.specs.Pair.{stretch}
 use mathlib.Core.Path.{_≡_, sym, _∙_}
@@ -16,49 +16,90 @@ Inv-loop t k n last left₀ i₀ left i = (k ≤ i) × (i ≤ n) × (stretch las
 abbrev μ-loop : tie.MeasureT-loop
 μ-loop t k n last left₀ i₀ left i = i
 
--- src/pairs.rt:120:5
 loop-holds : tie.Need-loop-holds Inv-loop μ-loop
-loop-holds c = let o = c .before .pre .order in (o, omega arith, look-first (c .before .args .t .now) (c .before .args .k) (c .before .args .n) (c .before .args .last))
+loop-holds c = let o =
+    c .before .pre .order in (
+      o,
+      omega arith,
+      look-first (c .before .args .t .now) (c .before .args .k)
+          (c .before .args .n) (c .before .args .last),
+    )
 
--- src/pairs.rt:121:9
 sub-i : tie.Need-sub-i Inv-loop μ-loop
 sub-i c = omega arith
 
--- src/pairs.rt:122:12
 is-tick-requires : tie.Need-is-tick-requires Inv-loop μ-loop
-is-tick-requires c κs = c .before .before .before .pre .formed (c .before .loop .i - 1) (let m = c .before .loop .inv .1 in let n = c .loop-test .taken in omega (arith, m, n)) .stands
+is-tick-requires c κs =
+    c .before .before .before .pre .formed (c .before .loop .i - 1)
+    (let m = c .before .loop .inv .1 in let n = c .loop-test .taken in omega (arith, m, n)) .stands
 
--- src/pairs.rt:124:24
 add-result : tie.Need-add-result Inv-loop μ-loop
-add-result c = let f = c .before .before .before .before .before .before .pre .few in let m = c .before .before .before .before .loop .inv .1 in omega (arith, f, m)
+add-result c = let f = c .before .before .before .before .before .before .pre .few in let m =
+    c .before .before .before .before .loop .inv .1 in omega (arith, f, m)
 
--- src/pairs.rt:124:17
 returns : tie.Need-returns Inv-loop μ-loop
-returns c = let n = c .before .before .before .loop-test .taken in let m = c .before .before .before .before .loop .inv in (omega (arith, n, m .0), omega (arith, n, m .1), look-stopped (c .before .before .before .before .before .before .args .t .now) (c .before .before .before .before .before .before .args .k) (c .before .before .before .before .before .before .args .n) (c .before .before .before .before .loop .i) (c .before .before .before .before .loop .left) (c .before .before .before .before .before .before .args .last) n (c .before .before .before .before .before .before .pre .formed (c .before .before .before .before .loop .i - 1) (omega (arith, m .1, n))) (c .before .before .is-tick .ensures) (c .before .if1 .taken) (c .if2 .taken) (m .2))
+returns c = let n = c .before .before .before .loop-test .taken in let m =
+    c .before .before .before .before .loop
+    .inv in (
+      omega (arith, n, m .0),
+      omega (arith, n, m .1),
+      look-stopped
+          (c .before .before .before .before .before .before .args .t .now)
+          (c .before .before .before .before .before .before .args .k)
+          (c .before .before .before .before .before .before .args .n) (c .before .before .before .before .loop .i)
+          (c .before .before .before .before .loop .left) (c .before .before .before .before .before .before .args .last) n
+          (c .before .before .before .before .before .before .pre .formed (c .before .before .before .before .loop .i - 1)
+          (omega (arith, m .1, n))) (c .before .before .is-tick .ensures) (c .before .if1 .taken) (c .if2 .taken) (m .2),
+    )
 
--- src/pairs.rt:126:13
 sub-left : tie.Need-sub-left Inv-loop μ-loop
 sub-left c = let n = c .if2 .left in omega (arith, n)
 
--- src/pairs.rt:120:5
 loop-less : tie.Need-loop-less Inv-loop μ-loop
 loop-less c = let n = c .before .before .before .loop-test .taken in omega (arith, n)
 
--- src/pairs.rt:120:5
 loop-again : tie.Need-loop-again Inv-loop μ-loop
-loop-again c = let n = c .before .before .before .loop-test .taken in let m = c .before .before .before .before .loop .inv in (omega (arith, n, m .0), omega (arith, n, m .1), m .2 ∙ look-tick (c .before .before .before .before .before .before .args .t .now) (c .before .before .before .before .before .before .args .k) (c .before .before .before .before .before .before .args .n) (c .before .before .before .before .loop .i) (c .before .before .before .before .loop .left) n (m .1) (c .before .before .before .before .before .before .pre .formed (c .before .before .before .before .loop .i - 1) (omega (arith, m .1, n))) (c .before .before .is-tick .ensures) (c .before .if1 .taken) (c .if2 .left))
+loop-again c = let n = c .before .before .before .loop-test .taken in let m =
+    c .before .before .before .before .loop
+    .inv in (
+      omega (arith, n, m .0),
+      omega (arith, n, m .1),
+      m .2
+          ∙ look-tick (c .before .before .before .before .before .before .args .t .now)
+          (c .before .before .before .before .before .before .args .k)
+          (c .before .before .before .before .before .before .args .n) (c .before .before .before .before .loop .i)
+          (c .before .before .before .before .loop .left) n (m .1)
+          (c .before .before .before .before .before .before .pre .formed (c .before .before .before .before .loop .i - 1)
+          (omega (arith, m .1, n))) (c .before .before .is-tick .ensures) (c .before .if1 .taken) (c .if2 .left),
+    )
 
--- src/pairs.rt:120:5
 loop-less-2 : tie.Need-loop-less-2 Inv-loop μ-loop
 loop-less-2 c = let n = c .before .before .loop-test .taken in omega (arith, n)
 
--- src/pairs.rt:120:5
 loop-again-2 : tie.Need-loop-again-2 Inv-loop μ-loop
-loop-again-2 c = let n = c .before .before .loop-test .taken in let m = c .before .before .before .loop .inv in (omega (arith, n, m .0), omega (arith, n, m .1), m .2 ∙ look-other (c .before .before .before .before .before .args .t .now) (c .before .before .before .before .before .args .k) (c .before .before .before .before .before .args .n) (c .before .before .before .loop .i) (c .before .before .before .loop .left) n (m .1) (c .before .before .before .before .before .pre .formed (c .before .before .before .loop .i - 1) (omega (arith, m .1, n))) (c .before .is-tick .ensures) (c .if1 .left))
+loop-again-2 c = let n = c .before .before .loop-test .taken in let m =
+    c .before .before .before .loop
+    .inv in (
+      omega (arith, n, m .0),
+      omega (arith, n, m .1),
+      m .2
+          ∙ look-other (c .before .before .before .before .before .args .t .now)
+          (c .before .before .before .before .before .args .k) (c .before .before .before .before .before .args .n)
+          (c .before .before .before .loop .i) (c .before .before .before .loop .left) n (m .1)
+          (c .before .before .before .before .before .pre .formed (c .before .before .before .loop .i - 1)
+          (omega (arith, m .1, n))) (c .before .is-tick .ensures) (c .if1 .left),
+    )
 
--- src/pairs.rt:114:1
 returns-2 : tie.Need-returns-2 Inv-loop μ-loop
-returns-2 c = let m = c .before .loop .inv in (m .0, m .1, sym (m .2 ∙ look-end (c .before .before .before .args .t .now) (c .before .before .before .args .k) (c .before .before .before .args .n) (c .before .loop .i) (c .before .loop .left) (m .0) (omega (arith, c .loop-test .left))))
+returns-2 c = let m =
+    c .before .loop .inv in (
+      m .0,
+      m .1,
+      sym
+          (m .2 ∙ look-end (c .before .before .before .args .t .now) (c .before .before .before .args .k)
+          (c .before .before .before .args .n) (c .before .loop .i) (c .before .loop .left) (m .0)
+          (omega (arith, c .loop-test .left))),
+    )
 
 pub behind-tick-spec : {M : Type 1} → statement M
 behind-tick-spec =

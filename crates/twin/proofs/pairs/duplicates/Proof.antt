@@ -8,21 +8,18 @@ use Rattle.twin.proofs.pairs.duplicates.Lts as lts
 use Rattle.twin.proofs.pairs.alike.Reads as alike-reads
 use Rattle.twin.proofs.pairs.is_sifting.Reads as is-sifting-reads
 
--- src/pairs.rt:223:9
 is-sifting-requires : tie.Need-is-sifting-requires
 is-sifting-requires c κs = search needs
 
--- src/pairs.rt:224:9
 returns : tie.Need-returns
 returns c = sym (rw (sym (c .before .is-sifting .ensures) ∙ not-true _ (c .if1 .taken)))
 
--- src/pairs.rt:226:5
 alike-requires : tie.Need-alike-requires
 alike-requires c κs = search needs
 
--- src/pairs.rt:219:1
 returns-2 : tie.Need-returns-2
-returns-2 c = c .alike .ensures ∙ sym (rw (sym (c .before .before .is-sifting .ensures) ∙ not-false _ (c .before .if1 .left)))
+returns-2 c = c .alike .ensures
+    ∙ sym (rw (sym (c .before .before .is-sifting .ensures) ∙ not-false _ (c .before .if1 .left)))
 
 pub duplicates-spec : {M : Type 1} → statement M
 duplicates-spec = tie.close (tie.spec is-sifting-requires returns alike-requires returns-2)

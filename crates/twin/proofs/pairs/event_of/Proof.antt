@@ -1,5 +1,5 @@
 use native.Mathlib.Omega.{arith}
-use Rattle.twin.specs.Filters.{event-read, sent-long}
+use Rattle.twin.specs.FiltersLaws.{event-read, sent-long}
 use borrow.Author.Needs.{needs}
 use Rattle.twin.proofs.pairs.event_of.Statement.{statement}
 use Rattle.twin.proofs.pairs.event_of.Tie as tie
@@ -7,21 +7,20 @@ use Rattle.twin.proofs.pairs.event_of.Reads as reads
 use Rattle.twin.proofs.pairs.event_of.Lts as lts
 use Rattle.twin.proofs.kept.payload_at.Reads as payload-at-reads
 
--- src/pairs.rt:184:25
 sub-payload-at : tie.Need-sub-payload-at
 sub-payload-at c = search needs
 
--- src/pairs.rt:184:5
 payload-at-requires : tie.Need-payload-at-requires
 payload-at-requires c κs = search needs
 
--- src/pairs.rt:184:5
 shared-slice-read-result : tie.Need-shared-slice-read-result
-shared-slice-read-result c = let k = sent-long (c .before .before .before .args .t .now) (c .before .before .before .args .r) _ (c .before .before .before .pre) (c .before .payload-at .ensures) in omega (arith, k)
+shared-slice-read-result c = let k =
+    sent-long (c .before .before .before .args .t .now) (c .before .before .before .args .r) _
+    (c .before .before .before .pre) (c .before .payload-at .ensures) in omega (arith, k)
 
--- src/pairs.rt:180:1
 returns : tie.Need-returns
-returns c = event-read (c .before .before .before .args .t .now) (c .before .before .before .args .r) _ (c .before .payload-at .ensures)
+returns c = event-read (c .before .before .before .args .t .now) (c .before .before .before .args .r) _
+    (c .before .payload-at .ensures)
 
 pub event-of-spec : {M : Type 1} → statement M
 event-of-spec =

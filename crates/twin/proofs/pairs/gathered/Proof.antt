@@ -1,5 +1,5 @@
-use Rattle.twin.specs.Silent.{hears-sends}
-use Rattle.twin.specs.Gathered.{gather-none, gather-one}
+use Rattle.twin.specs.SilentLaws.{hears-sends}
+use Rattle.twin.specs.GatheredLaws.{gather-none, gather-one}
 use borrow.Author.Tests.{not-true, not-false}
 use borrow.Author.Needs.{needs}
 use Rattle.twin.proofs.pairs.gathered.Statement.{statement}
@@ -11,37 +11,45 @@ use Rattle.twin.proofs.heard.is_heard.Reads as is-heard-reads
 use Rattle.twin.proofs.kept.rssi_at.Reads as rssi-at-reads
 use Rattle.twin.proofs.pairs.extended.Reads as extended-reads
 
--- src/pairs.rt:165:9
 is-heard-requires : tie.Need-is-heard-requires
 is-heard-requires c κs = search needs
 
--- src/pairs.rt:166:9
 returns : tie.Need-returns
-returns c = gather-none (c .before .before .before .args .t .now) (c .before .before .before .args .a) (c .before .before .before .args .k) (c .before .before .before .args .i) (c .before .before .before .args .w .packets) (c .before .before .before .args .w .sum) (c .before .before .before .args .w .last) (c .before .is-heard .ensures) (not-true _ (c .if1 .taken))
+returns c = gather-none (c .before .before .before .args .t .now) (c .before .before .before .args .a)
+    (c .before .before .before .args .k) (c .before .before .before .args .i)
+    (c .before .before .before .args .w .packets) (c .before .before .before .args .w .sum)
+    (c .before .before .before .args .w .last) (c .before .is-heard .ensures) (not-true _ (c .if1 .taken))
 
--- src/pairs.rt:169:18
 add-t8 : tie.Need-add-t8
 add-t8 c = search needs
 
--- src/pairs.rt:170:57
 rssi-at-requires : tie.Need-rssi-at-requires
-rssi-at-requires c κs = hears-sends (c .before .before .before .before .args .t .now) (c .before .before .before .before .args .a) (c .before .before .before .before .args .k) (c .before .before .before .before .args .i) (c .before .before .before .before .pre .1) (c .before .before .is-heard .ensures) (not-false _ (c .before .if1 .left))
+rssi-at-requires c κs =
+    hears-sends (c .before .before .before .before .args .t .now) (c .before .before .before .before .args .a)
+    (c .before .before .before .before .args .k) (c .before .before .before .before .args .i)
+    (c .before .before .before .before .pre .1) (c .before .before .is-heard .ensures)
+    (not-false _ (c .before .if1 .left))
 
--- src/pairs.rt:170:48
 extended-requires : tie.Need-extended-requires
 extended-requires c κs = search needs
 
--- src/pairs.rt:170:14
 wrapping-add-u64-requires : tie.Need-wrapping-add-u64-requires
 wrapping-add-u64-requires c κs = search needs
 
--- src/pairs.rt:171:15
 add-t12 : tie.Need-add-t12
 add-t12 c = search needs
 
--- src/pairs.rt:161:1
 returns-2 : tie.Need-returns-2
-returns-2 c = gather-one (c .before .before .before .before .before .before .before .args .t .now) (c .before .before .before .before .before .before .before .args .a) (c .before .before .before .before .before .before .before .args .k) (c .before .before .before .before .before .before .before .args .i) (c .before .before .before .before .before .before .before .args .w .packets) (c .before .before .before .before .before .before .before .args .w .sum) (c .before .before .before .before .before .before .before .args .w .last) _ _ _ (c .before .before .before .before .before .is-heard .ensures) (not-false _ (c .before .before .before .before .if1 .left)) (c .before .before .rssi-at .ensures) (c .before .extended .ensures) (c .wrapping-add-u64 .ensures)
+returns-2 c = gather-one (c .before .before .before .before .before .before .before .args .t .now)
+    (c .before .before .before .before .before .before .before .args .a)
+    (c .before .before .before .before .before .before .before .args .k)
+    (c .before .before .before .before .before .before .before .args .i)
+    (c .before .before .before .before .before .before .before .args .w .packets)
+    (c .before .before .before .before .before .before .before .args .w .sum)
+    (c .before .before .before .before .before .before .before .args .w .last) _ _ _
+    (c .before .before .before .before .before .is-heard .ensures)
+    (not-false _ (c .before .before .before .before .if1 .left)) (c .before .before .rssi-at .ensures)
+    (c .before .extended .ensures) (c .wrapping-add-u64 .ensures)
 
 pub gathered-spec : {M : Type 1} → statement M
 gathered-spec =

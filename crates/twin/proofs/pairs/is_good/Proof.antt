@@ -1,5 +1,5 @@
 use borrow.Author.Tests.{not-true, not-false}
-use Rattle.twin.specs.Silent.{good-none, adds-long, hears-sends, good-asked}
+use Rattle.twin.specs.SilentLaws.{good-none, adds-long, hears-sends, good-asked}
 use borrow.Author.Needs.{needs}
 use Rattle.twin.proofs.pairs.is_good.Statement.{statement}
 use Rattle.twin.proofs.pairs.is_good.Tie as tie
@@ -10,37 +10,47 @@ use Rattle.twin.proofs.heard.is_heard.Reads as is-heard-reads
 use Rattle.twin.proofs.heard.params_of.Reads as params-of-reads
 use Rattle.twin.proofs.kept.rssi_at.Reads as rssi-at-reads
 
--- src/pairs.rt:20:9
 is-heard-requires : tie.Need-is-heard-requires
 is-heard-requires c κs = search needs
 
--- src/pairs.rt:21:9
 returns : tie.Need-returns
-returns c = good-none (c .before .before .before .args .t .now) (c .before .before .before .args .a) (c .before .before .before .args .k) (c .before .before .before .args .i) (c .before .is-heard .ensures) (not-true _ (c .if1 .taken))
+returns c = good-none (c .before .before .before .args .t .now) (c .before .before .before .args .a)
+    (c .before .before .before .args .k) (c .before .before .before .args .i) (c .before .is-heard .ensures)
+    (not-true _ (c .if1 .taken))
 
--- src/pairs.rt:23:9
 params-of-requires : tie.Need-params-of-requires
 params-of-requires c κs = search needs
 
--- src/pairs.rt:24:21
 shared-slice-read-level-of : tie.Need-shared-slice-read-level-of
-shared-slice-read-level-of c = adds-long (c .before .before .before .before .before .args .t .now) (c .before .before .before .before .before .args .a) (c .before .before .before .before .before .args .k) _ (c .before .before .before .before .before .pre .0) (c .before .params-of .ensures)
+shared-slice-read-level-of c =
+    adds-long (c .before .before .before .before .before .args .t .now)
+    (c .before .before .before .before .before .args .a) (c .before .before .before .before .before .args .k) _
+    (c .before .before .before .before .before .pre .0) (c .before .params-of .ensures)
 
--- src/pairs.rt:24:5
 level-of-requires : tie.Need-level-of-requires
 level-of-requires c κs = search needs
 
--- src/pairs.rt:24:47
 rssi-at-requires : tie.Need-rssi-at-requires
-rssi-at-requires c κs = hears-sends (c .before .before .before .before .before .before .args .t .now) (c .before .before .before .before .before .before .args .a) (c .before .before .before .before .before .before .args .k) (c .before .before .before .before .before .before .args .i) (c .before .before .before .before .before .before .pre .1) (c .before .before .before .before .is-heard .ensures) (not-false _ (c .before .before .before .if1 .left))
+rssi-at-requires c κs =
+    hears-sends (c .before .before .before .before .before .before .args .t .now)
+    (c .before .before .before .before .before .before .args .a)
+    (c .before .before .before .before .before .before .args .k)
+    (c .before .before .before .before .before .before .args .i)
+    (c .before .before .before .before .before .before .pre .1) (c .before .before .before .before .is-heard .ensures)
+    (not-false _ (c .before .before .before .if1 .left))
 
--- src/pairs.rt:24:31
 level-of-requires-2 : tie.Need-level-of-requires-2
 level-of-requires-2 c κs = search needs
 
--- src/pairs.rt:16:1
 returns-2 : tie.Need-returns-2
-returns-2 c = good-asked (c .before .before .before .before .before .before .before .before .args .t .now) (c .before .before .before .before .before .before .before .before .args .a) (c .before .before .before .before .before .before .before .before .args .k) (c .before .before .before .before .before .before .before .before .args .i) _ _ _ (c .before .before .before .before .before .before .is-heard .ensures) (not-false _ (c .before .before .before .before .before .if1 .left)) (c .before .before .before .before .params-of .ensures) (c .before .before .level-of .ensures) (c .before .rssi-at .ensures) (c .level-of2 .ensures)
+returns-2 c = good-asked (c .before .before .before .before .before .before .before .before .args .t .now)
+    (c .before .before .before .before .before .before .before .before .args .a)
+    (c .before .before .before .before .before .before .before .before .args .k)
+    (c .before .before .before .before .before .before .before .before .args .i) _ _ _
+    (c .before .before .before .before .before .before .is-heard .ensures)
+    (not-false _ (c .before .before .before .before .before .if1 .left))
+    (c .before .before .before .before .params-of .ensures) (c .before .before .level-of .ensures)
+    (c .before .rssi-at .ensures) (c .level-of2 .ensures)
 
 pub is-good-spec : {M : Type 1} → statement M
 is-good-spec =

@@ -4,8 +4,8 @@ use native.Mathlib.Omega.{arith}
 use Rattle.pasts.specs.Pair.{keptIn}
 use Rattle.twin.specs.Table.{after}
 use Rattle.twin.specs.Hears.{startOf}
-use Rattle.twin.specs.Silent.{hears-sends}
-use Rattle.twin.specs.Latest.{last-heard, last-other, last-start}
+use Rattle.twin.specs.SilentLaws.{hears-sends}
+use Rattle.twin.specs.LatestLaws.{last-heard, last-other, last-start}
 use Rattle.twin.proofs.pairs.kept_rssi.Statement.{statement}
 use Rattle.twin.proofs.pairs.kept_rssi.Tie as tie
 use Rattle.twin.proofs.pairs.kept_rssi.Reads as reads
@@ -14,50 +14,76 @@ use Rattle.twin.proofs.heard.is_heard.Reads as is-heard-reads
 use Rattle.twin.proofs.kept.rssi_at.Reads as rssi-at-reads
 
 abbrev Inv-loop : tie.InvT-loop
-Inv-loop t a k n i₀ i = (k ≤ i) × (i ≤ n) × ((h : ℕ) → keptIn (startOf t h a k) (after t k (n - k)) ≡ keptIn (startOf t h a k) (after t k (i - k)))
+Inv-loop t a k n i₀ i =
+    (k ≤ i) × (i ≤ n)
+    × ((h : ℕ) → keptIn (startOf t h a k) (after t k (n - k)) ≡ keptIn (startOf t h a k) (after t k (i - k)))
 
 abbrev μ-loop : tie.MeasureT-loop
 μ-loop t a k n i₀ i = i
 
--- src/pairs.rt:52:5
 loop-holds : tie.Need-loop-holds Inv-loop μ-loop
 loop-holds c = let o = c .before .pre .order in (o, omega arith, λ h. refl)
 
--- src/pairs.rt:53:9
 sub-i : tie.Need-sub-i Inv-loop μ-loop
 sub-i c = omega arith
 
--- src/pairs.rt:54:12
 is-heard-requires : tie.Need-is-heard-requires Inv-loop μ-loop
-is-heard-requires c κs = (c .before .before .before .pre .start, (c .before .before .before .pre .formed (c .before .loop .i - 1) (let m = c .before .loop .inv .1 in let n = c .loop-test .taken in omega (arith, m, n))))
+is-heard-requires c κs = (
+  c .before .before .before .pre .start,
+  (c .before .before .before .pre .formed (c .before .loop .i - 1)
+      (let m = c .before .loop .inv .1 in let n = c .loop-test .taken in omega (arith, m, n))),
+)
 
--- src/pairs.rt:55:13
 rssi-at-requires : tie.Need-rssi-at-requires Inv-loop μ-loop
-rssi-at-requires c κs = hears-sends (c .before .before .before .before .before .args .t .now) (c .before .before .before .before .before .args .a) (c .before .before .before .before .before .args .k) (c .before .before .before .loop .i - 1) (c .before .before .before .before .before .pre .formed (c .before .before .before .loop .i - 1) (let m = c .before .before .before .loop .inv .1 in let n = c .before .before .loop-test .taken in omega (arith, m, n))) (c .before .is-heard .ensures) (c .if1 .taken)
+rssi-at-requires c κs =
+    hears-sends (c .before .before .before .before .before .args .t .now)
+    (c .before .before .before .before .before .args .a) (c .before .before .before .before .before .args .k)
+    (c .before .before .before .loop .i - 1)
+    (c .before .before .before .before .before .pre .formed (c .before .before .before .loop .i - 1)
+    (let m = c .before .before .before .loop .inv .1 in let n = c .before .before .loop-test .taken in omega
+    (arith, m, n))) (c .before .is-heard .ensures) (c .if1 .taken)
 
--- src/pairs.rt:55:13
 returns : tie.Need-returns Inv-loop μ-loop
-returns c = λ h. c .rssi-at .ensures ∙ sym (c .before .before .before .before .loop .inv .2 h ∙ last-heard (c .before .before .before .before .before .before .args .t .now) (c .before .before .before .before .before .before .args .a) (c .before .before .before .before .before .before .args .k) h (c .before .before .before .before .loop .i) (c .before .before .before .loop-test .taken) (c .before .before .before .before .before .before .pre .formed (c .before .before .before .before .loop .i - 1) (let m = c .before .before .before .before .loop .inv .1 in let n = c .before .before .before .loop-test .taken in omega (arith, m, n))) (c .before .before .is-heard .ensures) (c .before .if1 .taken))
+returns c = λ h. c .rssi-at .ensures
+    ∙ sym (c .before .before .before .before .loop .inv .2 h
+    ∙ last-heard (c .before .before .before .before .before .before .args .t .now)
+    (c .before .before .before .before .before .before .args .a)
+    (c .before .before .before .before .before .before .args .k) h (c .before .before .before .before .loop .i)
+    (c .before .before .before .loop-test .taken)
+    (c .before .before .before .before .before .before .pre .formed (c .before .before .before .before .loop .i - 1)
+    (let m = c .before .before .before .before .loop .inv .1 in let n = c .before .before .before .loop-test
+    .taken in omega (arith, m, n))) (c .before .before .is-heard .ensures) (c .before .if1 .taken))
 
--- src/pairs.rt:52:5
 loop-less : tie.Need-loop-less Inv-loop μ-loop
 loop-less c = let n = c .before .before .loop-test .taken in omega (arith, n)
 
--- src/pairs.rt:52:5
 loop-again : tie.Need-loop-again Inv-loop μ-loop
-loop-again c = let n = c .before .before .loop-test .taken in let m = c .before .before .before .loop .inv in (omega (arith, n, m .0), omega (arith, n, m .1), λ h. m .2 h ∙ last-other (c .before .before .before .before .before .args .t .now) (c .before .before .before .before .before .args .a) (c .before .before .before .before .before .args .k) h (c .before .before .before .loop .i) (c .before .before .loop-test .taken) (c .before .before .before .before .before .pre .formed (c .before .before .before .loop .i - 1) (let m = c .before .before .before .loop .inv .1 in let n = c .before .before .loop-test .taken in omega (arith, m, n))) (c .before .is-heard .ensures) (c .if1 .left))
+loop-again c = let n = c .before .before .loop-test .taken in let m =
+    c .before .before .before .loop
+    .inv in (
+      omega (arith, n, m .0),
+      omega (arith, n, m .1),
+      λ h. m .2 h
+          ∙ last-other (c .before .before .before .before .before .args .t .now)
+          (c .before .before .before .before .before .args .a) (c .before .before .before .before .before .args .k) h
+          (c .before .before .before .loop .i) (c .before .before .loop-test .taken)
+          (c .before .before .before .before .before .pre .formed (c .before .before .before .loop .i - 1)
+          (let m = c .before .before .before .loop .inv .1 in let n = c .before .before .loop-test .taken in omega
+          (arith, m, n))) (c .before .is-heard .ensures) (c .if1 .left),
+    )
 
--- src/pairs.rt:58:22
 sub-rssi-at : tie.Need-sub-rssi-at Inv-loop μ-loop
 sub-rssi-at c = c .before .before .before .pre .start .packet
 
--- src/pairs.rt:58:5
 rssi-at-requires-2 : tie.Need-rssi-at-requires-2 Inv-loop μ-loop
 rssi-at-requires-2 c κs = c .before .before .before .pre .start .sends
 
--- src/pairs.rt:47:1
 returns-2 : tie.Need-returns-2 Inv-loop μ-loop
-returns-2 c = λ h. c .rssi-at2 .ensures ∙ sym (c .before .before .loop .inv .2 h ∙ last-start (c .before .before .before .before .args .t .now) (c .before .before .before .before .args .a) (c .before .before .before .before .args .k) h (c .before .before .loop .i) (omega (arith, c .before .loop-test .left)))
+returns-2 c = λ h. c .rssi-at2 .ensures
+    ∙ sym (c .before .before .loop .inv .2 h
+    ∙ last-start (c .before .before .before .before .args .t .now) (c .before .before .before .before .args .a)
+    (c .before .before .before .before .args .k) h (c .before .before .loop .i)
+    (omega (arith, c .before .loop-test .left)))
 
 pub kept-rssi-spec : {M : Type 1} → statement M
 kept-rssi-spec =

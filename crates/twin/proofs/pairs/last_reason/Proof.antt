@@ -1,4 +1,4 @@
-use Rattle.twin.specs.Reasons.{Reason, reason-end, reason-first, reason-more}
+use Rattle.twin.specs.ReasonsLaws.{Reason, reason-end, reason-first, reason-more}
 use Prim.Native.Nat.{_-_, _≤_}
 use native.Mathlib.Omega.{arith}
 use Rattle.twin.proofs.pairs.last_reason.Statement.{statement}
@@ -14,33 +14,56 @@ Inv-loop t a k n r₀ i₀ r i = (k ≤ i) × (i ≤ n) × Reason t a k i r
 abbrev μ-loop : tie.MeasureT-loop
 μ-loop t a k n r₀ i₀ r i = n - i
 
--- src/pairs.rt:284:9
 start-reason-requires : tie.Need-start-reason-requires Inv-loop μ-loop
 start-reason-requires c κs = c .before .pre .start
 
--- src/pairs.rt:286:5
 loop-holds : tie.Need-loop-holds Inv-loop μ-loop
-loop-holds c = let o = c .before .before .pre .order in (omega arith, o, reason-first (c .before .before .args .t .now) (c .before .before .args .a) (c .before .before .args .k) _ (c .before .before .pre .start) (c .start-reason .ensures))
+loop-holds c = let o =
+    c .before .before .pre
+    .order in (
+      omega arith,
+      o,
+      reason-first (c .before .before .args .t .now) (c .before .before .args .a)
+          (c .before .before .args .k) _ (c .before .before .pre .start) (c .start-reason .ensures),
+    )
 
--- src/pairs.rt:287:9
 reason-after-requires : tie.Need-reason-after-requires Inv-loop μ-loop
-reason-after-requires c κs = let l = c .loop-test .taken in let f = c .before .before .before .before .pre .few in (c .before .before .before .before .pre .start, c .before .before .before .before .pre .formed (c .before .loop .i) l, c .before .loop .inv .2 .number .sent, omega (arith, l, f))
+reason-after-requires c κs = let l = c .loop-test .taken in let f =
+    c .before .before .before .before .pre
+    .few in (
+      c .before .before .before .before .pre .start,
+      c .before .before .before .before .pre .formed
+          (c .before .loop .i) l,
+      c .before .loop .inv .2 .number .sent,
+      omega (arith, l, f),
+    )
 
--- src/pairs.rt:288:9
 add-i : tie.Need-add-i Inv-loop μ-loop
-add-i c = let l = c .before .loop-test .taken in let f = c .before .before .before .before .before .pre .few in omega (arith, l, f)
+add-i c = let l = c .before .loop-test .taken in let f =
+    c .before .before .before .before .before .pre .few in omega (arith, l, f)
 
--- src/pairs.rt:286:5
 loop-less : tie.Need-loop-less Inv-loop μ-loop
 loop-less c = let l = c .before .loop-test .taken in omega (arith, l)
 
--- src/pairs.rt:286:5
 loop-again : tie.Need-loop-again Inv-loop μ-loop
-loop-again c = let l = c .before .loop-test .taken in let m = c .before .before .loop .inv in (omega (arith, m .0), omega (arith, l), reason-more (c .before .before .before .before .before .args .t .now) (c .before .before .before .before .before .args .a) (c .before .before .before .before .before .args .k) (c .before .before .loop .r) _ (c .before .before .loop .i) (m .0) (c .before .before .before .before .before .pre .formed (c .before .before .loop .i) l) (m .2) (c .reason-after .ensures))
+loop-again c = let l = c .before .loop-test .taken in let m =
+    c .before .before .loop
+    .inv in (
+      omega (arith, m .0),
+      omega (arith, l),
+      reason-more
+          (c .before .before .before .before .before .args .t .now) (c .before .before .before .before .before .args .a)
+          (c .before .before .before .before .before .args .k) (c .before .before .loop .r) _ (c .before .before .loop .i)
+          (m .0) (c .before .before .before .before .before .pre .formed (c .before .before .loop .i) l) (m .2)
+          (c .reason-after .ensures),
+    )
 
--- src/pairs.rt:280:1
 returns : tie.Need-returns Inv-loop μ-loop
-returns c = let m = c .before .loop .inv in reason-end (c .before .before .before .before .args .t .now) (c .before .before .before .before .args .a) (c .before .before .before .before .args .k) (c .before .before .before .before .args .n) (c .before .loop .i) (c .before .loop .r) (m .1) (omega (arith, c .loop-test .left)) (m .2)
+returns c = let m =
+    c .before .loop .inv in reason-end (c .before .before .before .before .args .t .now)
+    (c .before .before .before .before .args .a) (c .before .before .before .before .args .k)
+    (c .before .before .before .before .args .n) (c .before .loop .i) (c .before .loop .r) (m .1)
+    (omega (arith, c .loop-test .left)) (m .2)
 
 pub last-reason-spec : {M : Type 1} → statement M
 last-reason-spec =

@@ -1,6 +1,6 @@
-use Rattle.twin.specs.Reasons.{reason-again, reason-barred, reason-new, reason-unheard}
-use Rattle.twin.specs.Gathered.{sent-number}
-use Rattle.twin.specs.Numbered.{start-added}
+use Rattle.twin.specs.ReasonsLaws.{reason-again, reason-barred, reason-new, reason-unheard}
+use Rattle.twin.specs.GatheredLaws.{sent-number}
+use Rattle.twin.specs.NumberedLaws.{start-added}
 use borrow.Author.Tests.{not-true, not-false}
 use mathlib.Core.Path.{sym, _∙_}
 use borrow.Author.Needs.{needs}
@@ -12,45 +12,69 @@ use Rattle.twin.proofs.heard.is_heard.Reads as is-heard-reads
 use Rattle.twin.proofs.pairs.alike.Reads as alike-reads
 use Rattle.twin.proofs.pairs.allows.Reads as allows-reads
 
--- src/pairs.rt:267:9
 is-heard-requires : tie.Need-is-heard-requires
 is-heard-requires c κs = search needs
 
--- src/pairs.rt:268:9
 returns : tie.Need-returns
-returns c = reason-unheard (c .before .before .before .args .t .now) (c .before .before .before .args .a) (c .before .before .before .args .k) (c .before .before .before .args .r) (c .before .before .before .args .i) (c .before .is-heard .ensures) (not-true _ (c .if1 .taken))
+returns c = reason-unheard (c .before .before .before .args .t .now) (c .before .before .before .args .a)
+    (c .before .before .before .args .k) (c .before .before .before .args .r) (c .before .before .before .args .i)
+    (c .before .is-heard .ensures) (not-true _ (c .if1 .taken))
 
--- src/pairs.rt:270:22
 add-allows : tie.Need-add-allows
 add-allows c = search needs
 
--- src/pairs.rt:270:9
 allows-requires : tie.Need-allows-requires
-allows-requires c κs = (start-added (c .before .before .before .args .t .now) (c .before .before .before .args .a) (c .before .before .before .args .k) (c .before .before .before .pre .0), sent-number (c .before .before .before .args .t .now) (c .before .before .before .args .a) (c .before .before .before .args .k) (c .before .before .before .args .i) (c .before .before .before .pre .1) (sym (c .before .is-heard .ensures) ∙ not-false _ (c .if1 .left)))
+allows-requires c κs = (
+  start-added (c .before .before .before .args .t .now) (c .before .before .before .args .a)
+      (c .before .before .before .args .k) (c .before .before .before .pre .0),
+  sent-number
+      (c .before .before .before .args .t .now) (c .before .before .before .args .a)
+      (c .before .before .before .args .k) (c .before .before .before .args .i) (c .before .before .before .pre .1)
+      (sym (c .before .is-heard .ensures) ∙ not-false _ (c .if1 .left)),
+)
 
--- src/pairs.rt:271:9
 returns-2 : tie.Need-returns-2
-returns-2 c = reason-barred (c .before .before .before .before .before .args .t .now) (c .before .before .before .before .before .args .a) (c .before .before .before .before .before .args .k) (c .before .before .before .before .before .args .r) (c .before .before .before .before .before .args .i) (c .before .before .before .is-heard .ensures) (not-false _ (c .before .before .if1 .left)) (c .before .allows .ensures) (not-true _ (c .if2 .taken))
+returns-2 c = reason-barred (c .before .before .before .before .before .args .t .now)
+    (c .before .before .before .before .before .args .a) (c .before .before .before .before .before .args .k)
+    (c .before .before .before .before .before .args .r) (c .before .before .before .before .before .args .i)
+    (c .before .before .before .is-heard .ensures) (not-false _ (c .before .before .if1 .left))
+    (c .before .allows .ensures) (not-true _ (c .if2 .taken))
 
--- src/pairs.rt:273:20
 add-alike : tie.Need-add-alike
 add-alike c = search needs
 
--- src/pairs.rt:273:8
 alike-requires : tie.Need-alike-requires
-alike-requires c κs = (c .before .before .before .before .before .pre .2, sent-number (c .before .before .before .before .before .args .t .now) (c .before .before .before .before .before .args .a) (c .before .before .before .before .before .args .k) (c .before .before .before .before .before .args .i) (c .before .before .before .before .before .pre .1) (sym (c .before .before .before .is-heard .ensures) ∙ not-false _ (c .before .before .if1 .left)))
+alike-requires c κs = (
+  c .before .before .before .before .before .pre .2,
+  sent-number
+      (c .before .before .before .before .before .args .t .now) (c .before .before .before .before .before .args .a)
+      (c .before .before .before .before .before .args .k) (c .before .before .before .before .before .args .i)
+      (c .before .before .before .before .before .pre .1)
+      (sym (c .before .before .before .is-heard .ensures) ∙ not-false _ (c .before .before .if1 .left)),
+)
 
--- src/pairs.rt:274:9
 returns-3 : tie.Need-returns-3
-returns-3 c = reason-again (c .before .before .before .before .before .before .before .args .t .now) (c .before .before .before .before .before .before .before .args .a) (c .before .before .before .before .before .before .before .args .k) (c .before .before .before .before .before .before .before .args .r) (c .before .before .before .before .before .before .before .args .i) (c .before .before .before .before .before .is-heard .ensures) (not-false _ (c .before .before .before .before .if1 .left)) (c .before .before .before .allows .ensures) (not-false _ (c .before .before .if2 .left)) (c .before .alike .ensures) (c .if3 .taken)
+returns-3 c = reason-again (c .before .before .before .before .before .before .before .args .t .now)
+    (c .before .before .before .before .before .before .before .args .a)
+    (c .before .before .before .before .before .before .before .args .k)
+    (c .before .before .before .before .before .before .before .args .r)
+    (c .before .before .before .before .before .before .before .args .i)
+    (c .before .before .before .before .before .is-heard .ensures)
+    (not-false _ (c .before .before .before .before .if1 .left)) (c .before .before .before .allows .ensures)
+    (not-false _ (c .before .before .if2 .left)) (c .before .alike .ensures) (c .if3 .taken)
 
--- src/pairs.rt:276:5
 add-result : tie.Need-add-result
 add-result c = search needs
 
--- src/pairs.rt:263:1
 returns-4 : tie.Need-returns-4
-returns-4 c = reason-new (c .before .before .before .before .before .before .before .args .t .now) (c .before .before .before .before .before .before .before .args .a) (c .before .before .before .before .before .before .before .args .k) (c .before .before .before .before .before .before .before .args .r) (c .before .before .before .before .before .before .before .args .i) (c .before .before .before .before .before .is-heard .ensures) (not-false _ (c .before .before .before .before .if1 .left)) (c .before .before .before .allows .ensures) (not-false _ (c .before .before .if2 .left)) (c .before .alike .ensures) (c .if3 .left)
+returns-4 c = reason-new (c .before .before .before .before .before .before .before .args .t .now)
+    (c .before .before .before .before .before .before .before .args .a)
+    (c .before .before .before .before .before .before .before .args .k)
+    (c .before .before .before .before .before .before .before .args .r)
+    (c .before .before .before .before .before .before .before .args .i)
+    (c .before .before .before .before .before .is-heard .ensures)
+    (not-false _ (c .before .before .before .before .if1 .left)) (c .before .before .before .allows .ensures)
+    (not-false _ (c .before .before .if2 .left)) (c .before .alike .ensures) (c .if3 .left)
 
 pub reason-after-spec : {M : Type 1} → statement M
 reason-after-spec =

@@ -1,4 +1,4 @@
-use Rattle.laws.specs.Tests.{pick-true, pick-false}
+use Rattle.laws.specs.TestsLaws.{pick-true, pick-false}
 use mathlib.Core.Path.{sym, _∙_}
 use borrow.Author.Needs.{needs}
 use Rattle.twin.proofs.pairs.start_reason.Statement.{statement}
@@ -7,15 +7,12 @@ use Rattle.twin.proofs.pairs.start_reason.Reads as reads
 use Rattle.twin.proofs.pairs.start_reason.Lts as lts
 use Rattle.twin.proofs.pairs.allows.Reads as allows-reads
 
--- src/pairs.rt:256:8
 allows-requires : tie.Need-allows-requires
 allows-requires c κs = search needs
 
--- src/pairs.rt:257:9
 returns : tie.Need-returns
 returns c = sym (pick-true _ _ (sym (c .before .allows .ensures) ∙ c .if1 .taken))
 
--- src/pairs.rt:252:1
 returns-2 : tie.Need-returns-2
 returns-2 c = sym (pick-false _ _ (sym (c .before .allows .ensures) ∙ c .if1 .left))
 

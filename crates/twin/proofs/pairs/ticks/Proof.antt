@@ -1,4 +1,4 @@
-use Rattle.twin.specs.Windows.{back-end, back-idle, back-tick}
+use Rattle.twin.specs.WindowsLaws.{back-end, back-idle, back-tick}
 use Rattle.twin.specs.Table.{after}
 use Rattle.pasts.specs.Pair.{ticksIn}
 use mathlib.Core.Path.{_≡_}
@@ -11,46 +11,65 @@ use Rattle.twin.proofs.pairs.ticks.Lts as lts
 use Rattle.twin.proofs.kept.is_tick.Reads as is-tick-reads
 
 abbrev Inv-loop : tie.InvT-loop
-Inv-loop t k n c₀ i₀ c i = (k ≤ i) × (i ≤ n) × (c + i ≤ n) × (ticksIn (after t k (n - k)) ≡ c + ticksIn (after t k (i - k)))
+Inv-loop t k n c₀ i₀ c i =
+    (k ≤ i) × (i ≤ n) × (c + i ≤ n) × (ticksIn (after t k (n - k)) ≡ c + ticksIn (after t k (i - k)))
 
 abbrev μ-loop : tie.MeasureT-loop
 μ-loop t k n c₀ i₀ c i = i
 
--- src/pairs.rt:84:5
 loop-holds : tie.Need-loop-holds Inv-loop μ-loop
 loop-holds c = let o = c .before .pre .order in (o, omega arith, omega arith, omega arith)
 
--- src/pairs.rt:85:9
 sub-i : tie.Need-sub-i Inv-loop μ-loop
 sub-i c = omega arith
 
--- src/pairs.rt:86:12
 is-tick-requires : tie.Need-is-tick-requires Inv-loop μ-loop
-is-tick-requires c κs = c .before .before .before .pre .formed (c .before .loop .i - 1) (let m = c .before .loop .inv .1 in let n = c .loop-test .taken in omega (arith, m, n)) .stands
+is-tick-requires c κs =
+    c .before .before .before .pre .formed (c .before .loop .i - 1)
+    (let m = c .before .loop .inv .1 in let n = c .loop-test .taken in omega (arith, m, n)) .stands
 
--- src/pairs.rt:87:13
 add-c : tie.Need-add-c Inv-loop μ-loop
-add-c c = let f = c .before .before .before .before .before .pre .few in let m = c .before .before .before .loop .inv .2 in omega (arith, f, m)
+add-c c = let f = c .before .before .before .before .before .pre .few in let m =
+    c .before .before .before .loop .inv .2 in omega (arith, f, m)
 
--- src/pairs.rt:84:5
 loop-less : tie.Need-loop-less Inv-loop μ-loop
 loop-less c = let n = c .before .before .loop-test .taken in omega (arith, n)
 
--- src/pairs.rt:84:5
 loop-again : tie.Need-loop-again Inv-loop μ-loop
-loop-again c = let n = c .before .before .loop-test .taken in let m = c .before .before .before .loop .inv in (omega (arith, n, m .0), omega (arith, n, m .1), omega (arith, n, m .2), let z = back-tick (c .before .before .before .before .before .args .t .now) (c .before .before .before .before .before .args .k) (c .before .before .before .loop .i) n (c .before .before .before .before .before .pre .formed (c .before .before .before .loop .i - 1) (omega (arith, m .1, n))) (c .before .is-tick .ensures) (c .if1 .taken) in omega (arith, z, m .3))
+loop-again c = let n = c .before .before .loop-test .taken in let m =
+    c .before .before .before .loop
+    .inv in (
+      omega (arith, n, m .0),
+      omega (arith, n, m .1),
+      omega (arith, n, m .2),
+      let z = back-tick
+          (c .before .before .before .before .before .args .t .now) (c .before .before .before .before .before .args .k)
+          (c .before .before .before .loop .i) n
+          (c .before .before .before .before .before .pre .formed (c .before .before .before .loop .i - 1)
+          (omega (arith, m .1, n))) (c .before .is-tick .ensures) (c .if1 .taken) in omega (arith, z, m .3),
+    )
 
--- src/pairs.rt:84:5
 loop-less-2 : tie.Need-loop-less-2 Inv-loop μ-loop
 loop-less-2 c = let n = c .before .before .loop-test .taken in omega (arith, n)
 
--- src/pairs.rt:84:5
 loop-again-2 : tie.Need-loop-again-2 Inv-loop μ-loop
-loop-again-2 c = let n = c .before .before .loop-test .taken in let m = c .before .before .before .loop .inv in (omega (arith, n, m .0), omega (arith, n, m .1), omega (arith, n, m .2), let z = back-idle (c .before .before .before .before .before .args .t .now) (c .before .before .before .before .before .args .k) (c .before .before .before .loop .i) n (c .before .before .before .before .before .pre .formed (c .before .before .before .loop .i - 1) (omega (arith, m .1, n))) (c .before .is-tick .ensures) (c .if1 .left) in omega (arith, z, m .3))
+loop-again-2 c = let n = c .before .before .loop-test .taken in let m =
+    c .before .before .before .loop
+    .inv in (
+      omega (arith, n, m .0),
+      omega (arith, n, m .1),
+      omega (arith, n, m .2),
+      let z = back-idle
+          (c .before .before .before .before .before .args .t .now) (c .before .before .before .before .before .args .k)
+          (c .before .before .before .loop .i) n
+          (c .before .before .before .before .before .pre .formed (c .before .before .before .loop .i - 1)
+          (omega (arith, m .1, n))) (c .before .is-tick .ensures) (c .if1 .left) in omega (arith, z, m .3),
+    )
 
--- src/pairs.rt:78:1
 returns : tie.Need-returns Inv-loop μ-loop
-returns c = let z = back-end (c .before .before .before .args .t .now) (c .before .before .before .args .k) (c .before .loop .i) (omega (arith, c .loop-test .left)) in let v = c .before .loop .inv .3 in omega (arith, z, v)
+returns c = let z =
+    back-end (c .before .before .before .args .t .now) (c .before .before .before .args .k) (c .before .loop .i)
+    (omega (arith, c .loop-test .left)) in let v = c .before .loop .inv .3 in omega (arith, z, v)
 
 pub ticks-spec : {M : Type 1} → statement M
 ticks-spec =

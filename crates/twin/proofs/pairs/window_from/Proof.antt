@@ -1,4 +1,4 @@
-use Rattle.twin.specs.Windows.{from-none, from-some}
+use Rattle.twin.specs.WindowsLaws.{from-none, from-some}
 use borrow.Author.Tests.{not-true, not-false}
 use native.Mathlib.Omega.{arith}
 use borrow.Author.Needs.{needs}
@@ -10,25 +10,34 @@ use Rattle.twin.proofs.pairs.behind_tick.Reads as behind-tick-reads
 use Rattle.twin.proofs.pairs.phase.Reads as phase-reads
 use Rattle.twin.proofs.pairs.windowed.Reads as windowed-reads
 
--- src/pairs.rt:137:9
 windowed-requires : tie.Need-windowed-requires
 windowed-requires c κs = search needs
 
--- src/pairs.rt:138:9
 returns : tie.Need-returns
-returns c = (c .before .before .before .pre .order, omega arith, from-none (c .before .before .before .args .t .now) (c .before .before .before .args .a) (c .before .before .before .args .k) (c .before .before .before .args .n) (c .before .windowed .ensures) (not-true _ (c .if1 .taken)))
+returns c = (
+  c .before .before .before .pre .order,
+  omega arith,
+  from-none (c .before .before .before .args .t .now)
+      (c .before .before .before .args .a) (c .before .before .before .args .k) (c .before .before .before .args .n)
+      (c .before .windowed .ensures) (not-true _ (c .if1 .taken)),
+)
 
--- src/pairs.rt:140:26
 phase-requires : tie.Need-phase-requires
 phase-requires c κs = search needs
 
--- src/pairs.rt:140:5
 behind-tick-requires : tie.Need-behind-tick-requires
 behind-tick-requires c κs = search needs
 
--- src/pairs.rt:133:1
 returns-2 : tie.Need-returns-2
-returns-2 c = (c .behind-tick .ensures .0, c .behind-tick .ensures .1, from-some (c .before .before .before .before .before .args .t .now) (c .before .before .before .before .before .args .a) (c .before .before .before .before .before .args .k) (c .before .before .before .before .before .args .n) (c .behind-tick .result) (c .before .phase .result) (c .before .before .before .windowed .ensures) (not-false _ (c .before .before .if1 .left)) (c .before .phase .ensures .0) (c .behind-tick .ensures .2))
+returns-2 c = (
+  c .behind-tick .ensures .0,
+  c .behind-tick .ensures .1,
+  from-some
+      (c .before .before .before .before .before .args .t .now) (c .before .before .before .before .before .args .a)
+      (c .before .before .before .before .before .args .k) (c .before .before .before .before .before .args .n)
+      (c .behind-tick .result) (c .before .phase .result) (c .before .before .before .windowed .ensures)
+      (not-false _ (c .before .before .if1 .left)) (c .before .phase .ensures .0) (c .behind-tick .ensures .2),
+)
 
 pub window-from-spec : {M : Type 1} → statement M
 window-from-spec =

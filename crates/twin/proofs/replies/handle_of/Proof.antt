@@ -1,5 +1,5 @@
 use lib.ListN.{length}
-use Rattle.laws.specs.Tests.{pick-true, pick-false}
+use Rattle.laws.specs.TestsLaws.{pick-true, pick-false}
 use borrow.Author.Tests.{eq-eqb, ne-eqb}
 use native.Mathlib.Omega.{arith}
 use mathlib.Core.Path.{_≡_, _∙_, sym}
@@ -10,23 +10,19 @@ use Rattle.twin.proofs.replies.handle_of.Reads as reads
 use Rattle.twin.proofs.replies.handle_of.Lts as lts
 use Rattle.twin.proofs.watch.lowest_free.Reads as lowest-free-reads
 
--- src/replies.rt:105:9
 returns : tie.Need-returns
 returns c = sym (pick-false _ 0 (ne-eqb _ 0 (c .if1 .taken)))
 
--- src/replies.rt:108:24
 slice-aggregate-lowest-free : tie.Need-slice-aggregate-lowest-free
 slice-aggregate-lowest-free c = search needs
 
--- src/replies.rt:108:5
 lowest-free-requires : tie.Need-lowest-free-requires
 lowest-free-requires c κs = search needs
 
--- src/replies.rt:108:5
 cast-result : tie.Need-cast-result
-cast-result c = let l : length (c .before .before .before .before .args .seen .live) ≡ 16 = search needs in omega (arith, c .lowest-free .ensures .1)
+cast-result c = let l : length (c .before .before .before .before .args .seen .live) ≡ 16 =
+    search needs in omega (arith, c .lowest-free .ensures .1)
 
--- src/replies.rt:101:1
 returns-2 : tie.Need-returns-2
 returns-2 c = c .lowest-free .ensures .0 ∙ sym (pick-true _ 0 (eq-eqb _ 0 (c .before .before .before .if1 .left)))
 

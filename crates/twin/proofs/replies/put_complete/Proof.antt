@@ -1,7 +1,7 @@
 use lib.ListN.{length, length-set}
 use mathlib.Core.Path.{_≡_}
 use native.Mathlib.Omega.{arith}
-use Rattle.commands.specs.Replies.{head-put}
+use Rattle.commands.specs.RepliesLaws.{head-put}
 use borrow.Author.Needs.{needs}
 use Rattle.twin.proofs.replies.put_complete.Statement.{statement}
 use Rattle.twin.proofs.replies.put_complete.Tie as tie
@@ -9,33 +9,30 @@ use Rattle.twin.proofs.replies.put_complete.Reads as reads
 use Rattle.twin.proofs.replies.put_complete.Lts as lts
 use Rattle.octets.proofs.put16.Reads as put16-reads
 
--- src/replies.rt:29:5
 slice-write-out : tie.Need-slice-write-out
 slice-write-out c = search needs
 
--- src/replies.rt:30:14
 add-out : tie.Need-add-out
 add-out c = search needs
 
--- src/replies.rt:30:5
 slice-write-out-2 : tie.Need-slice-write-out-2
 slice-write-out-2 c = simp length-set (omega arith)
 
--- src/replies.rt:31:5
 slice-write-out-3 : tie.Need-slice-write-out-3
 slice-write-out-3 c = simp length-set (omega arith)
 
--- src/replies.rt:32:5
 put16-requires : tie.Need-put16-requires
 put16-requires c κs = search needs
 
--- src/replies.rt:25:1
 same-length : tie.Need-same-length
-same-length c = let e : length (c .before .before .put16 .last .0) ≡ length (c .before .before .before .before .before .args .out .now) = simp length-set at (c .before .out .given) in e
+same-length c = let e : length (c .before .before .put16 .last .0)
+    ≡ length (c .before .before .before .before .before .args .out .now) = simp length-set at
+    (c .before .out .given) in e
 
--- src/replies.rt:25:1
 returns : tie.Need-returns
-returns c = head-put (c .before .before .before .before .before .args .out .now) (c .before .before .before .before .before .args .opcode) (c .before .before .before .before .before .args .n) (omega arith) (c .before .before .put16 .ensures)
+returns c = head-put (c .before .before .before .before .before .args .out .now)
+    (c .before .before .before .before .before .args .opcode) (c .before .before .before .before .before .args .n)
+    (omega arith) (c .before .before .put16 .ensures)
 
 pub put-complete-spec : {M : Type 1} → statement M
 put-complete-spec =

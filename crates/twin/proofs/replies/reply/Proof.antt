@@ -1,4 +1,4 @@
-use Rattle.twin.specs.Answers.{command-next, params-some, reply-added, reply-read, reply-other}
+use Rattle.twin.specs.AnswersLaws.{command-next, params-some, reply-added, reply-read, reply-other}
 use Rattle.twin.specs.Table.{pastAt}
 use Rattle.commands.specs.Replies.{prefixIn, Replied}
 use Rattle.model.specs.Commands.{subOf}
@@ -19,72 +19,125 @@ use Rattle.twin.proofs.replies.long.Reads as long-reads
 use Rattle.twin.proofs.replies.short.Reads as short-reads
 use Rattle.twin.proofs.replies.status_of.Reads as status-of-reads
 
--- src/replies.rt:116:38
 add-params-of : tie.Need-add-params-of
 add-params-of c = search needs
 
--- src/replies.rt:116:9
 params-of-requires : tie.Need-params-of-requires
-params-of-requires c κs = (omega arith, command-next (c .before .before .before .args .t .now) (c .before .before .before .args .i) (c .before .before .before .pre .1) (c .before .before .before .pre .2))
+params-of-requires c κs = (
+  omega arith,
+  command-next (c .before .before .before .args .t .now) (c .before .before .before .args .i)
+      (c .before .before .before .pre .1) (c .before .before .before .pre .2),
+)
 
--- src/replies.rt:117:9
 get16-requires : tie.Need-get16-requires
 get16-requires c κs = search needs
 
--- src/replies.rt:118:9
 status-of-requires : tie.Need-status-of-requires
-status-of-requires c κs = (c .before .before .before .before .before .pre .3, params-some (c .before .before .before .before .before .args .t .now) (c .before .before .before .before .before .args .i) _ (c .before .before .before .before .before .pre .1) (c .before .before .before .before .before .pre .2) (c .before .params-of .ensures))
+status-of-requires c κs = (
+  c .before .before .before .before .before .pre .3,
+  params-some
+      (c .before .before .before .before .before .args .t .now) (c .before .before .before .before .before .args .i) _
+      (c .before .before .before .before .before .pre .1) (c .before .before .before .before .before .pre .2)
+      (c .before .params-of .ensures),
+)
 
--- src/replies.rt:119:15
 shared-slice-read-sub : tie.Need-shared-slice-read-sub
-shared-slice-read-sub c = omega (arith, params-some (c .before .before .before .before .before .before .before .args .t .now) (c .before .before .before .before .before .before .before .args .i) _ (c .before .before .before .before .before .before .before .pre .1) (c .before .before .before .before .before .before .before .pre .2) (c .before .before .before .params-of .ensures))
+shared-slice-read-sub c =
+    omega (
+      arith,
+      params-some (c .before .before .before .before .before .before .before .args .t .now)
+          (c .before .before .before .before .before .before .before .args .i) _
+          (c .before .before .before .before .before .before .before .pre .1)
+          (c .before .before .before .before .before .before .before .pre .2) (c .before .before .before .params-of .ensures),
+    )
 
--- src/replies.rt:120:8
 is-add-requires : tie.Need-is-add-requires
 is-add-requires c κs = search needs
 
--- src/replies.rt:121:47
 handle-of-requires : tie.Need-handle-of-requires
 handle-of-requires c κs = search needs
 
--- src/replies.rt:121:9
 long-requires : tie.Need-long-requires
 long-requires c κs = search needs
 
--- src/replies.rt:121:9
 same-length : tie.Need-same-length
 same-length c = search needs
 
--- src/replies.rt:121:9
 returns : tie.Need-returns
 unfolding subOf
-returns c = reply-added (c .before .before .before .before .before .before .before .before .before .before .before .before .before .before .args .head .now) (c .before .before .before .before .before .before .before .before .before .before .before .before .before .before .args .t .now) (c .before .before .before .before .before .before .before .before .before .before .before .before .before .before .args .i) _ (c .before .before .before .before .before .before .before .before .before .before .before .before .before .before .args .seen) (c .before .before .before .before .before .before .before .before .before .before .before .before .before .before .pre .0) (c .before .before .before .before .before .before .before .before .before .before .before .before .before .before .pre .1) (c .before .before .before .before .before .before .before .before .before .before .before .before .before .before .pre .2) (c .before .before .before .before .before .before .before .before .before .before .before .before .before .before .pre .3) (c .before .before .before .before .before .before .before .before .before .before .params-of .ensures) (c .before .before .before .before .before .before .before .before .before .get16 .ensures) refl (c .before .before .before .before .before .before .before .before .status-of .ensures) (sym (c .before .before .before .before .before .before .is-add .ensures) ∙ c .before .before .before .before .before .if1 .taken) (c .before .before .before .handle-of .ensures) (c .before .before .long .ensures)
+returns c = reply-added
+    (c .before .before .before .before .before .before .before .before .before .before .before .before .before .before
+    .args .head .now)
+    (c .before .before .before .before .before .before .before .before .before .before .before .before .before .before
+    .args .t .now) (c .before .before .before .before .before .before .before .before .before .before .before .before
+    .before .before .args .i) _
+    (c .before .before .before .before .before .before .before .before .before .before .before .before .before .before
+    .args .seen) (c .before .before .before .before .before .before .before .before .before .before .before .before
+    .before .before .pre .0)
+    (c .before .before .before .before .before .before .before .before .before .before .before .before .before .before
+    .pre .1) (c .before .before .before .before .before .before .before .before .before .before .before .before
+    .before .before .pre .2)
+    (c .before .before .before .before .before .before .before .before .before .before .before .before .before .before
+    .pre .3) (c .before .before .before .before .before .before .before .before .before .before .params-of .ensures)
+    (c .before .before .before .before .before .before .before .before .before .get16 .ensures) refl
+    (c .before .before .before .before .before .before .before .before .status-of .ensures)
+    (sym (c .before .before .before .before .before .before .is-add .ensures)
+    ∙ c .before .before .before .before .before .if1 .taken) (c .before .before .before .handle-of .ensures)
+    (c .before .before .long .ensures)
 
--- src/replies.rt:124:9
 features-requires : tie.Need-features-requires
 features-requires c κs = search needs
 
--- src/replies.rt:124:9
 same-length-2 : tie.Need-same-length-2
 same-length-2 c = search needs
 
--- src/replies.rt:124:9
 returns-2 : tie.Need-returns-2
 unfolding subOf
-returns-2 c = reply-read (c .before .before .before .before .before .before .before .before .before .before .before .before .before .before .args .head .now) (c .before .before .before .before .before .before .before .before .before .before .before .before .before .before .args .t .now) (c .before .before .before .before .before .before .before .before .before .before .before .before .before .before .args .i) _ (c .before .before .before .before .before .before .before .before .before .before .before .before .before .before .args .seen) (c .before .before .before .before .before .before .before .before .before .before .before .before .before .before .pre .0) (c .before .before .before .before .before .before .before .before .before .before .before .before .before .before .pre .1) (c .before .before .before .before .before .before .before .before .before .before .before .before .before .before .pre .2) (c .before .before .before .before .before .before .before .before .before .before .before .before .before .before .pre .3) (c .before .before .before .before .before .before .before .before .before .before .params-of .ensures) (c .before .before .before .before .before .before .before .before .before .get16 .ensures) refl (c .before .before .before .before .before .before .before .before .status-of .ensures) (c .before .before .before .before .if2 .taken) (c .before .before .features .ensures)
+returns-2 c = reply-read
+    (c .before .before .before .before .before .before .before .before .before .before .before .before .before .before
+    .args .head .now)
+    (c .before .before .before .before .before .before .before .before .before .before .before .before .before .before
+    .args .t .now) (c .before .before .before .before .before .before .before .before .before .before .before .before
+    .before .before .args .i) _
+    (c .before .before .before .before .before .before .before .before .before .before .before .before .before .before
+    .args .seen) (c .before .before .before .before .before .before .before .before .before .before .before .before
+    .before .before .pre .0)
+    (c .before .before .before .before .before .before .before .before .before .before .before .before .before .before
+    .pre .1) (c .before .before .before .before .before .before .before .before .before .before .before .before
+    .before .before .pre .2)
+    (c .before .before .before .before .before .before .before .before .before .before .before .before .before .before
+    .pre .3) (c .before .before .before .before .before .before .before .before .before .before .params-of .ensures)
+    (c .before .before .before .before .before .before .before .before .before .get16 .ensures) refl
+    (c .before .before .before .before .before .before .before .before .status-of .ensures)
+    (c .before .before .before .before .if2 .taken) (c .before .before .features .ensures)
 
--- src/replies.rt:126:5
 short-requires : tie.Need-short-requires
 short-requires c κs = search needs
 
--- src/replies.rt:112:1
 same-length-3 : tie.Need-same-length-3
 same-length-3 c = search needs
 
--- src/replies.rt:112:1
 returns-3 : tie.Need-returns-3
 unfolding subOf
-returns-3 c = reply-other (c .before .before .before .before .before .before .before .before .before .before .before .before .before .before .args .head .now) (c .before .before .before .before .before .before .before .before .before .before .before .before .before .before .args .t .now) (c .before .before .before .before .before .before .before .before .before .before .before .before .before .before .args .i) _ (c .before .before .before .before .before .before .before .before .before .before .before .before .before .before .args .seen) (c .before .before .before .before .before .before .before .before .before .before .before .before .before .before .pre .0) (c .before .before .before .before .before .before .before .before .before .before .before .before .before .before .pre .1) (c .before .before .before .before .before .before .before .before .before .before .before .before .before .before .pre .2) (c .before .before .before .before .before .before .before .before .before .before .before .before .before .before .pre .3) (c .before .before .before .before .before .before .before .before .before .before .params-of .ensures) (c .before .before .before .before .before .before .before .before .before .get16 .ensures) refl (c .before .before .before .before .before .before .before .before .status-of .ensures) (sym (c .before .before .before .before .before .before .is-add .ensures) ∙ c .before .before .before .before .before .if1 .left) (c .before .before .before .before .if2 .left) (c .before .before .short .ensures)
+returns-3 c = reply-other
+    (c .before .before .before .before .before .before .before .before .before .before .before .before .before .before
+    .args .head .now)
+    (c .before .before .before .before .before .before .before .before .before .before .before .before .before .before
+    .args .t .now) (c .before .before .before .before .before .before .before .before .before .before .before .before
+    .before .before .args .i) _
+    (c .before .before .before .before .before .before .before .before .before .before .before .before .before .before
+    .args .seen) (c .before .before .before .before .before .before .before .before .before .before .before .before
+    .before .before .pre .0)
+    (c .before .before .before .before .before .before .before .before .before .before .before .before .before .before
+    .pre .1) (c .before .before .before .before .before .before .before .before .before .before .before .before
+    .before .before .pre .2)
+    (c .before .before .before .before .before .before .before .before .before .before .before .before .before .before
+    .pre .3) (c .before .before .before .before .before .before .before .before .before .before .params-of .ensures)
+    (c .before .before .before .before .before .before .before .before .before .get16 .ensures) refl
+    (c .before .before .before .before .before .before .before .before .status-of .ensures)
+    (sym (c .before .before .before .before .before .before .is-add .ensures)
+    ∙ c .before .before .before .before .before .if1 .left) (c .before .before .before .before .if2 .left)
+    (c .before .before .short .ensures)
 
 pub reply-spec : {M : Type 1} → statement M
 reply-spec =

@@ -1,7 +1,7 @@
 use lib.ListN.{length, length-set}
 use mathlib.Core.Path.{_≡_}
 use native.Mathlib.Omega.{arith}
-use Rattle.commands.specs.Replies.{reply-two}
+use Rattle.commands.specs.RepliesLaws.{reply-two}
 use borrow.Author.Needs.{needs}
 use Rattle.twin.proofs.replies.short.Statement.{statement}
 use Rattle.twin.proofs.replies.short.Tie as tie
@@ -9,25 +9,26 @@ use Rattle.twin.proofs.replies.short.Reads as reads
 use Rattle.twin.proofs.replies.short.Lts as lts
 use Rattle.twin.proofs.replies.put_complete.Reads as put-complete-reads
 
--- src/replies.rt:40:5
 put-complete-requires : tie.Need-put-complete-requires
 put-complete-requires c κs = search needs
 
--- src/replies.rt:41:5
 slice-write-out : tie.Need-slice-write-out
 slice-write-out c = search needs
 
--- src/replies.rt:42:5
 slice-write-out-2 : tie.Need-slice-write-out-2
-slice-write-out-2 c = let e : length (c .before .before .put-complete .last .0) ≡ length (c .before .before .before .before .before .args .out .now) = c .before .out .given in simp length-set (omega arith)
+slice-write-out-2 c =
+    let e : length (c .before .before .put-complete .last .0)
+    ≡ length (c .before .before .before .before .before .args .out .now) = c .before .out .given in simp length-set
+    (omega arith)
 
--- src/replies.rt:36:1
 same-length : tie.Need-same-length
 same-length c = search needs
 
--- src/replies.rt:36:1
 returns : tie.Need-returns
-returns c = reply-two (c .before .before .before .before .before .args .out .now) (c .before .before .before .before .before .args .opcode) (omega arith) (c .before .before .before .before .before .args .status) (c .before .before .before .before .before .args .sub) (c .before .before .put-complete .ensures)
+returns c = reply-two (c .before .before .before .before .before .args .out .now)
+    (c .before .before .before .before .before .args .opcode) (omega arith)
+    (c .before .before .before .before .before .args .status) (c .before .before .before .before .before .args .sub)
+    (c .before .before .put-complete .ensures)
 
 pub short-spec : {M : Type 1} → statement M
 short-spec =

@@ -1,6 +1,6 @@
 use Rattle.model.specs.Commands.{subOf}
 use Rattle.twin.specs.Table.{pastAt}
-use Rattle.twin.specs.Answers.{read-said, add-said, cancel-said, enable-said, other-said}
+use Rattle.twin.specs.AnswersLaws.{read-said, add-said, cancel-said, enable-said, other-said}
 use native.Mathlib.Omega.{arith}
 use mathlib.Core.Path.{_≡_, _∙_, sym, refl}
 use borrow.Author.Needs.{needs}
@@ -17,74 +17,101 @@ use Rattle.statuses.proofs.read_status.Reads as read-status-reads
 use Rattle.twin.proofs.watch.is_live.Reads as is-live-reads
 use Rattle.twin.proofs.watch.lowest_free.Reads as lowest-free-reads
 
--- src/replies.rt:81:15
 shared-slice-read-sub : tie.Need-shared-slice-read-sub
 shared-slice-read-sub c = search needs
 
--- src/replies.rt:84:9
 read-status-requires : tie.Need-read-status-requires
 read-status-requires c κs = search needs
 
--- src/replies.rt:84:9
 returns : tie.Need-returns
 unfolding subOf
-returns c = λ o p. c .read-status .ensures ∙ read-said (c .before .before .before .before .before .before .args .t .now) (c .before .before .before .before .before .before .args .i) (pastAt (c .before .before .before .before .before .before .args .t .now) (c .before .before .before .before .before .before .args .i)) (c .before .before .before .before .before .before .args .seen) (c .before .before .before .before .before .before .pre .0 .shows) o p (c .before .before .before .before .before .before .args .params .now) refl (c .before .if1 .taken)
+returns c = λ o p. c .read-status .ensures
+    ∙ read-said (c .before .before .before .before .before .before .args .t .now)
+    (c .before .before .before .before .before .before .args .i)
+    (pastAt (c .before .before .before .before .before .before .args .t .now)
+    (c .before .before .before .before .before .before .args .i))
+    (c .before .before .before .before .before .before .args .seen)
+    (c .before .before .before .before .before .before .pre .0 .shows) o p
+    (c .before .before .before .before .before .before .args .params .now) refl (c .before .if1 .taken)
 
--- src/replies.rt:86:8
 is-add-requires : tie.Need-is-add-requires
 is-add-requires c κs = search needs
 
--- src/replies.rt:87:39
 slice-aggregate-lowest-free : tie.Need-slice-aggregate-lowest-free
 slice-aggregate-lowest-free c = search needs
 
--- src/replies.rt:87:13
 lowest-free-requires : tie.Need-lowest-free-requires
 lowest-free-requires c κs = search needs
 
--- src/replies.rt:88:9
 add-status-requires : tie.Need-add-status-requires
 add-status-requires c κs = search needs
 
--- src/replies.rt:88:9
 returns-2 : tie.Need-returns-2
 unfolding subOf
-returns-2 c = λ o p. add-said (c .before .before .before .before .before .before .before .before .before .before .args .t .now) (c .before .before .before .before .before .before .before .before .before .before .args .i) (pastAt (c .before .before .before .before .before .before .before .before .before .before .args .t .now) (c .before .before .before .before .before .before .before .before .before .before .args .i)) (c .before .before .before .before .before .before .before .before .before .before .args .seen) (c .before .before .before .before .before .before .before .before .before .before .pre .0 .shows) o p (c .before .before .before .before .before .before .before .before .before .before .args .params .now) refl (sym (c .before .before .before .before .is-add .ensures) ∙ c .before .before .before .if2 .taken) (c .before .lowest-free .ensures .0) (c .add-status .ensures)
+returns-2 c = λ o p. add-said
+    (c .before .before .before .before .before .before .before .before .before .before .args .t .now)
+    (c .before .before .before .before .before .before .before .before .before .before .args .i)
+    (pastAt (c .before .before .before .before .before .before .before .before .before .before .args .t .now)
+    (c .before .before .before .before .before .before .before .before .before .before .args .i))
+    (c .before .before .before .before .before .before .before .before .before .before .args .seen)
+    (c .before .before .before .before .before .before .before .before .before .before .pre .0 .shows) o p
+    (c .before .before .before .before .before .before .before .before .before .before .args .params .now) refl
+    (sym (c .before .before .before .before .is-add .ensures) ∙ c .before .before .before .if2 .taken)
+    (c .before .lowest-free .ensures .0) (c .add-status .ensures)
 
--- src/replies.rt:91:36
 slice-aggregate-is-live : tie.Need-slice-aggregate-is-live
 slice-aggregate-is-live c = search needs
 
--- src/replies.rt:91:43
 get8-requires : tie.Need-get8-requires
 get8-requires c κs = search needs
 
--- src/replies.rt:91:13
 is-live-requires : tie.Need-is-live-requires
 is-live-requires c κs = search needs
 
--- src/replies.rt:92:9
 cancel-status-requires : tie.Need-cancel-status-requires
 cancel-status-requires c κs = search needs
 
--- src/replies.rt:92:9
 returns-3 : tie.Need-returns-3
 unfolding subOf
-returns-3 c = λ o p. cancel-said (c .before .before .before .before .before .before .before .before .before .before .before .before .args .t .now) (c .before .before .before .before .before .before .before .before .before .before .before .before .args .i) (pastAt (c .before .before .before .before .before .before .before .before .before .before .before .before .args .t .now) (c .before .before .before .before .before .before .before .before .before .before .before .before .args .i)) (c .before .before .before .before .before .before .before .before .before .before .before .before .args .seen) (c .before .before .before .before .before .before .before .before .before .before .before .before .pre .0 .shows) o p (c .before .before .before .before .before .before .before .before .before .before .before .before .args .params .now) refl (c .before .before .before .before .if3 .taken) (c .before .before .get8 .ensures) (c .before .is-live .ensures) (c .cancel-status .ensures)
+returns-3 c = λ o p. cancel-said
+    (c .before .before .before .before .before .before .before .before .before .before .before .before .args .t .now)
+    (c .before .before .before .before .before .before .before .before .before .before .before .before .args .i)
+    (pastAt (c .before .before .before .before .before .before .before .before .before .before .before .before .args
+    .t .now) (c .before .before .before .before .before .before .before .before .before .before .before .before .args
+    .i)) (c .before .before .before .before .before .before .before .before .before .before .before .before .args
+    .seen) (c .before .before .before .before .before .before .before .before .before .before .before .before .pre .0
+    .shows) o p (c .before .before .before .before .before .before .before .before .before .before .before .before
+    .args .params .now) refl (c .before .before .before .before .if3 .taken) (c .before .before .get8 .ensures)
+    (c .before .is-live .ensures) (c .cancel-status .ensures)
 
--- src/replies.rt:95:9
 enable-status-requires : tie.Need-enable-status-requires
 enable-status-requires c κs = search needs
 
--- src/replies.rt:95:9
 returns-4 : tie.Need-returns-4
 unfolding subOf
-returns-4 c = λ o p. enable-said (c .before .before .before .before .before .before .before .before .before .before .args .t .now) (c .before .before .before .before .before .before .before .before .before .before .args .i) (pastAt (c .before .before .before .before .before .before .before .before .before .before .args .t .now) (c .before .before .before .before .before .before .before .before .before .before .args .i)) (c .before .before .before .before .before .before .before .before .before .before .args .seen) (c .before .before .before .before .before .before .before .before .before .before .pre .0 .shows) o p (c .before .before .before .before .before .before .before .before .before .before .args .params .now) refl (c .before .if4 .taken) (c .enable-status .ensures)
+returns-4 c = λ o p. enable-said
+    (c .before .before .before .before .before .before .before .before .before .before .args .t .now)
+    (c .before .before .before .before .before .before .before .before .before .before .args .i)
+    (pastAt (c .before .before .before .before .before .before .before .before .before .before .args .t .now)
+    (c .before .before .before .before .before .before .before .before .before .before .args .i))
+    (c .before .before .before .before .before .before .before .before .before .before .args .seen)
+    (c .before .before .before .before .before .before .before .before .before .before .pre .0 .shows) o p
+    (c .before .before .before .before .before .before .before .before .before .before .args .params .now) refl
+    (c .before .if4 .taken) (c .enable-status .ensures)
 
--- src/replies.rt:77:1
 returns-5 : tie.Need-returns-5
 unfolding subOf
-returns-5 c = λ o p. other-said (c .before .before .before .before .before .before .before .before .before .args .t .now) (c .before .before .before .before .before .before .before .before .before .args .i) (pastAt (c .before .before .before .before .before .before .before .before .before .args .t .now) (c .before .before .before .before .before .before .before .before .before .args .i)) (c .before .before .before .before .before .before .before .before .before .args .seen) (c .before .before .before .before .before .before .before .before .before .pre .0 .shows) o p (c .before .before .before .before .before .before .before .before .before .args .params .now) refl (c .before .before .before .before .if1 .left) (sym (c .before .before .before .is-add .ensures) ∙ c .before .before .if2 .left) (c .before .if3 .left) (c .if4 .left)
+returns-5 c = λ o p. other-said
+    (c .before .before .before .before .before .before .before .before .before .args .t .now)
+    (c .before .before .before .before .before .before .before .before .before .args .i)
+    (pastAt (c .before .before .before .before .before .before .before .before .before .args .t .now)
+    (c .before .before .before .before .before .before .before .before .before .args .i))
+    (c .before .before .before .before .before .before .before .before .before .args .seen)
+    (c .before .before .before .before .before .before .before .before .before .pre .0 .shows) o p
+    (c .before .before .before .before .before .before .before .before .before .args .params .now) refl
+    (c .before .before .before .before .if1 .left)
+    (sym (c .before .before .before .is-add .ensures) ∙ c .before .before .if2 .left) (c .before .if3 .left)
+    (c .if4 .left)
 
 pub status-of-spec : {M : Type 1} → statement M
 status-of-spec =

@@ -1,6 +1,6 @@
 use Rattle.twin.specs.Seen.{begunAt}
 use borrow.Author.Tests.{not-true, not-false}
-use Rattle.laws.specs.Tests.{pick-true, pick-false}
+use Rattle.laws.specs.TestsLaws.{pick-true, pick-false}
 use mathlib.Core.Path.{sym, _∙_}
 use borrow.Author.Needs.{needs}
 use Rattle.twin.proofs.starts.carry.Statement.{statement}

@@ -1,8 +1,8 @@
-use Rattle.twin.specs.Starts.{other-is}
+use Rattle.twin.specs.StartsLaws.{other-is}
 use Rattle.laws.specs.Loops.{keep}
 use borrow.Author.Needs.{needs}
 use native.Mathlib.Omega.{arith}
-use Rattle.twin.specs.Starts.{below-pairs, keep-none, keep-room, keep-turn, keep-end, rest-bare}
+use Rattle.twin.specs.StartsLaws.{below-pairs, keep-none, keep-room, keep-turn, keep-end, rest-bare}
 use Rattle.twin.specs.Seen.{Rest, listOf, ofOther}
 use lib.ListN.{take}
 use Prim.Native.Nat.{_-_, _≤_}
@@ -22,10 +22,19 @@ loop-holds : tie.Need-loop-holds Inv-loop μ-loop
 loop-holds c = (omega arith, keep-none _ _ _ (rest-bare _ _ (c .before .pre) (c .emptied .ensures)))
 
 handle-of-requires : tie.Need-handle-of-requires Inv-loop μ-loop
-handle-of-requires c κs = below-pairs (c .before .before .before .before .args .seen) (c .before .before .before .before .pre) (c .before .before .loop .i) (c .if1 .taken)
+handle-of-requires c κs =
+    below-pairs (c .before .before .before .before .args .seen) (c .before .before .before .before .pre)
+    (c .before .before .loop .i) (c .if1 .taken)
 
 carry-requires : tie.Need-carry-requires Inv-loop μ-loop
-carry-requires c κs = let h = c .before .if1 .taken in (keep-room _ _ _ (c .before .before .before .loop .i) (c .before .before .before .before .before .pre) (c .before .before .before .loop .inv .1) h, below-pairs (c .before .before .before .before .before .args .seen) (c .before .before .before .before .before .pre) (c .before .before .before .loop .i) h)
+carry-requires c κs = let h =
+    c .before .if1 .taken in (
+      keep-room _ _ _ (c .before .before .before .loop .i)
+          (c .before .before .before .before .before .pre) (c .before .before .before .loop .inv .1) h,
+      below-pairs
+          (c .before .before .before .before .before .args .seen) (c .before .before .before .before .before .pre)
+          (c .before .before .before .loop .i) h,
+    )
 
 add-i : tie.Need-add-i Inv-loop μ-loop
 add-i c = search needs
@@ -34,10 +43,19 @@ loop-less : tie.Need-loop-less Inv-loop μ-loop
 loop-less c = search needs
 
 loop-again : tie.Need-loop-again Inv-loop μ-loop
-loop-again c = let h = c .before .before .if1 .taken in (omega (arith, h), keep-turn (ofOther (c .before .before .before .before .before .before .args .h)) _ _ (c .before .before .before .before .loop .i) (c .before .before .before .before .before .before .pre) (c .before .before .before .before .loop .inv .1) h (other-is _ _ _ (c .before .handle-of .ensures)) (c .carry .ensures))
+loop-again c = let h =
+    c .before .before .if1
+    .taken in (
+      omega (arith, h),
+      keep-turn (ofOther (c .before .before .before .before .before .before .args .h)) _ _
+          (c .before .before .before .before .loop .i) (c .before .before .before .before .before .before .pre)
+          (c .before .before .before .before .loop .inv .1) h (other-is _ _ _ (c .before .handle-of .ensures))
+          (c .carry .ensures),
+    )
 
 returns : tie.Need-returns Inv-loop μ-loop
-returns c = keep-end _ _ _ (c .before .before .loop .i) (c .before .before .before .before .pre) (c .before .before .loop .inv .1) (c .if1 .left)
+returns c = keep-end _ _ _ (c .before .before .loop .i) (c .before .before .before .before .pre)
+    (c .before .before .loop .inv .1) (c .if1 .left)
 
 pub without-handle-spec : {M : Type 1} → statement M
 without-handle-spec =

@@ -1,5 +1,5 @@
 use Rattle.twin.specs.Seen.{begunAt}
-use Rattle.twin.specs.Marks.{looks-at, level-asked}
+use Rattle.twin.specs.MarksLaws.{looks-at, level-asked}
 use borrow.Author.Needs.{needs}
 use Rattle.twin.proofs.turns.level_at.Statement.{statement}
 use Rattle.twin.proofs.turns.level_at.Tie as tie
@@ -14,13 +14,18 @@ add-kept-rssi : tie.Need-add-kept-rssi
 add-kept-rssi c = search needs
 
 kept-rssi-requires : tie.Need-kept-rssi-requires
-kept-rssi-requires c κs = looks-at _ _ _ _ (begunAt (c .before .before .before .args .seen) (c .before .before .before .args .j)) (c .monitor-of .ensures) (c .before .packet-of .ensures) (c .before .before .before .pre .1)
+kept-rssi-requires c κs =
+    looks-at _ _ _ _ (begunAt (c .before .before .before .args .seen) (c .before .before .before .args .j))
+    (c .monitor-of .ensures) (c .before .packet-of .ensures) (c .before .before .before .pre .1)
 
 level-of-requires : tie.Need-level-of-requires
 level-of-requires c κs = search needs
 
 returns : tie.Need-returns
-returns c = level-asked _ _ _ _ (begunAt (c .before .before .before .before .before .args .seen) (c .before .before .before .before .before .args .j)) (c .before .before .monitor-of .ensures) (c .before .before .before .packet-of .ensures) _ _ (c .before .kept-rssi .ensures) (c .level-of .ensures)
+returns c = level-asked _ _ _ _
+    (begunAt (c .before .before .before .before .before .args .seen)
+    (c .before .before .before .before .before .args .j)) (c .before .before .monitor-of .ensures)
+    (c .before .before .before .packet-of .ensures) _ _ (c .before .kept-rssi .ensures) (c .level-of .ensures)
 
 pub level-at-spec : {M : Type 1} → statement M
 level-at-spec =

@@ -17,51 +17,39 @@ Inv-loop scene step tick₀ now₀ i₀ tick now i = i ≤ 14
 abbrev μ-loop : tie.MeasureT-loop
 μ-loop scene step tick₀ now₀ i₀ tick now i = 14 - i
 
--- src/axis.rt:69:9
 step-requires : tie.Need-step-requires Inv-loop μ-loop
 step-requires c κs = search needs
 
--- src/axis.rt:70:32
 begin-requires : tie.Need-begin-requires Inv-loop μ-loop
 begin-requires c κs = search needs
 
--- src/axis.rt:70:9
 first-requires : tie.Need-first-requires Inv-loop μ-loop
 first-requires c κs = search needs
 
--- src/axis.rt:73:5
 loop-holds : tie.Need-loop-holds Inv-loop μ-loop
 loop-holds c = omega arith
 
--- src/axis.rt:74:20
 cast-if1 : tie.Need-cast-if1 Inv-loop μ-loop
 cast-if1 c = omega arith
 
--- src/axis.rt:75:41
 cast-mark : tie.Need-cast-mark Inv-loop μ-loop
 cast-mark c = omega arith
 
--- src/axis.rt:75:17
 mark-requires : tie.Need-mark-requires Inv-loop μ-loop
 mark-requires c κs = search needs
 
--- src/axis.rt:78:9
 sum-requires : tie.Need-sum-requires Inv-loop μ-loop
 sum-requires c κs = search needs
 
--- src/axis.rt:79:9
 add-i : tie.Need-add-i Inv-loop μ-loop
 add-i c = omega arith
 
--- src/axis.rt:73:5
 loop-less : tie.Need-loop-less Inv-loop μ-loop
 loop-less c = omega arith
 
--- src/axis.rt:73:5
 loop-again : tie.Need-loop-again Inv-loop μ-loop
 loop-again c = omega arith
 
--- src/axis.rt:68:1
 returns : tie.Need-returns Inv-loop μ-loop
 returns c = search needs
 

@@ -18,63 +18,48 @@ Inv-loop block n book₀ i₀ book i = i ≤ n
 abbrev μ-loop : tie.MeasureT-loop
 μ-loop block n book₀ i₀ book i = n - i
 
--- src/effects.rt:189:29
 get8-requires : tie.Need-get8-requires Inv-loop μ-loop
 get8-requires c κs = search needs
 
--- src/effects.rt:189:9
 at-most-requires : tie.Need-at-most-requires Inv-loop μ-loop
 at-most-requires c κs = search needs
 
--- src/effects.rt:190:9
 blank-requires : tie.Need-blank-requires Inv-loop μ-loop
 blank-requires c κs = tt
 
--- src/effects.rt:192:5
 loop-holds : tie.Need-loop-holds Inv-loop μ-loop
 loop-holds c = omega arith
 
--- src/effects.rt:193:59
 mul-get64 : tie.Need-mul-get64 Inv-loop μ-loop
 mul-get64 c = omega arith
 
--- src/effects.rt:193:41
 add-get64 : tie.Need-add-get64 Inv-loop μ-loop
 add-get64 c = omega arith
 
--- src/effects.rt:193:13
 get64-requires : tie.Need-get64-requires Inv-loop μ-loop
 get64-requires c κs = search needs
 
--- src/effects.rt:194:22
 rem-handle : tie.Need-rem-handle Inv-loop μ-loop
 rem-handle c = omega arith
 
--- src/effects.rt:195:60
 mul-wrapping-add-u64 : tie.Need-mul-wrapping-add-u64 Inv-loop μ-loop
 mul-wrapping-add-u64 c = omega arith
 
--- src/effects.rt:195:13
 wrapping-add-u64-requires : tie.Need-wrapping-add-u64-requires Inv-loop μ-loop
 wrapping-add-u64-requires c κs = search needs
 
--- src/effects.rt:196:13
 start-requires : tie.Need-start-requires Inv-loop μ-loop
 start-requires c κs = search needs
 
--- src/effects.rt:198:9
 add-i : tie.Need-add-i Inv-loop μ-loop
 add-i c = omega arith
 
--- src/effects.rt:192:5
 loop-less : tie.Need-loop-less Inv-loop μ-loop
 loop-less c = omega arith
 
--- src/effects.rt:192:5
 loop-again : tie.Need-loop-again Inv-loop μ-loop
 loop-again c = omega arith
 
--- src/effects.rt:188:1
 returns : tie.Need-returns Inv-loop μ-loop
 returns c = search needs
 

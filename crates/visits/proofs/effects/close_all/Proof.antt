@@ -15,35 +15,27 @@ Inv-loop form kept₀ low high frame how now₀ i₀ kept now i = i ≤ 64
 abbrev μ-loop : tie.MeasureT-loop
 μ-loop form kept₀ low high frame how now₀ i₀ kept now i = 64 - i
 
--- src/effects.rt:112:5
 loop-holds : tie.Need-loop-holds Inv-loop μ-loop
 loop-holds c = omega arith
 
--- src/effects.rt:114:13
 tick-of-requires : tie.Need-tick-of-requires Inv-loop μ-loop
 tick-of-requires c κs = search needs
 
--- src/effects.rt:115:13
 close-requires : tie.Need-close-requires Inv-loop μ-loop
 close-requires c κs = search needs
 
--- src/effects.rt:116:13
 closed-requires : tie.Need-closed-requires Inv-loop μ-loop
 closed-requires c κs = search needs
 
--- src/effects.rt:118:9
 add-i : tie.Need-add-i Inv-loop μ-loop
 add-i c = omega arith
 
--- src/effects.rt:112:5
 loop-less : tie.Need-loop-less Inv-loop μ-loop
 loop-less c = omega arith
 
--- src/effects.rt:112:5
 loop-again : tie.Need-loop-again Inv-loop μ-loop
 loop-again c = omega arith
 
--- src/effects.rt:109:1
 returns : tie.Need-returns Inv-loop μ-loop
 returns c = search needs
 

@@ -18,55 +18,65 @@ Inv-loop form kept₀ answer kind frame n now₀ at₀ kept now at = at ≤ leng
 abbrev μ-loop : tie.MeasureT-loop
 μ-loop form kept₀ answer kind frame n now₀ at₀ kept now at = n - at
 
--- src/effects.rt:96:5
 loop-holds : tie.Need-loop-holds Inv-loop μ-loop
 loop-holds c = omega arith
 
--- src/effects.rt:97:22
 event-octets-requires : tie.Need-event-octets-requires Inv-loop μ-loop
 event-octets-requires c κs = search needs
 
--- src/effects.rt:97:17
 add-e : tie.Need-add-e Inv-loop μ-loop
 add-e c = omega (arith, c .event-octets .ensures .1 (omega arith), c .event-octets .ensures .2 (omega arith))
 
--- src/effects.rt:99:13
 tick-of-requires : tie.Need-tick-of-requires Inv-loop μ-loop
 tick-of-requires c κs = search needs
 
--- src/effects.rt:100:42
 sub-follow : tie.Need-sub-follow Inv-loop μ-loop
-sub-follow c = omega (arith, c .before .before .event-octets .ensures .1 (omega arith), c .before .before .event-octets .ensures .2 (omega arith))
+sub-follow c = omega (
+  arith,
+  c .before .before .event-octets .ensures .1 (omega arith),
+  c .before .before .event-octets .ensures .2
+      (omega arith),
+)
 
--- src/effects.rt:100:42
 part-follow-start : tie.Need-part-follow-start Inv-loop μ-loop
-part-follow-start c = omega (arith, c .before .before .event-octets .ensures .1 (omega arith), c .before .before .event-octets .ensures .2 (omega arith))
+part-follow-start c =
+    omega (
+      arith,
+      c .before .before .event-octets .ensures .1 (omega arith),
+      c .before .before .event-octets .ensures .2 (omega arith),
+    )
 
--- src/effects.rt:100:42
 part-follow-end : tie.Need-part-follow-end Inv-loop μ-loop
-part-follow-end c = omega (arith, c .before .before .event-octets .ensures .1 (omega arith), c .before .before .event-octets .ensures .2 (omega arith))
+part-follow-end c =
+    omega (
+      arith,
+      c .before .before .event-octets .ensures .1 (omega arith),
+      c .before .before .event-octets .ensures .2 (omega arith),
+    )
 
--- src/effects.rt:100:13
 follow-requires : tie.Need-follow-requires Inv-loop μ-loop
 follow-requires c κs = search needs
 
--- src/effects.rt:101:59
 how-of-requires : tie.Need-how-of-requires Inv-loop μ-loop
 how-of-requires c κs = search needs
 
--- src/effects.rt:101:13
 closed-requires : tie.Need-closed-requires Inv-loop μ-loop
 closed-requires c κs = search needs
 
--- src/effects.rt:96:5
 loop-less : tie.Need-loop-less Inv-loop μ-loop
-loop-less c = omega (arith, c .before .before .before .before .before .before .before .event-octets .ensures .1 (omega arith), c .before .before .before .before .before .before .before .event-octets .ensures .2 (omega arith))
+loop-less c = omega (
+  arith,
+  c .before .before .before .before .before .before .before .event-octets .ensures .1 (omega arith),
+  c .before .before .before .before .before .before .before .event-octets .ensures .2 (omega arith),
+)
 
--- src/effects.rt:96:5
 loop-again : tie.Need-loop-again Inv-loop μ-loop
-loop-again c = omega (arith, c .before .before .before .before .before .before .before .event-octets .ensures .1 (omega arith), c .before .before .before .before .before .before .before .event-octets .ensures .2 (omega arith))
+loop-again c = omega (
+  arith,
+  c .before .before .before .before .before .before .before .event-octets .ensures .1 (omega arith),
+  c .before .before .before .before .before .before .before .event-octets .ensures .2 (omega arith),
+)
 
--- src/effects.rt:92:1
 returns : tie.Need-returns Inv-loop μ-loop
 returns c = search needs
 

@@ -19,83 +19,63 @@ Inv-loop now₀ x₀ how₀ t9 t10 t11 now x how = how ≤ 4
 abbrev μ-loop : tie.MeasureT-loop
 μ-loop now₀ x₀ how₀ t9 t10 t11 now x how = 4 - how
 
--- src/legend.rt:75:9
 slice-aggregate-say : tie.Need-slice-aggregate-say Inv-loop μ-loop
 slice-aggregate-say c = search needs
 
--- src/legend.rt:73:9
 say-requires : tie.Need-say-requires Inv-loop μ-loop
 say-requires c κs = search needs
 
--- src/legend.rt:79:5
 loop-holds : tie.Need-loop-holds Inv-loop μ-loop
 loop-holds c = omega arith
 
--- src/legend.rt:82:30
 sub-rect : tie.Need-sub-rect Inv-loop μ-loop
 sub-rect c = omega arith
 
--- src/legend.rt:82:46
 slice-aggregate-rect : tie.Need-slice-aggregate-rect Inv-loop μ-loop
 slice-aggregate-rect c = search needs
 
--- src/legend.rt:82:73
 cast-rect : tie.Need-cast-rect Inv-loop μ-loop
 cast-rect c = omega arith
 
--- src/legend.rt:82:13
 rect-requires : tie.Need-rect-requires Inv-loop μ-loop
 rect-requires c κs = search needs
 
--- src/legend.rt:80:13
 put-requires : tie.Need-put-requires Inv-loop μ-loop
 put-requires c κs = search needs
 
--- src/legend.rt:84:51
 sum-requires : tie.Need-sum-requires Inv-loop μ-loop
 sum-requires c κs = search needs
 
--- src/legend.rt:84:81
 slice-aggregate-text-at : tie.Need-slice-aggregate-text-at Inv-loop μ-loop
 slice-aggregate-text-at c = search needs
 
--- src/legend.rt:84:34
 text-at-requires : tie.Need-text-at-requires Inv-loop μ-loop
 text-at-requires c κs = search needs
 
--- src/legend.rt:84:13
 ended-requires : tie.Need-ended-requires Inv-loop μ-loop
 ended-requires c κs = search needs
 
--- src/legend.rt:85:55
 slice-aggregate-with : tie.Need-slice-aggregate-with Inv-loop μ-loop
 slice-aggregate-with c = search needs
 
--- src/legend.rt:85:36
 with-requires : tie.Need-with-requires Inv-loop μ-loop
 with-requires c κs = search needs
 
--- src/legend.rt:85:13
 put-requires-2 : tie.Need-put-requires-2 Inv-loop μ-loop
 put-requires-2 c κs = search needs
 
--- src/legend.rt:87:9
 sum-requires-2 : tie.Need-sum-requires-2 Inv-loop μ-loop
 sum-requires-2 c κs = search needs
 
--- src/legend.rt:88:9
 add-how : tie.Need-add-how Inv-loop μ-loop
 add-how c = omega arith
 
--- src/legend.rt:79:5
 loop-less : tie.Need-loop-less Inv-loop μ-loop
 loop-less c = omega arith
 
--- src/legend.rt:79:5
 loop-again : tie.Need-loop-again Inv-loop μ-loop
 loop-again c = omega arith
 
--- src/legend.rt:72:1
 returns : tie.Need-returns Inv-loop μ-loop
 returns c = search needs
 

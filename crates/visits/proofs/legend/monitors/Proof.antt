@@ -19,83 +19,63 @@ Inv-loop now₀ x₀ handle₀ t9 t10 t11 t12 now x handle = handle ≤ 16
 abbrev μ-loop : tie.MeasureT-loop
 μ-loop now₀ x₀ handle₀ t9 t10 t11 t12 now x handle = 16 - handle
 
--- src/legend.rt:50:37
 slice-aggregate-say : tie.Need-slice-aggregate-say Inv-loop μ-loop
 slice-aggregate-say c = search needs
 
--- src/legend.rt:50:9
 say-requires : tie.Need-say-requires Inv-loop μ-loop
 say-requires c κs = search needs
 
--- src/legend.rt:53:5
 loop-holds : tie.Need-loop-holds Inv-loop μ-loop
 loop-holds c = omega arith
 
--- src/legend.rt:56:30
 sub-rect : tie.Need-sub-rect Inv-loop μ-loop
 sub-rect c = omega arith
 
--- src/legend.rt:56:50
 slice-aggregate-rect : tie.Need-slice-aggregate-rect Inv-loop μ-loop
 slice-aggregate-rect c = search needs
 
--- src/legend.rt:56:13
 rect-requires : tie.Need-rect-requires Inv-loop μ-loop
 rect-requires c κs = search needs
 
--- src/legend.rt:54:13
 put-requires : tie.Need-put-requires Inv-loop μ-loop
 put-requires c κs = search needs
 
--- src/legend.rt:59:30
 sum-requires : tie.Need-sum-requires Inv-loop μ-loop
 sum-requires c κs = search needs
 
--- src/legend.rt:59:64
 slice-aggregate-text-at : tie.Need-slice-aggregate-text-at Inv-loop μ-loop
 slice-aggregate-text-at c = search needs
 
--- src/legend.rt:59:13
 text-at-requires : tie.Need-text-at-requires Inv-loop μ-loop
 text-at-requires c κs = search needs
 
--- src/legend.rt:60:13
 slice-aggregate-said : tie.Need-slice-aggregate-said Inv-loop μ-loop
 slice-aggregate-said c = search needs
 
--- src/legend.rt:58:13
 said-requires : tie.Need-said-requires Inv-loop μ-loop
 said-requires c κs = search needs
 
--- src/legend.rt:63:55
 slice-aggregate-with : tie.Need-slice-aggregate-with Inv-loop μ-loop
 slice-aggregate-with c = search needs
 
--- src/legend.rt:63:36
 with-requires : tie.Need-with-requires Inv-loop μ-loop
 with-requires c κs = search needs
 
--- src/legend.rt:63:13
 put-requires-2 : tie.Need-put-requires-2 Inv-loop μ-loop
 put-requires-2 c κs = search needs
 
--- src/legend.rt:65:9
 sum-requires-2 : tie.Need-sum-requires-2 Inv-loop μ-loop
 sum-requires-2 c κs = search needs
 
--- src/legend.rt:66:9
 add-handle : tie.Need-add-handle Inv-loop μ-loop
 add-handle c = omega arith
 
--- src/legend.rt:53:5
 loop-less : tie.Need-loop-less Inv-loop μ-loop
 loop-less c = omega arith
 
--- src/legend.rt:53:5
 loop-again : tie.Need-loop-again Inv-loop μ-loop
 loop-again c = omega arith
 
--- src/legend.rt:49:1
 returns : tie.Need-returns Inv-loop μ-loop
 returns c = search needs
 

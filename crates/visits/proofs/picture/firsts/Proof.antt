@@ -14,31 +14,24 @@ Inv-loop block n whole each count₀ i₀ count i = i ≤ n
 abbrev μ-loop : tie.MeasureT-loop
 μ-loop block n whole each count₀ i₀ count i = n - i
 
--- src/picture.rt:112:5
 loop-holds : tie.Need-loop-holds Inv-loop μ-loop
 loop-holds c = omega arith
 
--- src/picture.rt:113:12
 is-first-requires : tie.Need-is-first-requires Inv-loop μ-loop
 is-first-requires c κs = search needs
 
--- src/picture.rt:114:13
 sum-requires : tie.Need-sum-requires Inv-loop μ-loop
 sum-requires c κs = search needs
 
--- src/picture.rt:116:9
 add-i : tie.Need-add-i Inv-loop μ-loop
 add-i c = omega arith
 
--- src/picture.rt:112:5
 loop-less : tie.Need-loop-less Inv-loop μ-loop
 loop-less c = omega arith
 
--- src/picture.rt:112:5
 loop-again : tie.Need-loop-again Inv-loop μ-loop
 loop-again c = omega arith
 
--- src/picture.rt:109:1
 returns : tie.Need-returns Inv-loop μ-loop
 returns c = search needs
 

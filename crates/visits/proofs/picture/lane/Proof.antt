@@ -16,43 +16,33 @@ Inv-loop scene block device handle n now₀ high₀ i₀ now high i = i ≤ n
 abbrev μ-loop : tie.MeasureT-loop
 μ-loop scene block device handle n now₀ high₀ i₀ now high i = n - i
 
--- src/picture.rt:58:5
 loop-holds : tie.Need-loop-holds Inv-loop μ-loop
 loop-holds c = omega arith
 
--- src/picture.rt:59:33
 add-next : tie.Need-add-next Inv-loop μ-loop
 add-next c = omega arith
 
--- src/picture.rt:59:12
 next-requires : tie.Need-next-requires Inv-loop μ-loop
 next-requires c κs = search needs
 
--- src/picture.rt:60:48
 row-at-requires : tie.Need-row-at-requires Inv-loop μ-loop
 row-at-requires c κs = search needs
 
--- src/picture.rt:60:17
 visit-drawn-requires : tie.Need-visit-drawn-requires Inv-loop μ-loop
 visit-drawn-requires c κs = search needs
 
--- src/picture.rt:64:9
 add-i : tie.Need-add-i Inv-loop μ-loop
 add-i c = omega arith
 
--- src/picture.rt:58:5
 loop-less : tie.Need-loop-less Inv-loop μ-loop
 loop-less c = omega arith
 
--- src/picture.rt:58:5
 loop-again : tie.Need-loop-again Inv-loop μ-loop
 loop-again c = omega arith
 
--- src/picture.rt:67:12
 sum-requires : tie.Need-sum-requires Inv-loop μ-loop
 sum-requires c κs = search needs
 
--- src/picture.rt:53:1
 returns : tie.Need-returns Inv-loop μ-loop
 returns c = search needs
 

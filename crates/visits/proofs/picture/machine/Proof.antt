@@ -21,91 +21,69 @@ Inv-loop scene block device now₀ handle₀ now handle = handle ≤ 16
 abbrev μ-loop : tie.MeasureT-loop
 μ-loop scene block device now₀ handle₀ now handle = 16 - handle
 
--- src/picture.rt:74:28
 blank-requires : tie.Need-blank-requires Inv-loop μ-loop
 blank-requires c κs = search needs
 
--- src/picture.rt:74:44
 slice-aggregate-said : tie.Need-slice-aggregate-said Inv-loop μ-loop
 slice-aggregate-said c = search needs
 
--- src/picture.rt:74:9
 said-requires : tie.Need-said-requires Inv-loop μ-loop
 said-requires c κs = search needs
 
--- src/picture.rt:75:49
 slice-aggregate-with : tie.Need-slice-aggregate-with Inv-loop μ-loop
 slice-aggregate-with c = search needs
 
--- src/picture.rt:75:31
 with-requires : tie.Need-with-requires Inv-loop μ-loop
 with-requires c κs = search needs
 
--- src/picture.rt:75:9
 put-requires : tie.Need-put-requires Inv-loop μ-loop
 put-requires c κs = search needs
 
--- src/picture.rt:77:34
 sum-requires : tie.Need-sum-requires Inv-loop μ-loop
 sum-requires c κs = search needs
 
--- src/picture.rt:77:62
 slice-aggregate-text-at : tie.Need-slice-aggregate-text-at Inv-loop μ-loop
 slice-aggregate-text-at c = search needs
 
--- src/picture.rt:77:9
 text-at-requires : tie.Need-text-at-requires Inv-loop μ-loop
 text-at-requires c κs = search needs
 
--- src/picture.rt:76:9
 address-requires : tie.Need-address-requires Inv-loop μ-loop
 address-requires c κs = search needs
 
--- src/picture.rt:80:47
 slice-aggregate-with-2 : tie.Need-slice-aggregate-with-2 Inv-loop μ-loop
 slice-aggregate-with-2 c = search needs
 
--- src/picture.rt:80:28
 with-requires-2 : tie.Need-with-requires-2 Inv-loop μ-loop
 with-requires-2 c κs = search needs
 
--- src/picture.rt:80:9
 kind-requires : tie.Need-kind-requires Inv-loop μ-loop
 kind-requires c κs = search needs
 
--- src/picture.rt:81:53
 slice-aggregate-with-3 : tie.Need-slice-aggregate-with-3 Inv-loop μ-loop
 slice-aggregate-with-3 c = search needs
 
--- src/picture.rt:81:35
 with-requires-3 : tie.Need-with-requires-3 Inv-loop μ-loop
 with-requires-3 c κs = search needs
 
--- src/picture.rt:81:9
 put-requires-2 : tie.Need-put-requires-2 Inv-loop μ-loop
 put-requires-2 c κs = search needs
 
--- src/picture.rt:83:5
 loop-holds : tie.Need-loop-holds Inv-loop μ-loop
 loop-holds c = omega arith
 
--- src/picture.rt:84:13
 lane-requires : tie.Need-lane-requires Inv-loop μ-loop
 lane-requires c κs = search needs
 
--- src/picture.rt:86:9
 add-handle : tie.Need-add-handle Inv-loop μ-loop
 add-handle c = omega arith
 
--- src/picture.rt:83:5
 loop-less : tie.Need-loop-less Inv-loop μ-loop
 loop-less c = omega arith
 
--- src/picture.rt:83:5
 loop-again : tie.Need-loop-again Inv-loop μ-loop
 loop-again c = omega arith
 
--- src/picture.rt:73:1
 returns : tie.Need-returns Inv-loop μ-loop
 returns c = search needs
 

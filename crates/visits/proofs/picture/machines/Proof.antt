@@ -40,4 +40,6 @@ returns : tie.Need-returns Inv-loop μ-loop
 returns c = search needs
 
 pub machines-spec : {M : Type 1} → statement M
-machines-spec = tie.close (tie.spec Inv-loop μ-loop loop-holds is-first-requires row-at-requires machine-requires add-i loop-less loop-again returns)
+machines-spec = tie.close
+    (tie.spec Inv-loop μ-loop loop-holds is-first-requires row-at-requires machine-requires add-i loop-less loop-again
+    returns)

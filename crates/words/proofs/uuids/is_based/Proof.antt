@@ -8,23 +8,18 @@ use Rattle.octets.proofs.get16.Reads as get16-reads
 use Rattle.parts.proofs.same.Reads as same-reads
 use Rattle.words.proofs.part.Reads as part-reads
 
--- src/uuids.rt:41:28
 part-requires : tie.Need-part-requires
 part-requires c κs = search needs
 
--- src/uuids.rt:41:59
 slice-aggregate-same : tie.Need-slice-aggregate-same
 slice-aggregate-same c = search needs
 
--- src/uuids.rt:41:9
 same-requires : tie.Need-same-requires
 same-requires c κs = search needs
 
--- src/uuids.rt:42:33
 get16-requires : tie.Need-get16-requires
 get16-requires c κs = search needs
 
--- src/uuids.rt:38:1
 returns : tie.Need-returns
 unfolding isBased base
 returns c = rw (c .get16 .ensures, c .before .same .ensures, c .before .before .before .part .ensures)

@@ -6,11 +6,9 @@ use Rattle.words.proofs.uuids.is_wide.Reads as reads
 use Rattle.words.proofs.uuids.is_wide.Lts as lts
 use Rattle.octets.proofs.get16.Reads as get16-reads
 
--- src/uuids.rt:34:26
 get16-requires : tie.Need-get16-requires
 get16-requires c κs = search needs
 
--- src/uuids.rt:31:1
 returns : tie.Need-returns
 unfolding isWide
 returns c = rw (c .get16 .ensures)

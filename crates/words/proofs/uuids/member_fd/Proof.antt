@@ -1,8 +1,8 @@
 use mathlib.Core.Path.{ap}
 use Rattle.model.specs.Quoted.{codes}
-use Rattle.names.specs.Names.{tableOf, looked-up}
+use Rattle.names.specs.NamesLaws.{tableOf, looked-up}
 use Rattle.names.specs.Uuids.{memberRowsFD}
-use Rattle.words.specs.Says.{same}
+use Rattle.words.specs.SaysLaws.{same}
 use Rattle.words.specs.Uuids.{bracketed}
 use borrow.Author.Needs.{needs}
 use Rattle.words.proofs.uuids.member_fd.Statement.{statement}
@@ -11,18 +11,16 @@ use Rattle.words.proofs.uuids.member_fd.Reads as reads
 use Rattle.words.proofs.uuids.member_fd.Lts as lts
 use Rattle.words.proofs.uuids.in_brackets.Reads as in-brackets-reads
 
--- src/uuids.rt:91:26
 slice-aggregate-in-brackets : tie.Need-slice-aggregate-in-brackets
 slice-aggregate-in-brackets c = search needs
 
--- src/uuids.rt:91:5
 in-brackets-requires : tie.Need-in-brackets-requires
 in-brackets-requires c κs = search needs
 
--- src/uuids.rt:88:1
 returns : tie.Need-returns
 unfolding memberRowsFD tableOf codes
-returns c = same (ap bracketed (looked-up memberRowsFD (c .before .before .before .args .low))) (c .in-brackets .ensures)
+returns c = same (ap bracketed (looked-up memberRowsFD (c .before .before .before .args .low)))
+    (c .in-brackets .ensures)
 
 pub member-fd-spec : {M : Type 1} → statement M
 member-fd-spec = tie.close (tie.spec slice-aggregate-in-brackets in-brackets-requires returns)

@@ -8,26 +8,25 @@ use Rattle.octets.proofs.get8.Reads as get8-reads
 use Rattle.words.proofs.uuids.by_octets.Reads as by-octets-reads
 use Rattle.words.proofs.uuids.short.Reads as short-reads
 
--- src/uuids.rt:133:9
 short-requires : tie.Need-short-requires
 short-requires c κs = search needs
 
--- src/uuids.rt:134:24
 get8-requires : tie.Need-get8-requires
 get8-requires c κs = search needs
 
--- src/uuids.rt:134:46
 get8-requires-2 : tie.Need-get8-requires-2
 get8-requires-2 c κs = search needs
 
--- src/uuids.rt:134:5
 by-octets-requires : tie.Need-by-octets-requires
 by-octets-requires c κs = search needs
 
--- src/uuids.rt:130:1
 returns : tie.Need-returns
 unfolding behindUuid
-returns c = rw (c .before .get82 .ensures, c .before .before .get8 .ensures, c .before .before .before .before .short .ensures) at (c .by-octets .ensures)
+returns c = rw (
+  c .before .get82 .ensures,
+  c .before .before .get8 .ensures,
+  c .before .before .before .before .short .ensures,
+) at (c .by-octets .ensures)
 
 pub name-spec : {M : Type 1} → statement M
 name-spec =

@@ -1,6 +1,6 @@
 use mathlib.Core.Path.{sym, _∙_}
 use borrow.Author.Tests.{eq-eqb, ne-eqb}
-use Rattle.laws.specs.Tests.{pick-true, pick-false}
+use Rattle.laws.specs.TestsLaws.{pick-true, pick-false}
 use Rattle.words.specs.Uuids.{isWide, isBased, shortOf}
 use borrow.Author.Needs.{needs}
 use Rattle.words.proofs.uuids.short.Statement.{statement}
@@ -11,45 +11,46 @@ use Rattle.words.proofs.part.Reads as part-reads
 use Rattle.words.proofs.uuids.is_based.Reads as is-based-reads
 use Rattle.words.proofs.uuids.is_wide.Reads as is-wide-reads
 
--- src/uuids.rt:50:9
 returns : tie.Need-returns
 unfolding shortOf
 returns c = sym (pick-true _ _ (eq-eqb _ _ (c .if1 .taken)))
 
--- src/uuids.rt:52:8
 is-wide-requires : tie.Need-is-wide-requires
 is-wide-requires c κs = search needs
 
--- src/uuids.rt:53:9
 part-requires : tie.Need-part-requires
 part-requires c κs = search needs
 
--- src/uuids.rt:53:9
 returns-2 : tie.Need-returns-2
 unfolding shortOf
-returns-2 c = c .part .ensures ∙ sym (pick-false _ _ (ne-eqb _ _ (c .before .before .before .if1 .left)) ∙ pick-true _ _ (sym (c .before .before .is-wide .ensures) ∙ c .before .if2 .taken))
+returns-2 c = c .part .ensures
+    ∙ sym (pick-false _ _ (ne-eqb _ _ (c .before .before .before .if1 .left))
+    ∙ pick-true _ _ (sym (c .before .before .is-wide .ensures) ∙ c .before .if2 .taken))
 
--- src/uuids.rt:55:8
 is-based-requires : tie.Need-is-based-requires
 is-based-requires c κs = search needs
 
--- src/uuids.rt:56:9
 part-requires-2 : tie.Need-part-requires-2
 part-requires-2 c κs = search needs
 
--- src/uuids.rt:56:9
 returns-3 : tie.Need-returns-3
 unfolding shortOf
-returns-3 c = c .part2 .ensures ∙ sym (pick-false _ _ (ne-eqb _ _ (c .before .before .before .before .before .if1 .left)) ∙ pick-false _ _ (sym (c .before .before .before .before .is-wide .ensures) ∙ c .before .before .before .if2 .left) ∙ pick-true _ _ (sym (c .before .before .is-based .ensures) ∙ c .before .if3 .taken))
+returns-3 c = c .part2 .ensures
+    ∙ sym (pick-false _ _ (ne-eqb _ _ (c .before .before .before .before .before .if1 .left))
+    ∙ pick-false _ _
+    (sym (c .before .before .before .before .is-wide .ensures) ∙ c .before .before .before .if2 .left)
+    ∙ pick-true _ _ (sym (c .before .before .is-based .ensures) ∙ c .before .if3 .taken))
 
--- src/uuids.rt:58:5
 slice-aggregate-result : tie.Need-slice-aggregate-result
 slice-aggregate-result c = search needs
 
--- src/uuids.rt:46:1
 returns-4 : tie.Need-returns-4
 unfolding shortOf
-returns-4 c = sym (pick-false _ _ (ne-eqb _ _ (c .before .before .before .before .before .if1 .left)) ∙ pick-false _ _ (sym (c .before .before .before .before .is-wide .ensures) ∙ c .before .before .before .if2 .left) ∙ pick-false _ _ (sym (c .before .before .is-based .ensures) ∙ c .before .if3 .left))
+returns-4 c = sym
+    (pick-false _ _ (ne-eqb _ _ (c .before .before .before .before .before .if1 .left))
+    ∙ pick-false _ _
+    (sym (c .before .before .before .before .is-wide .ensures) ∙ c .before .before .before .if2 .left)
+    ∙ pick-false _ _ (sym (c .before .before .is-based .ensures) ∙ c .before .if3 .left))
 
 pub short-spec : {M : Type 1} → statement M
 short-spec =
