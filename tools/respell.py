@@ -16,6 +16,8 @@ import sys
 WORD = re.compile(r"(?<![\w'\u2032\-])[a-z][\w'\u2032\-]*")
 HUMP = re.compile(r"(?<=[a-z0-9])(?=[A-Z])")
 SKIP = re.compile(r'"(?:[^"\\\n]|\\.)*"|(?<![\w\'])b?\'(?:[^\'\\\n]|\\.)\'')
+# a source's comments, and its strings, which may go on over lines
+LONG = re.compile(r'//[^\n]*|"(?:[^"\\]|\\.)*"', re.S)
 # a unit is no hump; std has a count_by of its own
 OWN = {"dBm": "d_bm", "dBm-most": "d_bm-most", "countBy": "counted_by"}
 UNIT = "dBm"
@@ -59,6 +61,17 @@ def turned_line(line, lemmas):
 
 
 def turned(text, lemmas):
+    if not lemmas:
+        out, at = [], 0
+        for m in LONG.finditer(text):
+            if m.group()[0] == '"' and "\n" in m.group():
+                out += [turned_lines(text[at : m.start()], lemmas), m.group()]
+                at = m.end()
+        return "".join(out) + turned_lines(text[at:], lemmas)
+    return turned_lines(text, lemmas)
+
+
+def turned_lines(text, lemmas):
     return "\n".join(turned_line(l, lemmas) for l in text.split("\n"))
 
 

@@ -13,7 +13,7 @@ use refusals::{Refusal, Wrote};
 
 // How the giving of additions stands: the characters held of the line that has no LF yet, the lines accepted, and the
 // refusal that stopped it, if one did.
-#[derive(Drop)]
+#[derive(Clone, Copy)]
 pub struct Course {
     pub held: usize,
     pub lines: u64,

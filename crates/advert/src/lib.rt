@@ -18,7 +18,7 @@ ghost use Rattle.advert.specs.Condition.{form_of, form_status, meets, well_forme
 pub const IRK: u8 = 3;
 
 // What is said of a condition's form: as its type asks, not so, a type that is none.
-#[derive(Drop)]
+#[derive(Clone, Copy)]
 pub enum Form {
     Good,
     Malformed,
@@ -26,7 +26,7 @@ pub enum Form {
 }
 
 // What is said of a packet and a pattern condition, with how many comparisons it took.
-#[derive(Drop)]
+#[derive(Clone, Copy)]
 pub struct Match {
     pub found: bool,
     pub comparisons: usize,

@@ -8,7 +8,7 @@ ghost use Rattle.advert.specs.Sections.{Lookup};
 ghost use Rattle.advert.specs.Either.{text_of, rest, Handed};
 
 // Where the content of a section stands: from index from on, to before index to; and how many AD types were looked at.
-#[derive(Drop)]
+#[derive(Clone, Copy)]
 struct Section {
     found: bool,
     seen: usize,

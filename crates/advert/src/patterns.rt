@@ -6,7 +6,7 @@ ghost use Rattle.advert.specs.Pattern.{holds_at, patterns_form, pattern_meets, p
 ghost use Rattle.advert.specs.Cost.{octets_cost};
 
 // Whether octets are the same, and how many were compared.
-#[derive(Drop)]
+#[derive(Clone, Copy)]
 pub(super) struct Compared {
     pub(super) same: bool,
     pub(super) count: usize,

@@ -14,7 +14,7 @@ mod sbox_table;
 const ROUNDS: u8 = 9;
 
 // A block of 16 octets, by columns.
-#[derive(Drop)]
+#[derive(Clone, Copy)]
 pub struct Block {
     pub a: u32,
     pub b: u32,

@@ -36,7 +36,7 @@ const MARKS: u64 = 12;
 const DAY: u64 = 864000;
 
 // A visit's bar: where it begins, and how wide it is.
-#[derive(Drop)]
+#[derive(Clone, Copy)]
 pub struct Drawn {
     pub x: u64,
     pub width: u64,

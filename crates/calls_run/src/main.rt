@@ -48,7 +48,7 @@ const ROOM: usize = Whole::IMAGE + 30;
 const HEAD: usize = 7;
 
 // What a call's head says: the tag, the two numbers, the length of the octets.
-#[derive(Drop)]
+#[derive(Clone, Copy)]
 struct Head {
     tag: u8,
     first: u16,

@@ -138,7 +138,7 @@ pub(super) fn add(block: &mut [u8; Whole::SIZE], given: &[u8], t: Tally) -> Tall
 }
 
 // Where a packed block goes on: at which octet of the block, and whether a number of zeros is next.
-#[derive(Drop)]
+#[derive(Clone, Copy)]
 struct Place {
     at: usize,
     zeros: bool,

@@ -12,7 +12,7 @@ const COUNTED: u64 = 1000000000;
 const BEFORE: u8 = 0xA5;
 
 // What was seen of a script so far: the digest, how many calls, how many octets they wrote; and whether more is read.
-#[derive(Drop)]
+#[derive(Clone, Copy)]
 pub struct Tally {
     pub digest: u64,
     pub calls: u64,
@@ -21,7 +21,7 @@ pub struct Tally {
 }
 
 // What was seen of one call so far: the digest carried on, how many octets it wrote, whether the rest stayed.
-#[derive(Drop)]
+#[derive(Clone, Copy)]
 pub struct Written {
     pub digest: u64,
     pub count: u64,

@@ -27,7 +27,7 @@ use state::State;
 use totals::{Gain, Row};
 
 // A handle's gain, and what is left of the room for starts behind its turn.
-#[derive(Drop)]
+#[derive(Clone, Copy)]
 struct Turn {
     gain: Gain,
     left: usize,

@@ -15,7 +15,7 @@ const NINE: u8 = b'9';
 const LAST: u64 = 0xFFFFFFFF;
 
 // What a word is read as.
-#[derive(Drop)]
+#[derive(Clone, Copy)]
 pub enum Number {
     Is(u32),
     Not,

@@ -9,7 +9,7 @@ use index::Watch;
 use texts::{Text, words};
 
 // An address: whether a text is one, and its octets, the least significant first.
-#[derive(Drop)]
+#[derive(Clone, Copy)]
 pub struct Address {
     pub good: bool,
     pub octets: [u8; 6],

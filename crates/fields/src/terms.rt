@@ -14,56 +14,56 @@ const AD: [u8; 506] = *b"\x01\x05flags\
 \x05\x15complete 32-bit UUIDs\
 \x06\x18incomplete 128-bit UUIDs\
 \x07\x16complete 128-bit UUIDs\
-\x08\x0_eshortened name\
-\x09\x0_dcomplete name\
-\x0_a\x08_tx power\
-\x0_d\x0_fclass of device\
+\x08\x0Eshortened name\
+\x09\x0Dcomplete name\
+\x0A\x08Tx power\
+\x0D\x0Fclass of device\
 \x10\x09device id\
 \x12\x19connection interval range\
 \x14\x16solicited 16-bit UUIDs\
 \x15\x17solicited 128-bit UUIDs\
-\x16\x0_cservice data\
+\x16\x0Cservice data\
 \x17\x15public target address\
 \x18\x15random target address\
-\x19\x0_aappearance\
-\x1_a\x14advertising interval\
-\x1_b\x0_edevice address\
-\x1_c\x07_le role\
-\x1_f\x16solicited 32-bit UUIDs\
-\x20\x0_cservice data\
-\x21\x0_cservice data\
-\x24\x03_uri\
-\x27\x0_ble features\
-\x_ff\x11manufacturer data";
+\x19\x0Aappearance\
+\x1A\x14advertising interval\
+\x1B\x0Edevice address\
+\x1C\x07LE role\
+\x1F\x16solicited 32-bit UUIDs\
+\x20\x0Cservice data\
+\x21\x0Cservice data\
+\x24\x03URI\
+\x27\x0BLE features\
+\xFF\x11manufacturer data";
 
 // Event types, as the Core Specification names them.
-const EVENT_TYPES: [u8; 66] = *b"\x00\x07_adv_ind\
-\x01\x0_eadv_direct_ind\
-\x02\x0_cadv_scan_ind\
-\x03\x0_fadv_nonconn_ind\
-\x04\x08_scan_rsp";
+const EVENT_TYPES: [u8; 66] = *b"\x00\x07ADV_IND\
+\x01\x0EADV_DIRECT_IND\
+\x02\x0CADV_SCAN_IND\
+\x03\x0FADV_NONCONN_IND\
+\x04\x08SCAN_RSP";
 
 // Statuses.
 const STATUSES: [u8; 67] = *b"\x00\x07success\
-\x01\x0_funknown command\
+\x01\x0Funknown command\
 \x07\x07no room\
-\x0_c\x0_adisallowed\
+\x0C\x0Adisallowed\
 \x12\x12invalid parameters";
 
 // Sub-opcodes as their commands.
-const COMMANDS: [u8; 89] = *b"\x00\x0_dread features\
-\x03\x0_dadd a monitor\
+const COMMANDS: [u8; 89] = *b"\x00\x0Dread features\
+\x03\x0Dadd a monitor\
 \x04\x10cancel a monitor\
-\x05\x0_denable filter\
-\x0_f\x18add a monitor, version 2";
+\x05\x0Denable filter\
+\x0F\x18add a monitor, version 2";
 
 // Why a line is none.
 const REASONS: [u8; 132] = *b"\x01\x05empty\
 \x02\x08too long\
-\x03\x1_anot upper-case hexadecimal\
-\x04\x0_dno known kind\
-\x05\x0_eunder 5 octets\
-\x06\x1_epayload not of its kind's form\
+\x03\x1Anot upper-case hexadecimal\
+\x04\x0Dno known kind\
+\x05\x0Eunder 5 octets\
+\x06\x1Epayload not of its kind's form\
 \x07\x16not of its kind's form";
 
 // An AD type.

@@ -27,20 +27,20 @@ const EVENT: u8 = 0xFF;
 // The whole block of a state: the core; behind it the index, a row for each device in the order of its first held
 // pair, and the number of entries; behind that the editions of the prefix in rising order and their number. What is
 // not in use is 0.
-#[derive(Drop)]
+#[derive(Clone, Copy)]
 pub struct Whole {
     pub block: [u8; Whole::SIZE],
 }
 
 // What starting gives: the whole block, and whether the settings were refused.
-#[derive(Drop)]
+#[derive(Clone, Copy)]
 pub struct Opened {
     pub answer: Start,
     pub state: Whole,
 }
 
 // How many monitors watch a device and the lowest of their handles, or that there is none.
-#[derive(Drop)]
+#[derive(Clone, Copy)]
 pub enum Watch {
     By { count: u32, lowest: u32 },
     Nobody,

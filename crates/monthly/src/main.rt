@@ -14,7 +14,7 @@ use texts::words;
 use totals::Row;
 
 // The rows so far, whether to go on, and the number of the refusal, 0 for none.
-#[derive(Drop)]
+#[derive(Clone, Copy)]
 pub struct Month {
     pub rows: [Row; Row::TABLE],
     pub goes: bool,

@@ -5,18 +5,18 @@ ghost use Rattle.names.specs.Names.{name_in};
 ghost use Rattle.names.specs.Refusals.{refusal_name};
 
 // The refusals.
-pub const REFUSALS: [u8; 259] = *b"\x01\x0_bseen before\
+pub const REFUSALS: [u8; 259] = *b"\x01\x0Bseen before\
 \x02\x03gap\
 \x03\x10output too short\
-\x04\x0_anot a line\
-\x05\x1_epayload not of its kind's form\
-\x06\x0_eanother opcode\
+\x04\x0Anot a line\
+\x05\x1Epayload not of its kind's form\
+\x06\x0Eanother opcode\
 \x07\x16the state is not sound\
 \x09\x15settings out of range\
-\x0_a\x1_dnot an image of a sound state\
-\x0_d\x15list of editions full\
-\x0_e\x2_bnumber not rising or not above the position\
-\x0_f\x0_fprefix too long";
+\x0A\x1Dnot an image of a sound state\
+\x0D\x15list of editions full\
+\x0E\x2Bnumber not rising or not above the position\
+\x0F\x0Fprefix too long";
 
 // The name of a number in a table: none where it has no row.
 pub fn find<'a>(table: &'a [u8], x: u8) -> &'a [u8]

@@ -30,7 +30,7 @@ use state::State;
 
 // What turns leave: how many pairs are held, how many octets were written, and whether the report of a start is let
 // through.
-#[derive(Drop)]
+#[derive(Clone, Copy)]
 pub struct Turn {
     pub held: usize,
     pub wrote: usize,

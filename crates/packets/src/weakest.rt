@@ -8,7 +8,7 @@ ghost use Rattle.model.specs.Layout.{block_size, most_pairs};
 use state::State;
 
 // A pair's index, and the level that it keeps.
-#[derive(Drop)]
+#[derive(Clone, Copy)]
 pub(super) struct Weak {
     pub at: usize,
     pub least: u8,

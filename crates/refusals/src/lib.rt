@@ -4,7 +4,7 @@ ghost use Rattle.std.specs.Prelude.{◌≡◌};
 ghost use Rattle.refusals.specs.Numbers.{number};
 
 // Why a call was refused. The documents' numbers stand in number_of.
-#[derive(Drop)]
+#[derive(Clone, Copy)]
 pub enum Refusal {
     // The frame number is at most the position.
     Seen,
@@ -33,7 +33,7 @@ pub enum Refusal {
 }
 
 // What writing or reading a line answers: how many octets were written, or why none were.
-#[derive(Drop)]
+#[derive(Clone, Copy)]
 pub enum Wrote {
     Done(usize),
     Refused(Refusal),

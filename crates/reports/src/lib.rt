@@ -20,7 +20,7 @@ pub const IMAGE_ROOM: usize = Whole::IMAGE + 1;
 
 // What the options ask: answers above a number, where one is given, with their numbers or without, with words on how
 // far it is; and whether that number is one.
-#[derive(Drop)]
+#[derive(Clone, Copy)]
 pub struct Asked {
     pub after: u32,
     pub given: bool,

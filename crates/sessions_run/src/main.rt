@@ -24,7 +24,7 @@ const IMAGE_ROOM: usize = Whole::IMAGE + 1;
 const ANSWER_ROOM: usize = 6000;
 
 // What was written so far, where the journal goes on, whether it does, and the number of the refusal that stopped it.
-#[derive(Drop)]
+#[derive(Clone, Copy)]
 struct Tally {
     digest: u64,
     count: u64,

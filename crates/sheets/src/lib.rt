@@ -17,7 +17,7 @@ use totals::Row;
 pub const ROOM: usize = 1729;
 
 // What a text is read as: whether it is one of sixteen rows, and the rows, empty ones where it is not.
-#[derive(Drop)]
+#[derive(Clone, Copy)]
 pub struct Sheet {
     pub good: bool,
     pub rows: [Row; Row::TABLE],
@@ -70,7 +70,7 @@ pub fn read(text: &[u8]) -> Sheet
 
 // What joining the rows of two sites gives: the first handle whose join is refused, the number of rows where none is,
 // and the rows, all empty where one is.
-#[derive(Drop)]
+#[derive(Clone, Copy)]
 pub struct Both {
     pub refused: usize,
     pub rows: [Row; Row::TABLE],

@@ -12,21 +12,21 @@ use totals::Row;
 const TENTH: u64 = u64::MAX / 10;
 
 // A count at a place, and the place behind the octet that ends it.
-#[derive(Drop)]
+#[derive(Clone, Copy)]
 struct Count {
     value: u64,
     next: usize,
 }
 
 // A sum, the same.
-#[derive(Drop)]
+#[derive(Clone, Copy)]
 struct Sum {
     value: i64,
     next: usize,
 }
 
 // A row, and the place behind its line.
-#[derive(Drop)]
+#[derive(Clone, Copy)]
 struct Line {
     row: Row,
     next: usize,

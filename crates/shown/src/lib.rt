@@ -15,7 +15,7 @@ mod framed;
 mod image;
 
 // A line in words: how many characters it has, and whether it is a line.
-#[derive(Drop)]
+#[derive(Clone, Copy)]
 pub struct Shown {
     pub count: usize,
     pub good: bool,

@@ -8,7 +8,7 @@ use libc::{STDERR_FILENO, STDOUT_FILENO};
 
 // What the options ask: words on how far it is, the first tick's time; whether they are good; the place of the first
 // name.
-#[derive(Drop)]
+#[derive(Clone, Copy)]
 struct Asked {
     progress: bool,
     from: u32,

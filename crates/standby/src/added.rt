@@ -7,7 +7,7 @@ use refusals::Refusal;
 use takeover::{Flow, Next};
 
 // How the additions stand, whether all was read without error, and whether more may come.
-#[derive(Drop)]
+#[derive(Clone, Copy)]
 pub struct Given {
     pub course: Course,
     pub works: bool,

@@ -14,11 +14,11 @@ ghost use Rattle.state.specs.Start.{settings_of, blank_in, fresh_in};
 use refusals::Refusal;
 
 // Seconds of the low interval.
-#[derive(Drop)]
+#[derive(Clone, Copy)]
 pub struct Seconds(pub u8);
 
 // Ticks of 100 ms.
-#[derive(Drop)]
+#[derive(Clone, Copy)]
 pub struct Ticks(pub u16);
 
 impl Seconds {
@@ -135,7 +135,7 @@ pub fn put_fresh(block: &mut [u8], opcode: u16, prefix: &[u8]) -> Start
 }
 
 // What is said of settings: in range, or why not.
-#[derive(Drop)]
+#[derive(Clone, Copy)]
 pub enum Start {
     Fresh,
     Refused(Refusal),
@@ -143,13 +143,13 @@ pub enum Start {
 
 // The state of the engine: position (4), filter, opcode (2), prefix length and prefix, padded to 40 octets; the
 // monitors' rows by handle; the pairs' rows in start order; the number of pairs. What is not in use is 0.
-#[derive(Drop)]
+#[derive(Clone, Copy)]
 pub struct State {
     pub block: [u8; State::SIZE],
 }
 
 // What starting gives: the state, and whether the settings were refused.
-#[derive(Drop)]
+#[derive(Clone, Copy)]
 pub struct Begun {
     pub answer: Start,
     pub state: State,

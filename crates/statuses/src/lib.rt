@@ -14,7 +14,7 @@ use state::State;
 
 // A row of the table: a sub-opcode, its parameter length counting the sub-opcode (03 and 0F: the least), and the number
 // of return parameters on success (00: less the prefix).
-#[derive(Drop)]
+#[derive(Clone, Copy)]
 struct Row {
     sub: u8,
     params: usize,

@@ -16,14 +16,14 @@ pub const CSV: u8 = 1;
 pub const JSON: u8 = 2;
 
 // The clock: whether the time of day at the first tick is known, and that time in ticks.
-#[derive(Drop)]
+#[derive(Clone, Copy)]
 pub struct Clock {
     pub given: bool,
     pub from: u32,
 }
 
 // A visit and its end: the frame (0: none), the tick, how.
-#[derive(Drop)]
+#[derive(Clone, Copy)]
 pub struct Row {
     pub visit: Visit,
     pub frame: u32,

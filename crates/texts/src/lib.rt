@@ -11,7 +11,7 @@ pub mod words;
 pub const ROOM: usize = 256;
 
 // A text: its characters stand at the start.
-#[derive(Drop)]
+#[derive(Clone, Copy)]
 pub struct Text {
     pub octets: [u8; ROOM],
     pub count: usize,

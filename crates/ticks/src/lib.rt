@@ -83,7 +83,7 @@ fn keep_row(t: &mut [u8], to: usize, from: usize, period: u8)
 }
 
 // How many rows are kept and how many octets are written so far.
-#[derive(Drop)]
+#[derive(Clone, Copy)]
 struct Turn {
     kept: usize,
     wrote: usize,

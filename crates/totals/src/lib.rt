@@ -11,7 +11,7 @@ ghost use Rattle.totals.specs.Gains.{no_gain, wide_row, kept_row, fits_in, gaine
 // The totals of a handle: matching packets, reports caused, ticks with a device under watch, the sum of the packets'
 // RSSI. The mean is the pair of the sum and the packets.
 #[repr(C)]
-#[derive(Drop)]
+#[derive(Clone, Copy)]
 pub struct Row {
     pub packets: u64,
     pub reports: u64,
@@ -86,7 +86,7 @@ pub fn no_rows() -> [Row; Row::TABLE]
 }
 
 // What a join gives: whether every total fits, else refusal 12, and the row.
-#[derive(Drop)]
+#[derive(Clone, Copy)]
 pub struct Joined {
     pub fits: bool,
     pub row: Row,
@@ -144,7 +144,7 @@ fn all_summed(t: [Row; Row::TABLE], d: [Row; Row::TABLE]) -> [Row; Row::TABLE]
 }
 
 // What adding sixteen rows gives: whether every total of every row fits, and the rows.
-#[derive(Drop)]
+#[derive(Clone, Copy)]
 pub struct Added {
     pub fits: bool,
     pub rows: [Row; Row::TABLE],
@@ -170,7 +170,7 @@ pub fn add_rows(t: [Row; Row::TABLE], d: [Row; Row::TABLE]) -> Added
 
 // What a frame adds to a handle's row: its matching packets, the reports it causes, its ticks, and the sum of the
 // RSSI more 128.
-#[derive(Drop)]
+#[derive(Clone, Copy)]
 pub struct Gain {
     pub packets: u8,
     pub reports: u8,
@@ -238,7 +238,7 @@ pub fn wide_all(d: [Gain; Row::TABLE]) -> [Row; Row::TABLE]
 }
 
 // A row's turn: the row after it, and whether its totals and those of the rows before add up within 64 bits.
-#[derive(Drop)]
+#[derive(Clone, Copy)]
 struct After {
     row: Row,
     fits: bool,

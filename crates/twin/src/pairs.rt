@@ -142,7 +142,7 @@ fn window_from(t: &[u8], a: usize, k: usize, n: usize) -> usize
 }
 
 // The packets of a window, the sum of their RSSI, and the number of the latest, 0 where there is none.
-#[derive(Drop)]
+#[derive(Clone, Copy)]
 pub(super) struct Window {
     pub packets: u32,
     pub sum: u64,

@@ -45,7 +45,7 @@ const TWO: u64 = 65536;
 const FOUR: u64 = 4294967296;
 
 // Visits to be closed: whether there are any, and from which key to which.
-#[derive(Drop)]
+#[derive(Clone, Copy)]
 pub struct Range {
     pub any: bool,
     pub low: u64,

@@ -10,7 +10,7 @@ use state::State;
 
 // A visit: whether it is open, its key, the frame and the tick of its start (frame 0: before the journal), the
 // packets of the device heard since, and the sum of their levels.
-#[derive(Drop)]
+#[derive(Clone, Copy)]
 pub struct Visit {
     pub here: bool,
     pub key: u64,
@@ -21,7 +21,7 @@ pub struct Visit {
 }
 
 // What an event of an answer tells of a pair, by its key.
-#[derive(Drop)]
+#[derive(Clone, Copy)]
 pub enum News {
     Start(u64),
     Stop(u64),
@@ -29,7 +29,7 @@ pub enum News {
 }
 
 // The book after a step, and the visit that the step closed, if it closed one.
-#[derive(Drop)]
+#[derive(Clone, Copy)]
 pub struct Change {
     pub rows: [Visit; State::PAIRS],
     pub closed: bool,

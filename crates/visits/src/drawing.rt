@@ -12,7 +12,7 @@ pub(super) const LANE: u64 = 16;
 pub(super) const HANDLES: u64 = 16;
 
 // What is drawn: rows that are kept, all rows, the span, the clock.
-#[derive(Drop)]
+#[derive(Clone, Copy)]
 pub struct Scene {
     pub kept: usize,
     pub rows: u64,
@@ -21,7 +21,7 @@ pub struct Scene {
 }
 
 // Where the next lane is, and whether all was written.
-#[derive(Drop)]
+#[derive(Clone, Copy)]
 pub struct Pen {
     pub y: u64,
     pub good: bool,

@@ -8,7 +8,7 @@ use visit::frames::Range;
 use visit::{Visit, frames};
 
 // Where the journal is: the open visits, the ticks, the lines and the rows so far, and whether to go on.
-#[derive(Drop)]
+#[derive(Clone, Copy)]
 pub struct Run {
     pub book: [Visit; State::PAIRS],
     pub ticks: u32,
@@ -18,7 +18,7 @@ pub struct Run {
 }
 
 // How the rows are written.
-#[derive(Drop)]
+#[derive(Clone, Copy)]
 pub struct Form {
     pub style: u8,
     pub clock: Clock,

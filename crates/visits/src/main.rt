@@ -14,7 +14,7 @@ use stays::Clock;
 
 // What the options ask: words on how far it is, how rows are written, the clock; whether they are good; the place of
 // the first name.
-#[derive(Drop)]
+#[derive(Clone, Copy)]
 struct Asked {
     progress: bool,
     style: u8,

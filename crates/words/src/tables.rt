@@ -2,190 +2,190 @@
 // by the less significant one.
 
 // Services that are adopted: 0x18.
-pub(super) const SERVICES: [u8; 1364] = *b"\x00\x0_egeneric Access\
-\x01\x11_generic Attribute\
-\x02\x0_fimmediate Alert\
-\x03\x09_link Loss\
-\x04\x08_tx Power\
-\x05\x0_ccurrent Time\
-\x06\x15_reference Time Update\
-\x07\x0_fnext DST Change\
-\x08\x07_glucose\
-\x09\x12_health Thermometer\
-\x0_a\x12_device Information\
-\x0_d\x0_aheart Rate\
-\x0_e\x12_phone Alert Status\
-\x0_f\x07_battery\
-\x10\x0_eblood Pressure\
-\x11\x12_alert Notification\
-\x12\x16_human Interface Device\
-\x13\x0_fscan Parameters\
-\x14\x19_running Speed and Cadence\
-\x15\x0_dautomation IO\
-\x16\x19_cycling Speed and Cadence\
-\x18\x0_dcycling Power\
-\x19\x17_location and Navigation\
-\x1_a\x15_environmental Sensing\
-\x1_b\x10_body Composition\
-\x1_c\x09_user Data\
-\x1_d\x0_cweight Scale\
-\x1_e\x0_fbond Management\
-\x1_f\x1_dcontinuous Glucose Monitoring\
-\x20\x19_internet Protocol Support\
-\x21\x12_indoor Positioning\
-\x22\x0_epulse Oximeter\
-\x23\x0_ahttp Proxy\
-\x24\x13_transport Discovery\
-\x25\x0_fobject Transfer\
-\x26\x0_ffitness Machine\
-\x27\x11_mesh Provisioning\
-\x28\x0_amesh Proxy\
-\x29\x1_areconnection Configuration\
-\x3_a\x10_insulin Delivery\
-\x3_b\x0_dbinary Sensor\
-\x3_c\x17_emergency Configuration\
-\x3_d\x15_authorization Control\
-\x3_e\x19_physical Activity Monitor\
-\x3_f\x0_celapsed Time\
-\x40\x15_generic Health Sensor\
-\x43\x13_audio Input Control\
-\x44\x0_evolume Control\
-\x45\x15_volume Offset Control\
-\x46\x1_ecoordinated Set Identification\
-\x47\x0_bdevice Time\
-\x48\x0_dmedia Control\
-\x49\x15_generic Media Control\
-\x4_a\x17_constant Tone Extension\
-\x4_b\x10_telephone Bearer\
-\x4_c\x18_generic Telephone Bearer\
-\x4_d\x12_microphone Control\
-\x4_e\x14_audio Stream Control\
-\x4_f\x14_broadcast Audio Scan\
-\x50\x1_cpublished Audio Capabilities\
-\x51\x18_basic Audio Announcement\
-\x52\x1_cbroadcast Audio Announcement\
-\x53\x0_ccommon Audio\
-\x54\x0_ehearing Access\
-\x55\x19_telephony and Media Audio\
-\x56\x1_dpublic Broadcast Announcement\
-\x57\x16_electronic Shelf Label\
-\x58\x0_cgaming Audio\
-\x59\x17_mesh Proxy Solicitation";
+pub(super) const SERVICES: [u8; 1364] = *b"\x00\x0EGeneric Access\
+\x01\x11Generic Attribute\
+\x02\x0FImmediate Alert\
+\x03\x09Link Loss\
+\x04\x08Tx Power\
+\x05\x0CCurrent Time\
+\x06\x15Reference Time Update\
+\x07\x0FNext DST Change\
+\x08\x07Glucose\
+\x09\x12Health Thermometer\
+\x0A\x12Device Information\
+\x0D\x0AHeart Rate\
+\x0E\x12Phone Alert Status\
+\x0F\x07Battery\
+\x10\x0EBlood Pressure\
+\x11\x12Alert Notification\
+\x12\x16Human Interface Device\
+\x13\x0FScan Parameters\
+\x14\x19Running Speed and Cadence\
+\x15\x0DAutomation IO\
+\x16\x19Cycling Speed and Cadence\
+\x18\x0DCycling Power\
+\x19\x17Location and Navigation\
+\x1A\x15Environmental Sensing\
+\x1B\x10Body Composition\
+\x1C\x09User Data\
+\x1D\x0CWeight Scale\
+\x1E\x0FBond Management\
+\x1F\x1DContinuous Glucose Monitoring\
+\x20\x19Internet Protocol Support\
+\x21\x12Indoor Positioning\
+\x22\x0EPulse Oximeter\
+\x23\x0AHTTP Proxy\
+\x24\x13Transport Discovery\
+\x25\x0FObject Transfer\
+\x26\x0FFitness Machine\
+\x27\x11Mesh Provisioning\
+\x28\x0AMesh Proxy\
+\x29\x1AReconnection Configuration\
+\x3A\x10Insulin Delivery\
+\x3B\x0DBinary Sensor\
+\x3C\x17Emergency Configuration\
+\x3D\x15Authorization Control\
+\x3E\x19Physical Activity Monitor\
+\x3F\x0CElapsed Time\
+\x40\x15Generic Health Sensor\
+\x43\x13Audio Input Control\
+\x44\x0EVolume Control\
+\x45\x15Volume Offset Control\
+\x46\x1ECoordinated Set Identification\
+\x47\x0BDevice Time\
+\x48\x0DMedia Control\
+\x49\x15Generic Media Control\
+\x4A\x17Constant Tone Extension\
+\x4B\x10Telephone Bearer\
+\x4C\x18Generic Telephone Bearer\
+\x4D\x12Microphone Control\
+\x4E\x14Audio Stream Control\
+\x4F\x14Broadcast Audio Scan\
+\x50\x1CPublished Audio Capabilities\
+\x51\x18Basic Audio Announcement\
+\x52\x1CBroadcast Audio Announcement\
+\x53\x0CCommon Audio\
+\x54\x0EHearing Access\
+\x55\x19Telephony and Media Audio\
+\x56\x1DPublic Broadcast Announcement\
+\x57\x16Electronic Shelf Label\
+\x58\x0CGaming Audio\
+\x59\x17Mesh Proxy Solicitation";
 
 // UUIDs of members: 0xFC.
-pub(super) const MEMBERS_FC: [u8; 122] = *b"\x98\x11_ruuvi Innovations\
-\x_b1\x06_google\
-\x_b2\x05_apple\
-\x_c0\x06_xiaomi\
-\x_c6\x06_wiliot\
-\x_cc\x0_dwi_fi Alliance\
-\x_cf\x06_google\
-\x_d2\x11_allterco Robotics\
-\x_f1\x06_google\
-\x_f6\x14_the Linux Foundation";
+pub(super) const MEMBERS_FC: [u8; 122] = *b"\x98\x11Ruuvi Innovations\
+\xB1\x06Google\
+\xB2\x05Apple\
+\xC0\x06Xiaomi\
+\xC6\x06Wiliot\
+\xCC\x0DWiFi Alliance\
+\xCF\x06Google\
+\xD2\x11Allterco Robotics\
+\xF1\x06Google\
+\xF6\x14The Linux Foundation";
 
 // 0xFD.
-pub(super) const MEMBERS_FD: [u8; 445] = *b"\x03\x06_quuppa\
-\x0_d\x06_blecon\
-\x1_d\x13_samsung Electronics\
-\x2_d\x06_xiaomi\
-\x36\x06_google\
-\x3_d\x0_fwoan Technology\
-\x43\x05_apple\
-\x44\x05_apple\
-\x4_b\x13_samsung Electronics\
-\x50\x24_hangzhou Tuya Information Technology\
-\x59\x13_samsung Electronics\
-\x5_a\x13_samsung Electronics\
-\x62\x06_fitbit\
-\x63\x06_fitbit\
-\x69\x13_samsung Electronics\
-\x6_c\x13_samsung Electronics\
-\x6_f\x1_capple, Exposure Notification\
-\x7_e\x13_samsung Electronics\
-\x84\x04_tile\
-\x87\x06_google\
-\x8_c\x06_google\
-\x96\x06_google\
-\x9_e\x15_the Coca-Cola Company\
-\x_aa\x06_xiaomi\
-\x_ab\x06_xiaomi\
-\x_af\x06_wiliot\
-\x_bd\x0_eclover Network\
-\x_cd\x13_qingping Technology\
-\x_db\x13_samsung Electronics\
-\x_e2\x06_google\
-\x_f0\x06_google";
+pub(super) const MEMBERS_FD: [u8; 445] = *b"\x03\x06Quuppa\
+\x0D\x06Blecon\
+\x1D\x13Samsung Electronics\
+\x2D\x06Xiaomi\
+\x36\x06Google\
+\x3D\x0FWoan Technology\
+\x43\x05Apple\
+\x44\x05Apple\
+\x4B\x13Samsung Electronics\
+\x50\x24Hangzhou Tuya Information Technology\
+\x59\x13Samsung Electronics\
+\x5A\x13Samsung Electronics\
+\x62\x06Fitbit\
+\x63\x06Fitbit\
+\x69\x13Samsung Electronics\
+\x6C\x13Samsung Electronics\
+\x6F\x1CApple, Exposure Notification\
+\x7E\x13Samsung Electronics\
+\x84\x04Tile\
+\x87\x06Google\
+\x8C\x06Google\
+\x96\x06Google\
+\x9E\x15The Coca-Cola Company\
+\xAA\x06Xiaomi\
+\xAB\x06Xiaomi\
+\xAF\x06Wiliot\
+\xBD\x0EClover Network\
+\xCD\x13Qingping Technology\
+\xDB\x13Samsung Electronics\
+\xE2\x06Google\
+\xF0\x06Google";
 
 // 0xFE.
-pub(super) const MEMBERS_FE: [u8; 578] = *b"\x00\x06_amazon\
-\x03\x06_amazon\
-\x08\x09_microsoft\
-\x13\x05_apple\
-\x15\x06_amazon\
-\x19\x06_google\
-\x25\x05_apple\
-\x26\x06_google\
-\x27\x06_google\
-\x2_c\x11_google, Fast Pair\
-\x33\x07_chipolo\
-\x42\x04_nets\
-\x50\x06_google\
-\x55\x06_google\
-\x56\x06_google\
-\x58\x14_nordic Semiconductor\
-\x59\x14_nordic Semiconductor\
-\x61\x16_logitech International\
-\x65\x07_chipolo\
-\x6_a\x16_kontakt Micro-Location\
-\x79\x12_zebra Technologies\
-\x8_a\x05_apple\
-\x8_b\x05_apple\
-\x95\x06_xiaomi\
-\x9_a\x08_estimote\
-\x9_f\x06_google\
-\x_a0\x06_google\
-\x_aa\x11_google, Eddystone\
-\x_b2\x09_microsoft\
-\x_bd\x0_eclover Network\
-\x_c7\x05_apple\
-\x_c8\x05_apple\
-\x_c9\x05_apple\
-\x_ca\x05_apple\
-\x_cb\x05_apple\
-\x_cc\x05_apple\
-\x_cd\x05_apple\
-\x_ce\x05_apple\
-\x_cf\x05_apple\
-\x_d0\x05_apple\
-\x_d1\x05_apple\
-\x_d2\x05_apple\
-\x_d3\x05_apple\
-\x_d4\x05_apple\
-\x_d8\x06_google\
-\x_e4\x14_nordic Semiconductor\
-\x_e5\x14_nordic Semiconductor\
-\x_ec\x04_tile\
-\x_ed\x04_tile\
-\x_f3\x06_google\
-\x_f4\x06_google\
-\x_f5\x14_dialog Semiconductor\
-\x_f9\x06_pay_pal\
-\x_fa\x06_pay_pal\
-\x_fc\x06_gimbal\
-\x_fd\x06_gimbal";
+pub(super) const MEMBERS_FE: [u8; 578] = *b"\x00\x06Amazon\
+\x03\x06Amazon\
+\x08\x09Microsoft\
+\x13\x05Apple\
+\x15\x06Amazon\
+\x19\x06Google\
+\x25\x05Apple\
+\x26\x06Google\
+\x27\x06Google\
+\x2C\x11Google, Fast Pair\
+\x33\x07Chipolo\
+\x42\x04Nets\
+\x50\x06Google\
+\x55\x06Google\
+\x56\x06Google\
+\x58\x14Nordic Semiconductor\
+\x59\x14Nordic Semiconductor\
+\x61\x16Logitech International\
+\x65\x07Chipolo\
+\x6A\x16Kontakt Micro-Location\
+\x79\x12Zebra Technologies\
+\x8A\x05Apple\
+\x8B\x05Apple\
+\x95\x06Xiaomi\
+\x9A\x08Estimote\
+\x9F\x06Google\
+\xA0\x06Google\
+\xAA\x11Google, Eddystone\
+\xB2\x09Microsoft\
+\xBD\x0EClover Network\
+\xC7\x05Apple\
+\xC8\x05Apple\
+\xC9\x05Apple\
+\xCA\x05Apple\
+\xCB\x05Apple\
+\xCC\x05Apple\
+\xCD\x05Apple\
+\xCE\x05Apple\
+\xCF\x05Apple\
+\xD0\x05Apple\
+\xD1\x05Apple\
+\xD2\x05Apple\
+\xD3\x05Apple\
+\xD4\x05Apple\
+\xD8\x06Google\
+\xE4\x14Nordic Semiconductor\
+\xE5\x14Nordic Semiconductor\
+\xEC\x04Tile\
+\xED\x04Tile\
+\xF3\x06Google\
+\xF4\x06Google\
+\xF5\x14Dialog Semiconductor\
+\xF9\x06PayPal\
+\xFA\x06PayPal\
+\xFC\x06Gimbal\
+\xFD\x06Gimbal";
 
 // UUIDs of other standards: 0xFF.
-pub(super) const STANDARDS: [u8; 285] = *b"\x_f2\x05_aliro\
-\x_f3\x0_ffi_ra Consortium\
-\x_f4\x0_ffi_ra Consortium\
-\x_f5\x1_bcar Connectivity Consortium\
-\x_f6\x06_matter\
-\x_f7\x0_dzigbee Direct\
-\x_f8\x0_fmopria Alliance\
-\x_f9\x27_fido2 client-to-authenticator transport\
-\x_fa\x0_eastm Remote ID\
-\x_fb\x1_bdirect Thread Commissioning\
-\x_fc\x17_wireless Power Transfer\
-\x_fd\x25_universal Second Factor Authenticator\
-\x_fe\x17_wireless Power Transfer";
+pub(super) const STANDARDS: [u8; 285] = *b"\xF2\x05Aliro\
+\xF3\x0FFiRa Consortium\
+\xF4\x0FFiRa Consortium\
+\xF5\x1BCar Connectivity Consortium\
+\xF6\x06Matter\
+\xF7\x0DZigbee Direct\
+\xF8\x0FMopria Alliance\
+\xF9\x27FIDO2 client-to-authenticator transport\
+\xFA\x0EASTM Remote ID\
+\xFB\x1BDirect Thread Commissioning\
+\xFC\x17Wireless Power Transfer\
+\xFD\x25Universal Second Factor Authenticator\
+\xFE\x17Wireless Power Transfer";
