@@ -1,0 +1,35 @@
+use Rattle.std.proofs.Common.{◌-◌, arith}
+use Rattle.advert.specs.PatternLaws.{form-none, form-zero, form-start, filled-end, filled_none, filled-over, filled_more}
+use Rattle.advert.proofs.patterns.patterns_form.Goals as goal
+
+pub returns-then-condition-eq0 : goal.returns-then-condition-eq0
+returns-then-condition-eq0 c = form-none _ (omega arith)
+
+pub returns-then-left-eq0 : goal.returns-then-left-eq0
+returns-then-left-eq0 c = form-zero _ (omega arith) (omega arith)
+
+pub loop-i-init : goal.loop-i-init
+loop-i-init c = (omega arith, form-start _ (omega arith) (omega arith))
+
+pub returns-then-next-i : goal.returns-then-next-i
+returns-then-next-i c = filled_none _ c.loop-i.i _ _ c.loop-i.invariant.1 _
+    c.part_end-next.ensures (omega arith) c.if-next-i.true
+
+pub returns-then-left-eq0-2 : goal.returns-then-left-eq0-2
+returns-then-left-eq0-2 c = filled-over _ c.loop-i.i _ _
+    c.loop-i.invariant.1 _ c.part_end-next.ensures (omega arith)
+    (omega arith)
+
+pub loop-i-smaller : goal.loop-i-smaller
+loop-i-smaller c = omega arith
+
+pub loop-i-preserved : goal.loop-i-preserved
+loop-i-preserved c = (
+  omega arith,
+  filled_more _ c.loop-i.i _ _
+      c.loop-i.invariant.1 _ c.part_end-next.ensures _ (omega arith)
+      (omega arith),
+)
+
+pub returns : goal.returns
+returns c = filled-end c.args.condition.now c.loop-i.i _ _ c.loop-i.invariant.1 (omega arith)

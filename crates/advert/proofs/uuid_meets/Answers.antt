@@ -1,0 +1,53 @@
+use Rattle.std.proofs.Common.{◌≡◌, ◌≤◌, true, length, get_or, sym, ◌∙◌, arith, length-drop}
+use borrow.Author.Tests.{not-true, not-false}
+use Rattle.advert.specs.PartsLaws.{rest-whole}
+use Rattle.advert.specs.Uuid.{uuid_form}
+use Rattle.advert.specs.UuidLaws.{uuid-bounds, uuid-bad, uuid-of}
+use Rattle.advert.proofs.uuid_meets.Goals as goal
+
+
+-- what is known of the condition once its form was asked
+
+formed : (c : lts.After-shared-slice-known4
+    (uuid-form-reads.Asked, uuid-form-reads.Learnt, some-lists-reads.Asked, some-lists-reads.Learnt) reads.Pre
+    reads.Post)
+    → (3 ≤ length c.before.before.before.before.before.before.args.condition.now)
+    × (length c.before.before.before.before.before.before.args.condition.now ≤ 17)
+    × (get_or c.before.before.before.before.before.before.args.condition.now 0 0 ≤ 3)
+formed c =
+    uuid-bounds c.before.before.before.before.before.before.args.condition.now
+    (sym c.before.before.uuid-form.ensures
+    ∙ not-false c.before.before.uuid-form.result c.before.if1.left)
+
+
+pub returns-then-not-uuid_form : goal.returns-then-not-uuid_form
+returns-then-not-uuid_form c = uuid-bad _ _ _ (sym c.uuid_form.ensures ∙ not-true _ c.if-not-uuid_form.true)
+
+pub bounds-condition-0 : goal.bounds-condition-0
+bounds-condition-0 c = omega (arith, formed c)
+
+pub overflow_mul-t : goal.overflow_mul-t
+overflow_mul-t c = omega (arith, formed c)
+
+pub overflow_mul-t-2 : goal.overflow_mul-t-2
+overflow_mul-t-2 c = omega (arith, formed c)
+
+pub overflow_add-t : goal.overflow_add-t
+overflow_add-t c = omega (arith, formed c)
+
+pub slice_bounds-some_lists-count : goal.slice_bounds-some_lists-count
+slice_bounds-some_lists-count c = omega (arith, formed c)
+
+pub slice_bounds-some_lists-start : goal.slice_bounds-some_lists-start
+slice_bounds-some_lists-start c = omega (arith, formed c)
+
+pub some_lists-requires : goal.some_lists-requires
+some_lists-requires c = let xs = c.args.condition.now in
+    let f : uuid_form xs ≡ true = sym c.uuid_form.ensures
+    ∙ not-false c.uuid_form.result c.if-not-uuid_form.false in
+    rw (rest-whole 1 xs) (simp length-drop (omega (arith, uuid-bounds xs f)))
+
+pub returns : goal.returns
+returns c = uuid-of _ _ _ (sym c.uuid_form.ensures
+    ∙ not-false c.uuid_form.result c.if-not-uuid_form.false)
+    c.some_lists.ensures

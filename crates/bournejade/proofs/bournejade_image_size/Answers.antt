@@ -1,0 +1,5 @@
+use mathlib.Core.Path.{refl}
+use Rattle.bournejade.proofs.bournejade_image_size.Goals as goal
+
+pub returns : goal.returns
+returns c = refl

@@ -1,0 +1,18 @@
+use Rattle.lines.specs.Hex.{text_of}
+use mathlib.Core.Path.{ap, ◌∙◌}
+use Rattle.bournejade.specs.Gives.{number_in, count_in}
+use Rattle.lines.specs.Answers.{after_write}
+use Rattle.refusals.specs.declared.Wrote.{Wrote}
+use Rattle.bournejade.proofs.bournejade_write_line.Goals as goal
+
+pub returns : goal.returns
+returns c = let a = c.args in
+    let w = c.write_line-r.ensures in (
+      c.told.ensures.0
+          ∙ ap number_in w.0,
+      (
+        c.told.ensures.1 ∙ ap count_in w.0,
+        w.1
+            ∙ ap (λ (r : Wrote). after_write r a.out.now (text_of a.frame.now)) w.0,
+      ),
+    )

@@ -1,0 +1,8 @@
+use Rattle.bournejade.specs.GivesLaws.{stop-end, stop-refused}
+use Rattle.bournejade.proofs.numbers.stopped.Goals as goal
+
+pub returns-in-End : goal.returns-in-End
+returns-in-End c = stop-end _ c.enum_told-1.given.1
+
+pub returns-in-Refused : goal.returns-in-Refused
+returns-in-Refused c = stop-refused _ _ _ c.s-1.given.1 c.number_of.ensures

@@ -1,0 +1,14 @@
+use Rattle.commands.specs.RepliesLaws.{reply-two}
+use native.Mathlib.Omega.{arith}
+use mathlib.Core.Path.{◌≡◌}
+use lib.ListN.{length, length-set}
+use Rattle.commands.proofs.replies.reply.Goals as goal
+
+pub bounds-out-6 : goal.bounds-out-6
+bounds-out-6 c = let e : length c.put_head.new.0 ≡ length
+    c.args.out.now = c.out-1.given in
+    simp length-set (omega arith)
+
+pub returns : goal.returns
+returns c = let a = c.args in
+    reply-two a.out.now a.opcode (omega arith) a.status a.sub c.put_head.ensures

@@ -1,0 +1,28 @@
+use Prim.Native.Nat.{◌+◌, ◌-◌}
+use mathlib.Core.Path.{◌≡◌, refl}
+use native.Mathlib.Omega.{arith}
+use Rattle.fields.specs.CutsLaws.{left-turn, left_end}
+use Rattle.fields.specs.Data.{structures_text}
+use Rattle.fields.specs.Turns.{structures-end, structures-next}
+use Rattle.fields.proofs.data.structures.Goals as goal
+
+pub loop-i-init : goal.loop-i-init
+loop-i-init c = (refl, omega arith, λ o r t. t)
+
+pub loop-i-preserved : goal.loop-i-preserved
+loop-i-preserved c = (
+      refl,
+      omega arith,
+      let k : c.loop-i.i +
+          c.size.result - c.loop-i.i
+          ≡ c.size.result = omega arith in left-turn (structures_text) c.args.s.now
+          c.loop-i.i (c.loop-i.i + c.size.result) (structures-next c.args.s.now
+          c.loop-i.i c.size.result (omega arith)
+          c.size.ensures.0 c.size.ensures.1)
+          c.loop-i.invariant.2 (rw k at c.structure-end.ensures),
+    )
+
+pub returns : goal.returns
+returns c = left_end (structures_text) c.args.s.now c.loop-i.i
+    (structures-end c.args.s.now c.loop-i.i (omega arith))
+    c.loop-i.invariant.2

@@ -1,0 +1,24 @@
+use mathlib.Core.Path.{sym, ◌∙◌}
+use mathlib.Core.Bool.{false≢true}
+use borrow.Author.Needs.{rules}
+use Rattle.marks.proofs.find_keys.Goals as goal
+
+pub met_keys-requires : goal.met_keys-requires
+met_keys-requires c = (
+  search rules,
+  search rules,
+  search rules,
+  search rules,
+  sym c.is_private.ensures
+      ∙ c.if-is_private.true,
+)
+
+pub returns-then-is_private : goal.returns-then-is_private
+returns-then-is_private c = record {
+  is = sym c.if-is_private.true
+      ∙ c.is_private.ensures;
+  keyed = λ e. c.met_keys.ensures;
+}
+
+pub returns : goal.returns
+returns c = record { is = sym c.if-is_private.false ∙ c.is_private.ensures; keyed = λ e. absurd (false≢true e) }

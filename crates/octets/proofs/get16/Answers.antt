@@ -1,0 +1,13 @@
+use Rattle.octets.specs.NumbersLaws.{number_in, number-out}
+use borrow.Author.Tests.{leb-true}
+use mathlib.Core.Path.{sym, ◌∙◌}
+use Rattle.octets.proofs.get16.Goals as goal
+
+pub get16_in-requires : goal.get16_in-requires
+get16_in-requires c = leb-true _ _ (sym c.room.ensures ∙ c.if-room.true)
+
+pub returns-then-room : goal.returns-then-room
+returns-then-room c = number_in 2 _ _ c.get16_in.ensures (sym c.room.ensures ∙ c.if-room.true)
+
+pub returns : goal.returns
+returns c = number-out 2 _ _ (sym c.room.ensures ∙ c.if-room.false)

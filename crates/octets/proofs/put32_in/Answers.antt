@@ -1,0 +1,20 @@
+use Rattle.octets.specs.Little.{octets_of}
+use Rattle.laws.specs.Put.{put}
+use lib.Seq.{sets-eq}
+use native.Mathlib.Numerals.{add-one, add-two, add-three}
+use lib.ListN.{length-set}
+use native.Mathlib.Omega.{arith}
+use Rattle.octets.proofs.put32_in.Goals as goal
+
+pub bounds-out-at-2 : goal.bounds-out-at-2
+bounds-out-at-2 c = simp length-set (omega arith)
+
+pub bounds-out-at-3 : goal.bounds-out-at-3
+bounds-out-at-3 c = simp length-set (omega arith)
+
+pub bounds-out-at-4 : goal.bounds-out-at-4
+bounds-out-at-4 c = simp length-set (omega arith)
+
+pub returns : goal.returns
+unfolding put octets_of
+returns c = rw (add-one, add-two, add-three) (sets-eq _ _ _ c.requires)

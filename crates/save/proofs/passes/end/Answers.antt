@@ -1,0 +1,37 @@
+use lib.ListN.{length-take}
+use native.Mathlib.Omega.{arith}
+use Rattle.model.specs.Layout.{monitor_line}
+use Rattle.save.specs.Text.{end_text}
+use Rattle.save.specs.TextLaws.{length-end_text}
+use Rattle.save.specs.PassedLaws.{one-line-at}
+use Rattle.save.proofs.passes.end.Goals as goal
+
+pub slice_bounds-line-end : goal.slice_bounds-line-end
+slice_bounds-line-end c = (one-line-at (end_text c.args.mons
+    c.args.pairs) monitor_line
+    (omega (
+      arith,
+      length-end_text c.args.mons
+          c.args.pairs,
+    )) c.put_end-n.ensures).within
+
+pub slice_bounds-past-end : goal.slice_bounds-past-end
+slice_bounds-past-end c = simp length-take
+    (omega (
+      arith,
+      (one-line-at
+          (end_text c.args.mons
+          c.args.pairs) monitor_line
+          (omega (
+            arith,
+            length-end_text c.args.mons
+                c.args.pairs,
+          )) c.put_end-n.ensures).within,
+    ))
+
+pub returns : goal.returns
+returns c = rw (one-line-at (end_text c.args.mons c.args.pairs) monitor_line (omega (
+      arith,
+      length-end_text c.args.mons
+          c.args.pairs,
+    )) c.put_end-n.ensures).text at c.past.ensures

@@ -1,0 +1,13 @@
+use mathlib.Core.Path.{refl}
+use native.Mathlib.Omega.{arith}
+use borrow.Author.Needs.{rules}
+use Rattle.sessions_run.proofs.run.Goals as goal
+
+pub loop-turns-init : goal.loop-turns-init
+loop-turns-init c = (refl, refl)
+
+pub loop-turns-smaller : goal.loop-turns-smaller
+loop-turns-smaller c = omega arith
+
+pub loop-turns-preserved : goal.loop-turns-preserved
+loop-turns-preserved c = (search rules, search rules)

@@ -1,0 +1,22 @@
+use Rattle.std.proofs.Common.{sym, arith, length-take-le}
+use borrow.Author.Tests.{not-false}
+use Rattle.show.proofs.files.show_file.Goals as goal
+
+pub slice_bounds-line-end : goal.slice_bounds-line-end
+slice_bounds-line-end c = omega (
+      arith,
+      c.next_line-read.ensures.1 (not-false _ c.if-not-feed.false),
+      c.next_line-read.ensures.0,
+    )
+
+pub slice_bounds-given-end : goal.slice_bounds-given-end
+slice_bounds-given-end c = sym (length-take-le _ _
+    (omega (
+      arith,
+      c.next_line-read.ensures.1
+          (not-false _ c.if-not-feed.false),
+      c.next_line-read.ensures.0,
+    )))
+
+pub loop-left-smaller : goal.loop-left-smaller
+loop-left-smaller c = omega arith

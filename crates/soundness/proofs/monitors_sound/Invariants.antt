@@ -1,0 +1,15 @@
+use mathlib.Core.Bool.{true}
+use Rattle.soundness.specs.Clauses.{monitor_test, monitor_row_at}
+use Rattle.soundness.specs.Below.{all_below}
+use Prim.Native.Nat.{◌-◌, ◌≤◌}
+use mathlib.Core.Path.{◌≡◌}
+use Rattle.model.specs.Layout.{most_monitors}
+use Rattle.soundness.proofs.monitors_sound.Given as goal
+
+abbrev pub invariant-loop-h : goal.invariant-loop-h
+invariant-loop-h l =
+    (l.h ≤ most_monitors) × (all_below (λ l.h. monitor_test l.h (monitor_row_at l.s l.h)) l.h ≡ true)
+
+abbrev pub decreases-loop-h : goal.decreases-loop-h
+decreases-loop-h l =
+    most_monitors - l.h

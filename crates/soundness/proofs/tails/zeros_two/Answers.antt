@@ -1,0 +1,13 @@
+use mathlib.Core.Path.{sym, ◌∙◌}
+use native.Mathlib.Omega.{arith}
+use Rattle.soundness.specs.TailsLaws.{zeros-on, zeros-not}
+use Rattle.soundness.proofs.tails.zeros_two.Goals as goal
+
+pub returns-then-get16-ne0 : goal.returns-then-get16-ne0
+returns-then-get16-ne0 c = let a = c.args in
+    zeros-not a.r.now 2 a.i (omega arith) c.get16.ensures c.if-get16-ne0.true
+
+pub returns : goal.returns
+returns c = let a = c.args in
+    c.zero_one-2.ensures ∙ sym (zeros-on a.r.now 2 a.i (omega arith) c.get16.ensures
+    c.if-get16-ne0.false)

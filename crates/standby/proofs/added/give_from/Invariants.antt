@@ -1,0 +1,10 @@
+use Prim.Native.Nat.{◌≤◌}
+use Rattle.standby.proofs.added.give_from.Given as goal
+
+abbrev pub invariant-loop-turns : goal.invariant-loop-turns
+invariant-loop-turns l =
+    l.turns ≤ l.initial.turns
+
+abbrev pub decreases-loop-turns : goal.decreases-loop-turns
+decreases-loop-turns l =
+    l.turns

@@ -1,0 +1,44 @@
+use Prim.Native.Nat.{◌*◌}
+use Rattle.ticks.specs.TableLaws.{turn-room, silent-most, turn-stays, turn-ends}
+use native.Mathlib.Omega.{arith}
+use Rattle.model.specs.Layout.{pair_size}
+use Rattle.ticks.proofs.tick_row.Goals as goal
+
+pub overflow_cast-handle : goal.overflow_cast-handle
+overflow_cast-handle c = omega (arith, c.slice_known-3-1.given (pair_size * c.args.i))
+
+pub overflow_add-wrote : goal.overflow_add-wrote
+overflow_add-wrote c = let a = c.args in
+    let n = turn-room a.intervals.now a.periods.now a.filters.now a.prefix.now a.t.now
+    a.out.now a.i a.kept a.at (omega arith) (omega arith) (omega arith)
+    c.octet_at.ensures c.ticks-run.ensures c.octet_at-period.ensures
+    c.get16.ensures c.stays-on.ensures c.tell.ensures in
+    omega (
+      arith,
+      n,
+      start.good.1.1.1.0.0,
+    )
+
+pub keep_row-requires : goal.keep_row-requires
+keep_row-requires c = let a = c.args in
+    let n = silent-most a.intervals.now a.periods.now a.filters.now a.prefix.now a.t.now
+    a.out.now a.i a.kept a.at (omega arith) (omega arith) (omega arith)
+    c.octet_at.ensures c.ticks-run.ensures c.octet_at-period.ensures
+    c.get16.ensures c.stays-on.ensures c.tell.ensures c.if-on.true
+    (omega (arith, c.ticks-run)) in
+    (omega arith, omega arith, omega arith, n)
+
+pub returns-then-on : goal.returns-then-on
+returns-then-on c = let a = c.args in
+    turn-stays a.intervals.now a.periods.now a.filters.now a.prefix.now a.t.now a.out.now
+    a.i a.kept a.at (omega arith) (omega arith) (omega arith) c.octet_at.ensures
+    c.ticks-run.ensures c.octet_at-period.ensures c.get16.ensures
+    c.stays-on.ensures c.tell.ensures c.if-on.true
+    c.keep_row.ensures
+
+pub returns : goal.returns
+returns c = let a = c.args in
+    turn-ends a.intervals.now a.periods.now a.filters.now a.prefix.now a.t.now a.out.now a.i
+    a.kept a.at (omega arith) (omega arith) (omega arith) c.octet_at.ensures
+    c.ticks-run.ensures c.octet_at-period.ensures c.get16.ensures
+    c.stays-on.ensures c.tell.ensures c.if-on.false

@@ -1,0 +1,34 @@
+use Rattle.std.proofs.Common.{◌≡◌, length, set, ◌∙◌, arith, length-set}
+use Rattle.twin.specs.PairRowsLaws.{data-short, latest-none, latest-some}
+use Rattle.twin.proofs.image.put_latest.Goals as goal
+
+pub returns-then-r-eq0 : goal.returns-then-r-eq0
+returns-then-r-eq0 c = latest-none c.args.t.now c.args.r
+    c.args.none c.args.row.now
+    c.requires.0 c.if-r-eq0.true
+
+pub data_of-data-requires : goal.data_of-data-requires
+data_of-data-requires c = c.requires.1 (let n = c.if-r-eq0.false in omega (arith, n))
+
+pub event_of-requires : goal.event_of-requires
+event_of-requires c = c.requires.1 (let n = c.if-r-eq0.false in omega (arith, n))
+
+pub overflow_cast-row : goal.overflow_cast-row
+overflow_cast-row c = let k = data-short c.args.t.now
+    c.args.r c.data_of-data.result.now
+    (c.requires.1 (let n = c.if-r-eq0.false in omega (arith, n)))
+    c.data_of-data.ensures in
+    omega (arith, k)
+
+pub shape_of-row : goal.shape_of-row
+shape_of-row c = let j : length (set (set c.args.row.now 24 c.event_of.result) 25
+    (length c.data_of-data.result.now)) ≡ length c.args.row.now = simp length-set in
+    c.copy.auto.0 ∙ j
+
+pub returns : goal.returns
+returns c = latest-some c.args.t.now c.args.r c.args.none c.event_of.result
+    c.args.row.now c.data_of-data.result.now c.requires.0
+    (let n = c.if-r-eq0.false in omega (arith, n))
+    (data-short c.args.t.now c.args.r c.data_of-data.result.now
+    (c.requires.1 (let n = c.if-r-eq0.false in omega (arith, n))) c.data_of-data.ensures)
+    c.event_of.ensures c.data_of-data.ensures c.copy.ensures

@@ -1,0 +1,19 @@
+use Rattle.std.proofs.Common.{◌≡◌, length, arith, length-set}
+use Rattle.commands.specs.RepliesLaws.{head-put}
+use Rattle.twin.proofs.replies.put_complete.Goals as goal
+
+pub bounds-out-1 : goal.bounds-out-1
+bounds-out-1 c = simp length-set (omega arith)
+
+pub bounds-out-2 : goal.bounds-out-2
+bounds-out-2 c = simp length-set (omega arith)
+
+pub shape_of-out : goal.shape_of-out
+shape_of-out c = let e : length c.put16.new.0 ≡ length
+    c.args.out.now = simp length-set at c.out-1.given in
+    e
+
+pub returns : goal.returns
+returns c = head-put c.args.out.now
+    c.args.opcode c.args.n
+    (omega arith) c.put16.ensures

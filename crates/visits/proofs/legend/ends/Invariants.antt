@@ -1,0 +1,10 @@
+use Rattle.std.proofs.Common.{◌-◌, ◌≤◌}
+use Rattle.visits.proofs.legend.ends.Given as goal
+
+abbrev pub invariant-loop-how : goal.invariant-loop-how
+invariant-loop-how l =
+    l.how ≤ 4
+
+abbrev pub decreases-loop-how : goal.decreases-loop-how
+decreases-loop-how l =
+    4 - l.how

@@ -1,0 +1,11 @@
+use Rattle.std.proofs.Common.{◌-◌, arith}
+use Rattle.visits.proofs.picture.machines.Goals as goal
+
+pub loop-i-init : goal.loop-i-init
+loop-i-init c = omega arith
+
+pub loop-i-smaller : goal.loop-i-smaller
+loop-i-smaller c = omega arith
+
+pub loop-i-preserved : goal.loop-i-preserved
+loop-i-preserved c = omega arith

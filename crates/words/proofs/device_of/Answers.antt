@@ -1,0 +1,7 @@
+use Rattle.words.specs.Pieces.{device_of}
+use borrow.Author.Needs.{rules}
+use Rattle.words.proofs.device_of.Goals as goal
+
+pub returns : goal.returns
+unfolding device_of
+returns c = search rules
