@@ -1,5 +1,5 @@
 use Rattle.refusals.specs.Numbers.{number}
-use borrow.Author.Needs.{rules}
+use borrow.Author.Rules.{rules}
 use Rattle.refusals.proofs.number_of.Goals as goal
 
 pub returns-in-Seen : goal.returns-in-Seen
