@@ -55,7 +55,7 @@ pub record Ended (x : Reached (List ℕ)) (state wrote : List ℕ) (stop : Optio
   pub stop_is : x.stop ≡ stop
 
 -- Demand 3 of the calls, for an image saved after frame k of the state `at`. accepted, loaded: `load` accepts the
--- image and gives the block `at`. goes_on_lem: replay of the journal from frame j, 1 to k + 1, into an output with 2,880
+-- image and gives the block `at`. goes_on: replay of the journal from frame j, 1 to k + 1, into an output with 2,880
 -- octets behind what is to be written, ends at the unbroken run's state, with exactly its answers to frames k + 1 to
 -- n, one after another. gapped: for j above k + 1 and at most n, with 2,880 octets lent, the first line is refused by
 -- 2: nothing is read or written, the block is as it was. watched: the pairs that the image of the unbroken run's
@@ -63,7 +63,7 @@ pub record Ended (x : Reached (List ℕ)) (state wrote : List ℕ) (stop : Optio
 pub record Delivered (opcode : ℕ) (prefix : List ℕ) (calls : List Call) (k : ℕ) (img at : List ℕ) : Type 0 where
   pub accepted : is_image_on img ≡ true
   pub loaded : block_in (is_image_on img) img ≡ at
-  pub goes_on_lem :
+  pub goes_on :
       (j : ℕ) → 1 ≤ j → j ≤ k + 1 → (room : ℕ)
       → length (flat (drop k (answers engine (begin opcode prefix) calls))) + answer_room ≤ room
       → Ended (replay_into engine room at (journal engine (begin opcode prefix) calls j))
@@ -245,7 +245,7 @@ module _ (opcode : ℕ) (prefix : List ℕ) (ok : sound_settings opcode prefix �
           accepted = i;
           loaded = ap (λ (b : Bool). block_in b img) i ∙ ap (λ (t : List ℕ). whole (held_on t)) saved-is.1
               ∙ ap whole (held-image middle (walk-good sv.before)) ∙ sym at-is;
-          goes_on_lem = goes-there;
+          goes_on = goes-there;
           gapped = gap-there;
           watched = subst (λ (t : List ℕ). ByHistory radio (past_frames opcode prefix calls) (pairs_in t))
               (sym (ap engine.encode (walk_is calls) ∙ encode-blocks (walk gateways start calls) (walk-good calls)))

@@ -186,7 +186,7 @@ written_in (adds e b r ∷ xs) = written_in xs
 -- A session of the library in which an image was saved: what was kept before it, the block then, what was kept after
 -- it and the editions accepted after it, the block at the end. A standby that is given the image, the journal kept
 -- from frame j on, and those editions again; one that was refused is not given again. With no editions this is demand
--- 3 of document 01. restored: restoring returns 0 and leaves the block as it was at the save. goes_on_lem: for j from 1
+-- 3 of document 01. restored: restoring returns 0 and leaves the block as it was at the save. goes_on: for j from 1
 -- to k + 1, k frames being executed before the save, with the editions given first, replay into one output that has
 -- 2,880 octets behind what is to be written returns 0, leaves the block of the unbroken run and writes exactly the
 -- answers given after the save. in_turns: however the journal is cut and the outputs are lent, and whenever in time
@@ -202,7 +202,7 @@ written_in (adds e b r ∷ xs) = written_in xs
 pub record TakenOver (before later : List Heard) (more : List Edition) (at end img : List ℕ) : Type 0 where
   pub restored : (b : List ℕ) (r : ℕ) → r ≡ pick (is_image_on img) 0 10 → b ≡ block_in (is_image_on img) img
       → (r ≡ 0) × (b ≡ at)
-  pub goes_on_lem :
+  pub goes_on :
       (j : ℕ) → 1 ≤ j → j ≤ length before + 1 → (out b left : List ℕ) (m n r : ℕ)
       → ReplayGave (replay_into engine (length out) (with_editions at more) (kept_from j (before ++ later))) out b left m
       n r

@@ -248,7 +248,7 @@ module _ (opcode : ℕ) (prefix : List ℕ) (ok : sound_settings opcode prefix �
   from-fresh =
       record {
         restored = λ c r e q. (e ∙ ap (λ (t : Bool). pick t 0 10) restores.0, q ∙ restores.1);
-        goes_on_lem = λ j h i lent c r m k w p big. in_one lent c r m k w j h i p big;
+        goes_on = λ j h i lent c r m k w p big. in_one lent c r m k w j h i p big;
         in_turns = λ j h i xs c rest due k t.
             let d = from-saved (λ p. true) j h i xs c rest due k t in (
               d.go,

@@ -28,7 +28,7 @@ turns xs = map replays xs
 pub record TakenOverPlain (before later : List Heard) (at end img : List ℕ) : Type 0 where
   pub restored : (b : List ℕ) (r : ℕ) → r ≡ pick (is_image_on img) 0 10 → b ≡ block_in (is_image_on img) img
       → (r ≡ 0) × (b ≡ at)
-  pub goes_on_lem :
+  pub goes_on :
       (j : ℕ) → 1 ≤ j → j ≤ length before + 1 → (out b left : List ℕ) (m n r : ℕ)
       → ReplayGave (replay_into engine (length out) at (kept_from j (before ++ later))) out b left m n r
       → length (answers_of later) + answer_room ≤ length out
@@ -77,7 +77,7 @@ unfolding with_editions
 plainly before later at end img t =
     record {
       restored = t.restored;
-      goes_on_lem = t.goes_on;
+      goes_on = t.goes_on;
       in_turns = λ j h i xs b rest k.
           let r = t.in_turns j h i (turns xs) b rest [] k
           (nothing-due (given_in (turns xs)) (model_of b).position (none-given xs)) in

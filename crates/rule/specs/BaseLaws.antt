@@ -38,6 +38,7 @@ pair_path p q = rw (p, q)
 
 module _ {A : Type 0} where
   pub all_in : (P : A → Type 0) (l : List A) → All P l → (x : A) → In x l → P x
+  all_in P [] a x x4 = elim x4 [ ]
   all_in P (y ∷ l) a x (inl e) = subst P (sym e) a.0
   all_in P (y ∷ l) a x (inr i) = all_in P l a.1 x i
 
@@ -46,6 +47,7 @@ module _ {A : Type 0} where
   in_all P (y ∷ l) f = (f y (inl refl), in_all P l (λ x i. f x (inr i)))
 
   pub in_left : (x : A) (l m : List A) → In x l → In x (l ++ m)
+  in_left x [] m x'' = elim x'' [ ]
   in_left x (y ∷ l) m (inl e) = inl e
   in_left x (y ∷ l) m (inr i) = inr (in_left x l m i)
 
@@ -84,16 +86,19 @@ module _ {A : Type 0} where
 
   -- The list without one given place of x.
   without : (x : A) (m : List A) → In x m → List A
+  without x [] x'' = elim x'' [ ]
   without x (y ∷ m) (inl e) = m
   without x (y ∷ m) (inr i) = y ∷ without x m i
 
   without-length : (x : A) (m : List A) (i : In x m) → length m ≡ suc (length (without x m i))
   unfolding without
+  without-length x [] i = elim i [ ]
   without-length x (y ∷ m) (inl e) = refl
   without-length x (y ∷ m) (inr i) = ap suc (without-length x m i)
 
   without_in : (x y : A) (m : List A) (i : In x m) → (y ≡ x → ⊥) → In y m → In y (without x m i)
   unfolding without
+  without_in x y [] i n _ = elim i [ ]
   without_in x y (z ∷ m) (inl e) n (inl q) = absurd (n (q ∙ sym e))
   without_in x y (z ∷ m) (inl e) n (inr j) = j
   without_in x y (z ∷ m) (inr i) n (inl q) = inl q
@@ -118,6 +123,7 @@ module _ {A : Type 0} where
   in-push x (some y) l i = inr i
 
   pub in-each : (f : A → Option A) (l : List A) (x y : A) → In x l → f x ≡ some y → In y (map_some f l)
+  in-each f [] x y x4 q = elim x4 [ ]
   in-each f (z ∷ l) x y (inl e) q = go (f z) (subst (λ w. f w ≡ some y) e q)
     where
       go : (o : Option A) → o ≡ some y → In y (push o (map_some f l))
@@ -131,6 +137,7 @@ module _ {A : Type 0} where
     pub moved : f was ≡ some y
 
   pub each_in : (f : A → Option A) (l : List A) (y : A) → In y (map_some f l) → From f l y
+  each_in f [] y i = elim i [ ]
   each_in f (z ∷ l) y i = go (f z) refl i (λ j. each_in f l y j)
     where
       go : (o : Option A) → f z ≡ o → In y (push o (map_some f l)) → (In y (map_some f l) → From f l y)
@@ -165,11 +172,13 @@ module _ {A : Type 0} where
 
 module _ {A B : Type 0} where
   pub in_map : (g : A → B) (l : List A) (x : A) → In x l → In (g x) (map g l)
+  in_map g [] x x3 = elim x3 [ ]
   in_map g (y ∷ l) x (inl e) = inl (ap g e)
   in_map g (y ∷ l) x (inr i) = inr (in_map g l x i)
 
   -- An element of `map g l` comes from one of l.
   pub map-in : (g : A → B) (l : List A) (y : B) → In y (map g l) → (x : A) × In x l × (y ≡ g x)
+  map-in g [] y x' = elim x' [ ]
   map-in g (z ∷ l) y (inl e) = (z, inl refl, e)
   map-in g (z ∷ l) y (inr i) = let r = map-in g l y i in (r.0, inr r.1, r.2)
 

@@ -9,6 +9,7 @@ use Rattle.rule.specs.Engine.{Pair, key, keys, least, drop_first, fits, room_for
 
 module _ (R : Radio) where
   pub least-le : (r : ℕ) (ps : List (Pair R)) (y : Pair R) → In y ps → least R r ps ≤ y.3
+  least-le r [] y i = elim i [ ]
   least-le r (q ∷ ps) y i = go (ltb q.3 (least R r ps)) refl i (λ j. least-le r ps y j)
     where
       go : (b : Bool) → ltb q.3 (least R r ps) ≡ b → In y (q ∷ ps) → (In y ps → least R r ps ≤ y.3)
@@ -37,14 +38,17 @@ module _ (R : Radio) where
   First k (q ∷ ps) x = ((eqb q.3 k ≡ true) × (x ≡ q)) ⊎ ((eqb q.3 k ≡ false) × First k ps x)
 
   pub first-in : (k : ℕ) (ps : List (Pair R)) (x : Pair R) → First k ps x → In x ps
+  first-in k [] x x3 = elim x3 [ ]
   first-in k (q ∷ ps) x (inl w) = inl w.1
   first-in k (q ∷ ps) x (inr w) = inr (first-in k ps x w.1)
 
   pub first-keeps : (k : ℕ) (ps : List (Pair R)) (x : Pair R) → First k ps x → x.3 ≡ k
+  first-keeps k [] x x3 = elim x3 [ ]
   first-keeps k (q ∷ ps) x (inl w) = ap (λ z. z.3) w.1 ∙ eqb-true q.3 k w.0
   first-keeps k (q ∷ ps) x (inr w) = first-keeps k ps x w.1
 
   pub first_of : (k : ℕ) (ps : List (Pair R)) (y : Pair R) → In y ps → y.3 ≡ k → (x : Pair R) × First k ps x
+  first_of k [] y i e = elim i [ ]
   first_of k (q ∷ ps) y i e = go (eqb q.3 k) refl i (λ j. first_of k ps y j e)
     where
       go : (b : Bool) → eqb q.3 k ≡ b → In y (q ∷ ps) → (In y ps → (x : Pair R) × First k ps x)
@@ -54,6 +58,7 @@ module _ (R : Radio) where
       go false t (inr j) ih = let r = ih j in (r.0, inr (t, r.1))
 
   pub drop-in : (k : ℕ) (ps : List (Pair R)) (y : Pair R) → In y (drop_first R k ps) → In y ps
+  drop-in k [] y i = elim i [ ]
   drop-in k (q ∷ ps) y i = go (eqb q.3 k) i (λ j. drop-in k ps y j)
     where
       go : (b : Bool) → In y (cond b ps (q ∷ drop_first R k ps)) → (In y (drop_first R k ps) → In y ps) → In y (q ∷ ps)
@@ -63,6 +68,7 @@ module _ (R : Radio) where
 
   -- What stands there stays, or is the first that keeps k.
   pub drop-or : (k : ℕ) (ps : List (Pair R)) (y : Pair R) → In y ps → In y (drop_first R k ps) ⊎ First k ps y
+  drop-or k [] y i = elim i [ ]
   drop-or k (q ∷ ps) y i = go (eqb q.3 k) refl i (λ j. drop-or k ps y j)
     where
       up : eqb q.3 k ≡ false → In y (drop_first R k ps) ⊎ First k ps y
@@ -104,12 +110,14 @@ module _ (R : Radio) where
 
   pub drop-length : (k : ℕ) (ps : List (Pair R)) (x : Pair R) → First k ps x
       → length ps ≡ suc (length (drop_first R k ps))
+  drop-length k [] x x3 = elim x3 [ ]
   drop-length k (q ∷ ps) x (inl w) = rw w.0
   drop-length k (q ∷ ps) x (inr w) = rw w.0 (ap suc (drop-length k ps x w.1))
 
   -- What is dropped is gone.
   pub first-gone : (k : ℕ) (ps : List (Pair R)) (x y : Pair R) → Distinct (keys R ps) → First k ps x
       → In y (drop_first R k ps) → key R y ≡ key R x → ⊥
+  first-gone k [] x y d x6 i e = elim x6 [ ]
   first-gone k (q ∷ ps) x y d (inl w) i e =
       let j : In y ps = subst (λ b. In y (cond b ps (q ∷ drop_first R k ps))) w.0 i in
       let z : key R y ≡ key R q = e ∙ ap (key R) w.1 in
@@ -127,6 +135,7 @@ module _ (R : Radio) where
   -- The first stands before all others that keep k.
   pub first-before : (P : Pair R → Pair R → Type 0) (k : ℕ) (ps : List (Pair R)) (x y : Pair R) → Ordered P ps
       → First k ps x → In y ps → y.3 ≡ k → (y ≡ x) ⊎ P x y
+  first-before P k [] x y o x6 _ e = elim x6 [ ]
   first-before P k (q ∷ ps) x y o (inl w) (inl i) e = inl (i ∙ sym w.1)
   first-before P k (q ∷ ps) x y o (inl w) (inr i) e =
       inr (subst (λ z. P z y) (sym w.1) (all_in (P q) ps o.0 y i))

@@ -26,6 +26,7 @@ module _ (R : Radio) where
       go false w u ih = inr (ih u)
 
   pub in_held : (ps : List (Pair R)) (h : ℕ) (e : R.Dev) → In (h, e) (keys R ps) → held R ps h e ≡ true
+  in_held [] h e x' = elim x' [ ]
   in_held (q ∷ ps) h e (inl w) =
       let a : eqb q.0 h ≡ true = eq-eqb q.0 h (ap (λ x. x.0) (sym w)) in
       let b : R.same q.1 e ≡ true = subst (λ d. R.same q.1 d ≡ true) (ap (λ x. x.1) (sym w))

@@ -127,7 +127,7 @@ module _ (M : Machine) (G : Growing M) where
       0 where
     pub within : k ≤ frames_on fresh calls
     pub restored : M.decode img ≡ some at
-    pub goes_on_lem :
+    pub goes_on :
         (j : ℕ) → 1 ≤ j → j ≤ k + 1 → (p : List Step) → lines_in p ≡ cut (journal_on fresh calls j)
         → added_in p ≡ added_on at later → InTime j p
         → (lent : ℕ → ℕ) → Enough lent

@@ -225,7 +225,7 @@ module _ (M : Machine) (𝓛 : Laws M) (G : Growing M) where
           record {
             within = omega arith;
             restored = rw saved.is (𝓛.restores at saved.sound);
-            goes_on_lem = on fresh at calls later k saved.sound es fs t c f.begins l.begins o r l.grown
+            goes_on = on fresh at calls later k saved.sound es fs t c f.begins l.begins o r l.grown
                 l.run w;
             gapped = gap fresh at calls later k saved.sound es fs t c (omega arith) origin;
           }

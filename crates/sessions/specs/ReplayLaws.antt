@@ -196,7 +196,7 @@ failover M 𝓛 fresh origin good calls k img at sv =
         record {
           within = omega arith;
           restored = rw saved.is (𝓛.restores at saved.sound);
-          goes_on_lem = rw c (text-on M 𝓛 fresh at end es fs r q origin saved.sound calls w t);
+          goes_on = rw c (text-on M 𝓛 fresh at end es fs r q origin saved.sound calls w t);
           gapped = rw c (text-gap M 𝓛 fresh at end es fs r q origin saved.sound calls w t);
           nothing = text-end M 𝓛 fresh at end es fs r q origin saved.sound calls w t;
         }

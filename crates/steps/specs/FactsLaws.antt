@@ -109,7 +109,7 @@ pub record Fields (q : Pair) : Type 0 where
   pub adv-short : length q.adv ≤ most_data
   pub adv-octets : every is_octet q.adv ≡ true
   pub kept-octet : q.kept < 256
-  pub kept_in_lem : in_range q.kept ≡ true
+  pub kept_in : in_range q.kept ≡ true
 
 pub fields-of : (q : Pair) → sound_fields q ≡ true → Fields q
 unfolding sound_fields
@@ -131,7 +131,7 @@ fields-of q e =
       adv-short = u.0;
       adv-octets = u.1;
       kept-octet = ltb-true q.kept 256 (and_left o i k);
-      kept_in_lem = and_right o i k;
+      kept_in = and_right o i k;
     }
 
 pub fields-hold : (q : Pair) → Fields q → sound_fields q ≡ true

@@ -92,7 +92,7 @@ module _ (m : Monitor) where
         adv-short = f.adv-short;
         adv-octets = f.adv-octets;
         kept-octet = t.rssi-octet;
-        kept_in_lem = t.rssi-in;
+        kept_in = t.rssi-in;
       } in
       record {
         fields = fields-hold (with_kept q p.rssi) fs;
@@ -117,7 +117,7 @@ module _ (m : Monitor) where
         adv-short = t.adv-short;
         adv-octets = t.adv-octets;
         kept-octet = t.rssi-octet;
-        kept_in_lem = t.rssi-in;
+        kept_in = t.rssi-in;
       } in
       let gs : Gathers (k + 1) m (gathered p q) =
       record {
@@ -155,7 +155,7 @@ module _ (m : Monitor) where
         adv-short = t.adv-short;
         adv-octets = t.adv-octets;
         kept-octet = f.kept-octet;
-        kept_in_lem = f.kept_in;
+        kept_in = f.kept_in;
       } in
       record {
         fields = fields-hold r fs;
@@ -201,7 +201,7 @@ module _ (m : Monitor) where
         adv-short = omega arith;
         adv-octets = every-nil _;
         kept-octet = f.kept-octet;
-        kept_in_lem = f.kept_in;
+        kept_in = f.kept_in;
       } in
       let gs : Gathers k m (emptied q) =
       record {
@@ -275,7 +275,7 @@ module _ (m : Monitor) where
         adv-short = d.0;
         adv-octets = d.1;
         kept-octet = t.rssi-octet;
-        kept_in_lem = t.rssi-in;
+        kept_in = t.rssi-in;
       } in
       record {
         fields = fields-hold (start_pair m h p) fs;

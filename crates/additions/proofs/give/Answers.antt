@@ -26,7 +26,7 @@ pub returns-in-Done : goal.returns-in-Done
 returns-in-Done c = let a = c.args in
     let t = c.take_text-got in
     line-given a.s.now a.line.now t.result t.ensures.0 c.got-1.given.0.0 _
-    t.new.1.0 _ _ c.got-1.given.1 t.ensures.1 c.give_octets.ensures
+    t.new.out _ _ c.got-1.given.1 t.ensures.1 c.give_octets.ensures
 
 pub returns-in-Refused : goal.returns-in-Refused
 returns-in-Refused c = let a = c.args in

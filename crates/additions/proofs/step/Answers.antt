@@ -18,7 +18,7 @@ pub returns-then-c-eq-LF : goal.returns-then-c-eq-LF
 returns-then-c-eq-LF c = let a = c.args in
     step-ended a.s.now a.line.now a.course a.c
     (sym c.is_stopped.ensures ∙ c.if-is_stopped.false) c.least-held.result
-    c.least-held.ensures c.if-c-eq-LF.true c.give.result c.give.new.0
+    c.least-held.ensures c.if-c-eq-LF.true c.give.result c.give.new.s
     c.after.result c.give.ensures c.after.ensures
 
 pub returns : goal.returns

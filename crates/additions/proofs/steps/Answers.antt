@@ -1,7 +1,7 @@
 use Prim.Native.Nat.{◌-◌}
 use native.Mathlib.Omega.{arith}
 use mathlib.Core.Path.{refl, sym, ◌∙◌}
-use borrow.Author.Needs.{rules}
+use borrow.Author.Rules.{rules}
 use Rattle.additions.specs.AnswersTurns.{fed-more, fed-end}
 use Rattle.additions.proofs.steps.Goals as goal
 

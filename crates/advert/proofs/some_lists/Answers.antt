@@ -1,7 +1,6 @@
 use Rattle.advert.specs.EitherLaws.{left-all, tried-none, tried-hit, tried-miss, tried-done}
 use Rattle.laws.specs.Loops.{some}
 use Rattle.std.proofs.Common.{sym, ap, ◌∙◌, arith}
-use borrow.Author.Tests.{not-true}
 use Rattle.advert.proofs.some_lists.Goals as goal
 
 pub loop-part-init : goal.loop-part-init
@@ -25,7 +24,7 @@ pub returns-then-not-has_more : goal.returns-then-not-has_more
 returns-then-not-has_more c = let y = sym c.lists.ensures ∙ c.if-lists.false in
     tried-done _ _ _ _ _ _ _ (tried-miss _ _ _ _ _ _ _ c.loop-part.invariant.1
     c.next_section-part.ensures c.if-part-eq0.false y)
-    (c.has_more.ensures (not-true _ c.if-not-has_more.true))
+    (c.has_more.ensures (c.if-not-has_more.true))
 
 pub loop-part-smaller : goal.loop-part-smaller
 loop-part-smaller c = let w = c.next_section-part.ensures.less c.if-part-eq0.false in

@@ -1,5 +1,5 @@
 use Rattle.std.proofs.Common.{◌≡◌, ◌≤◌, true, length, get_or, sym, ◌∙◌, arith, length-drop}
-use borrow.Author.Tests.{not-true, not-false}
+use borrow.Author.Tests.{not-false}
 use Rattle.advert.specs.PartsLaws.{rest-whole}
 use Rattle.advert.specs.Uuid.{uuid_form}
 use Rattle.advert.specs.UuidLaws.{uuid-bounds, uuid-bad, uuid-of}
@@ -21,7 +21,7 @@ formed c =
 
 
 pub returns-then-not-uuid_form : goal.returns-then-not-uuid_form
-returns-then-not-uuid_form c = uuid-bad _ _ _ (sym c.uuid_form.ensures ∙ not-true _ c.if-not-uuid_form.true)
+returns-then-not-uuid_form c = uuid-bad _ _ _ (sym c.uuid_form.ensures ∙ c.if-not-uuid_form.true)
 
 pub bounds-condition-0 : goal.bounds-condition-0
 bounds-condition-0 c = omega (arith, formed c)
@@ -44,10 +44,10 @@ slice_bounds-some_lists-start c = omega (arith, formed c)
 pub some_lists-requires : goal.some_lists-requires
 some_lists-requires c = let xs = c.args.condition.now in
     let f : uuid_form xs ≡ true = sym c.uuid_form.ensures
-    ∙ not-false c.uuid_form.result c.if-not-uuid_form.false in
+    ∙ c.if-not-uuid_form.false in
     rw (rest-whole 1 xs) (simp length-drop (omega (arith, uuid-bounds xs f)))
 
 pub returns : goal.returns
 returns c = uuid-of _ _ _ (sym c.uuid_form.ensures
-    ∙ not-false c.uuid_form.result c.if-not-uuid_form.false)
+    ∙ c.if-not-uuid_form.false)
     c.some_lists.ensures

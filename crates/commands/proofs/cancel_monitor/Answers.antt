@@ -4,7 +4,7 @@ use Rattle.commands.specs.OwedLaws.{cancel-handle}
 use Rattle.commands.specs.RanLaws.{cancel-done, cancel-failed}
 use mathlib.Core.Path.{refl}
 use native.Mathlib.Omega.{arith}
-use borrow.Author.Needs.{rules}
+use borrow.Author.Rules.{rules}
 use Rattle.commands.proofs.cancel_monitor.Goals as goal
 
 pub cancel-requires : goal.cancel-requires

@@ -3,7 +3,7 @@ use native.Mathlib.Omega.{arith}
 use Rattle.commands.specs.RepliesLaws.{answer-enable}
 use Rattle.commands.specs.RanLaws.{enable-done, enable-failed}
 use mathlib.Core.Path.{refl}
-use borrow.Author.Needs.{rules}
+use borrow.Author.Rules.{rules}
 use Rattle.commands.proofs.enable_filter.Goals as goal
 
 pub reply_done-requires : goal.reply_done-requires

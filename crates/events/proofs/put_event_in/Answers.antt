@@ -15,7 +15,7 @@ bounds-out-at-2 c = simp length-set (omega arith)
 
 pub bounds-out-at-3 : goal.bounds-out-at-3
 bounds-out-at-3 c = let a = c.args in
-    let k : length c.copy.new.0 ≡ length
+    let k : length c.copy.new.out ≡ length
     (set (set a.out.now a.at 255) (a.at + 1)
     (10 + length a.prefix.now)) = c.copy.auto.0 in
     let j : length (set (set a.out.now a.at 255) (a.at + 1) (10 + length a.prefix.now)) ≡ length
@@ -26,7 +26,7 @@ pub bounds-out-at-4 : goal.bounds-out-at-4
 bounds-out-at-4 c = let a = c.args in
     let x = c.copy in
     let y = c.copy-2 in
-    let e = kept-twice a.out.now a.at (length a.prefix.now) x.new.0 y.new.0 x.auto.0
+    let e = kept-twice a.out.now a.at (length a.prefix.now) x.new.out y.new.out x.auto.0
     y.auto.0 in
     omega (arith, e)
 
@@ -34,7 +34,7 @@ pub bounds-out-at-5 : goal.bounds-out-at-5
 bounds-out-at-5 c = let a = c.args in
     let x = c.copy in
     let y = c.copy-2 in
-    let e = kept-twice a.out.now a.at (length a.prefix.now) x.new.0 y.new.0 x.auto.0
+    let e = kept-twice a.out.now a.at (length a.prefix.now) x.new.out y.new.out x.auto.0
     y.auto.0 in
     simp length-set (omega (arith, e))
 
@@ -42,7 +42,7 @@ pub shape_of-out : goal.shape_of-out
 shape_of-out c = let a = c.args in
     let x = c.copy in
     let y = c.copy-2 in
-    let e = kept-twice a.out.now a.at (length a.prefix.now) x.new.0 y.new.0 x.auto.0
+    let e = kept-twice a.out.now a.at (length a.prefix.now) x.new.out y.new.out x.auto.0
     y.auto.0 in
     simp length-set (omega (arith, e))
 
@@ -50,11 +50,11 @@ pub returns : goal.returns
 returns c = let a = c.args in
     let n : ℕ = length a.prefix.now in
     let b = set (set a.out.now a.at 255) (a.at + 1) (10 + length a.prefix.now) in
-    let d = set c.copy.new.0 (a.at + 2 + n) 2 in
+    let d = set c.copy.new.out (a.at + 2 + n) 2 in
     let j : length (set (set a.out.now a.at 255) (a.at + 1) (10 + length a.prefix.now)) ≡ length
     a.out.now = simp length-set in
-    let k : length c.copy.new.0 ≡ length b = c.copy.auto.0 in
-    let h : length d ≡ length c.copy.new.0 = simp length-set in
+    let k : length c.copy.new.out ≡ length b = c.copy.auto.0 in
+    let h : length d ≡ length c.copy.new.out = simp length-set in
     let g : length (take 7 (drop 1 a.row.now)) ≡ 7 = simp (length-take, length-drop) (omega arith) in
     event-written a.out.now a.at a.prefix.now a.row.now a.state (omega arith) (omega arith)
     (put_of b (a.at + 2) a.prefix.now n (length b) c.copy.ensures.0 (omega arith)

@@ -28,7 +28,7 @@ loop-i-preserved c = let l = c.loop-i in
           (octets-known c.args.s.now (λ i. omega (
             arith,
             c.slice_known-1.given i,
-          ))) (omega arith) l.invariant.2 key.result key.ensures f.result f.new.0 f.new.1.0 _
+          ))) (omega arith) l.invariant.2 key.result key.ensures f.result f.new.table f.new.seen _
           (f.auto.0 ∙ table-long l.s l.invariant.2.long) f.auto.1.0 f.ensures.1 refl,
     )
 

@@ -2,7 +2,6 @@ use mathlib.Core.Path.{refl, sym, ap, ◌∙◌}
 use mathlib.Core.List.{List}
 use Prim.Native.Nat.{ℕ}
 use native.Mathlib.Omega.{arith}
-use borrow.Author.Tests.{not-true, not-false}
 use lib.ListN.{length, get_or-replicate}
 use Rattle.model.specs.Frames.{packet_of}
 use Rattle.model.specs.Layout.{most_monitors}
@@ -10,24 +9,24 @@ use Rattle.marks.specs.FieldsLaws.{fits-facts, marked-not, marked-done}
 use Rattle.marks.specs.AskedLaws.{all_asked}
 use Rattle.marks.specs.Admitted.{admitted}
 use Rattle.marks.specs.AdmittedLaws.{both-passes}
-use borrow.Author.Needs.{rules}
+use borrow.Author.Rules.{rules}
 use Rattle.marks.proofs.mark_all.Goals as goal
 
 pub returns-then-not-is_fit : goal.returns-then-not-is_fit
 returns-then-not-is_fit c = let a = c.args in
     marked-not a.acts.now a.s.now a.payload.now c.is_fit.ensures
-    (not-true c.is_fit.result c.if-not-is_fit.true)
+    (c.if-not-is_fit.true)
 
 pub find_keys-private-requires : goal.find_keys-private-requires
 find_keys-private-requires c = let a = c.args in
     let f = fits-facts (length a.acts.now) a.s.now a.payload.now
-    (sym c.is_fit.ensures ∙ not-false c.is_fit.result c.if-not-is_fit.false) in
+    (sym c.is_fit.ensures ∙ c.if-not-is_fit.false) in
     (refl, f.1, refl, f.2)
 
 pub mark_each-requires : goal.mark_each-requires
 mark_each-requires c = let a = c.args in
     let f = fits-facts (length a.acts.now) a.s.now a.payload.now
-    (sym c.is_fit.ensures ∙ not-false c.is_fit.result c.if-not-is_fit.false) in (
+    (sym c.is_fit.ensures ∙ c.if-not-is_fit.false) in (
       f.0,
       search rules,
       f.1,
@@ -39,13 +38,13 @@ mark_each-requires c = let a = c.args in
 pub admit_each-requires : goal.admit_each-requires
 admit_each-requires c = let a = c.args in
     let f = fits-facts (length a.acts.now) a.s.now a.payload.now
-    (sym c.is_fit.ensures ∙ not-false c.is_fit.result c.if-not-is_fit.false) in
+    (sym c.is_fit.ensures ∙ c.if-not-is_fit.false) in
     (omega (arith, f.0, c.mark_each.auto.0), f.1, f.2)
 
 pub returns : goal.returns
 returns c = let a = c.args in
     marked-done a.acts.now a.s.now a.payload.now c.is_fit.ensures
-    (not-false c.is_fit.result c.if-not-is_fit.false)
+    (c.if-not-is_fit.false)
     (c.admit_each.ensures
     ∙ ap (λ (l : List ℕ). admitted l a.s.now (packet_of a.payload.now)) c.mark_each.ensures
     ∙ both-passes _ a.s.now (packet_of a.payload.now)

@@ -1,5 +1,4 @@
 use Rattle.std.proofs.Common.{false, sym, refl, ◌∙◌}
-use borrow.Author.Tests.{not-true}
 use Rattle.model.specs.Frames.{packet_of}
 use Rattle.marks.specs.AskedLaws.{held_of, none-asked}
 use Rattle.packets.proofs.ask.Goals as goal
@@ -11,7 +10,7 @@ returns-then-zeros c = let a = c.args in
     let m = c.may_start-may in
     record {
       may = false;
-      shut = λ e. m.ensures (not-true _ c.if-not-may.true);
+      shut = λ e. m.ensures (c.if-not-may.true);
       octets = pre.0 ∙ none-asked a.held.now a.s.now (packet_of a.payload.now) pre.3
           (sym c.zeros.ensures ∙ c.if-zeros.true);
     }

@@ -1,5 +1,4 @@
 use Rattle.std.proofs.Common.{◌≡◌, ℕ, true, List, sym, ◌∙◌}
-use borrow.Author.Tests.{not-true, not-false}
 use Rattle.laws.specs.TestsLaws.{and_both, and-not-left, and-not-right}
 use Rattle.model.specs.Frames.{packet, packet_of, has_packet}
 use Rattle.model.specs.Block.{ready}
@@ -12,33 +11,33 @@ returns-then-not-ready c = let a = c.args in
     let l : List ℕ = a.payload.now in
     taken_not (packet (packet_of l)) (has_packet l) a.s.now a.out.now
     (and-not-left _ (has_packet l) (sym c.ready.ensures
-    ∙ not-true c.ready.result c.if-not-ready.true))
+    ∙ c.if-not-ready.true))
 
 pub returns-then-not-has_packet : goal.returns-then-not-has_packet
 returns-then-not-has_packet c = let a = c.args in
     let l : List ℕ = a.payload.now in
     taken_not (packet (packet_of l)) (has_packet l) a.s.now a.out.now
     (and-not-right (ready a.s.now a.out.now) (has_packet l)
-    (sym c.has_packet.ensures ∙ not-true c.has_packet.result c.if-not-has_packet.true))
+    (sym c.has_packet.ensures ∙ c.if-not-has_packet.true))
 
 pub step-requires : goal.step-requires
 step-requires c = let a = c.args in
     let l : List ℕ = a.payload.now in
     let f = ready-facts a.s.now a.out.now
-    (sym c.ready.ensures ∙ not-false c.ready.result c.if-not-ready.false) in (
+    (sym c.ready.ensures ∙ c.if-not-ready.false) in (
       f.0,
       f.1,
       packet-framed l
           (sym c.has_packet.ensures
-          ∙ not-false c.has_packet.result c.if-not-has_packet.false),
+          ∙ c.if-not-has_packet.false),
     )
 
 pub returns : goal.returns
 returns c = let a = c.args in
     let l : List ℕ = a.payload.now in
     let k : has_packet l ≡ true = (sym c.has_packet.ensures
-    ∙ not-false c.has_packet.result c.if-not-has_packet.false) in
+    ∙ c.if-not-has_packet.false) in
     taken-on (packet (packet_of l)) (has_packet l) a.s.now a.out.now
-    (and_both (sym c.ready.ensures ∙ not-false c.ready.result c.if-not-ready.false) k)
+    (and_both (sym c.ready.ensures ∙ c.if-not-ready.false) k)
     (c.step.ensures.1 k) c.step.auto.0 c.step.auto.1.1.0
     c.step.ensures.0

@@ -41,7 +41,7 @@ is_told-told-requires c = c.start_all-turn.auto.0 ∙ c.move_rows-reason.auto.0 
 pub put_told-r-requires : goal.put_told-r-requires
 put_told-r-requires c = let p = c.requires in
     let a = c.args in
-    let k : length c.start_all-turn.new.1.1.1.1.1.1.0 ≡ length
+    let k : length c.start_all-turn.new.out ≡ length
     a.out.now = c.start_all-turn.auto.1.1.1.1.1.1.0 in
     (omega (arith, c.start_all-turn.ensures.1, p.1), p.2)
 
@@ -52,7 +52,7 @@ returns c = let a = c.args in
     let s : List ℕ = a.s.now in
     let l : List ℕ = a.payload.now in
     let p : Packet = packet_of l in
-    let acts : List ℕ = c.ask.new.0 in
+    let acts : List ℕ = c.ask.new.acts in
     let held : List ℕ = c.held_in-held.result in
     let dev : ℕ = c.get64-dev.result / 256 in
     let n : ℕ = c.at_most-n.result in

@@ -1,7 +1,6 @@
 use Prim.Native.Nat.{◌+◌, ◌-◌, ◌*◌}
 use mathlib.Core.Path.{◌≡◌, refl, sym, ◌∙◌, subst}
 use native.Mathlib.Omega.{arith}
-use borrow.Author.Tests.{not-true, not-false}
 use Rattle.wholes.specs.Layout.{editions_at, editions_count_at}
 use Rattle.editions.specs.Block.{edition_size}
 use Rattle.prefixes.specs.LaidLaws.{Laid, laid-all, laid_more, laid-not, laid-other, laid-zeros}
@@ -14,14 +13,14 @@ pub returns-then-not-is_row : goal.returns-then-not-is_row
 returns-then-not-is_row c = let l = c.loop-i in
     let k = c.count_of-count.ensures.0 in
     laid-not c.args.s.now c.requires l.i (omega arith) (l.invariant.1 c.requires) c.is_row.ensures
-    (not-true _ c.if-not-is_row.true)
+    (c.if-not-is_row.true)
 
 pub loop-i-preserved : goal.loop-i-preserved
 loop-i-preserved c = let l = c.loop-i in
     let k = c.count_of-count.ensures.0 in (
       omega arith,
       λ n. laid_more c.args.s.now n l.i (omega arith) (l.invariant.1 n) c.is_row.ensures
-          (not-false _ c.if-not-is_row.false),
+          (c.if-not-is_row.false),
     )
 
 pub returns-then-wide-count : goal.returns-then-wide-count

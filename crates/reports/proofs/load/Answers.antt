@@ -2,7 +2,7 @@ use Rattle.reports.specs.ChoicesLaws.{load-so, load_full}
 use mathlib.Core.Path.{sym}
 use native.Mathlib.Omega.{arith}
 use lib.Seq.{length-take-le}
-use borrow.Author.Needs.{rules}
+use borrow.Author.Rules.{rules}
 use Rattle.reports.proofs.load.Goals as goal
 
 pub slice_bounds-load-end : goal.slice_bounds-load-end

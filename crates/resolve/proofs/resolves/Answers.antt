@@ -1,5 +1,4 @@
 use mathlib.Core.Path.{sym, ◌∙◌}
-use borrow.Author.Tests.{not-true, not-false}
 use Rattle.resolve.specs.Laws.{sized, by_key, by_form, by-hash}
 use Rattle.resolve.proofs.resolves.Goals as goal
 
@@ -8,21 +7,21 @@ returns-then-key-ne-KEY c = by_key _ _ c.if-key-ne-KEY.true
 
 pub returns-then-not-is_resolvable : goal.returns-then-not-is_resolvable
 returns-then-not-is_resolvable c = by_form _ _ c.if-key-ne-KEY.false
-    (sym c.is_resolvable.ensures ∙ not-true c.is_resolvable.result c.if-not-is_resolvable.true)
+    (sym c.is_resolvable.ensures ∙ c.if-not-is_resolvable.true)
 
 pub hash-requires : goal.hash-requires
-hash-requires c = sized _ (sym c.is_resolvable.ensures ∙ not-false c.is_resolvable.result c.if-not-is_resolvable.false)
+hash-requires c = sized _ (sym c.is_resolvable.ensures ∙ c.if-not-is_resolvable.false)
 
 pub hash_by-requires : goal.hash_by-requires
 hash_by-requires c = (
   c.if-key-ne-KEY.false,
   sized _ (sym c.is_resolvable.ensures
-      ∙ not-false c.is_resolvable.result c.if-not-is_resolvable.false),
+      ∙ c.if-not-is_resolvable.false),
 )
 
 pub returns : goal.returns
 returns c = by-hash _ _ c.if-key-ne-KEY.false
     (sym c.is_resolvable.ensures
-    ∙ not-false c.is_resolvable.result c.if-not-is_resolvable.false)
+    ∙ c.if-not-is_resolvable.false)
     c.hash.ensures
     c.hash_by.ensures

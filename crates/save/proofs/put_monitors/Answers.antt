@@ -4,7 +4,7 @@ use lib.ListN.{length-take, length-drop}
 use Rattle.save.specs.StepsTurns.{monitors-none, monitors-turn, part-monitor}
 use Rattle.save.specs.TextLaws.{length-monitors_text}
 use native.Mathlib.Omega.{arith}
-use borrow.Author.Needs.{rules}
+use borrow.Author.Rules.{rules}
 use Rattle.model.specs.Layout.{most_monitors}
 use Rattle.save.proofs.put_monitors.Goals as goal
 

@@ -4,7 +4,7 @@ use lib.ListN.{length-take, length-drop}
 use Rattle.save.specs.StepsTurns.{pairs-none, pairs-turn, part_pair}
 use Rattle.save.specs.TextLaws.{length-pairs_text}
 use native.Mathlib.Omega.{arith}
-use borrow.Author.Needs.{rules}
+use borrow.Author.Rules.{rules}
 use Rattle.save.proofs.put_pairs.Goals as goal
 
 pub loop-i-init : goal.loop-i-init

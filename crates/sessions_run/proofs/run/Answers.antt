@@ -1,6 +1,6 @@
 use mathlib.Core.Path.{refl}
 use native.Mathlib.Omega.{arith}
-use borrow.Author.Needs.{rules}
+use borrow.Author.Rules.{rules}
 use Rattle.sessions_run.proofs.run.Goals as goal
 
 pub loop-turns-init : goal.loop-turns-init

@@ -2,7 +2,7 @@ use mathlib.Core.Path.{◌≡◌, sym}
 use native.Mathlib.Omega.{arith}
 use lib.ListN.{length}
 use lib.Seq.{length-take-le}
-use borrow.Author.Needs.{rules}
+use borrow.Author.Rules.{rules}
 use Rattle.shown.proofs.of_read.Goals as goal
 
 pub slice_bounds-of_octets-end : goal.slice_bounds-of_octets-end

@@ -1,7 +1,6 @@
 use native.Mathlib.Omega.{arith}
 use mathlib.Core.Path.{sym, ◌∙◌}
 use lib.Seq.{length-take-le}
-use borrow.Author.Tests.{not-true, not-false}
 use Rattle.model.specs.Layout.{block_size}
 use Rattle.snapshots.specs.AcceptedLaws.{whole-short, whole-unsound, whole-unprefixed, whole-sound}
 use Rattle.snapshots.proofs.is_sound.Goals as goal
@@ -15,15 +14,15 @@ slice_bounds-is_loose-end c = sym (length-take-le block_size c.args.s.now (let z
 pub returns-then-not-is_loose : goal.returns-then-not-is_loose
 returns-then-not-is_loose c = whole-unsound c.args.s.now c.if-s-ne-SIZE.false
     (λ k. omega (arith, c.shared_slice_known-1.given k))
-    (sym c.is_loose.ensures ∙ not-true _ c.if-not-is_loose.true)
+    (sym c.is_loose.ensures ∙ c.if-not-is_loose.true)
 
 pub returns-then-not-is_prefixed : goal.returns-then-not-is_prefixed
 returns-then-not-is_prefixed c = whole-unprefixed c.args.s.now c.if-s-ne-SIZE.false
     (λ k. omega (arith, c.shared_slice_known-1.given k)) c.is_prefixed.ensures
-    (not-true _ c.if-not-is_prefixed.true)
+    (c.if-not-is_prefixed.true)
 
 pub returns : goal.returns
 returns c = whole-sound c.args.s.now c.if-s-ne-SIZE.false
     (λ k. omega (arith, c.shared_slice_known-1.given k))
-    (sym c.is_loose.ensures ∙ not-false _ c.if-not-is_loose.false)
-    c.is_prefixed.ensures (not-false _ c.if-not-is_prefixed.false) c.is_indexed.ensures
+    (sym c.is_loose.ensures ∙ c.if-not-is_loose.false)
+    c.is_prefixed.ensures (c.if-not-is_prefixed.false) c.is_indexed.ensures

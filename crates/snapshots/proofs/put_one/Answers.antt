@@ -14,7 +14,7 @@ slice_bounds-put_text-end c = let k = c.at_most-k.ensures.1 in
     c.at_most-k.ensures.0 refl
     (place_of c.args.i + 5 + c.at_most-k.result - place_of c.args.i) (omega arith)
     c.copy.ensures.0 c.copy.ensures.1 in
-    sym (length-take-le (6 + c.at_most-k.result) c.copy.new.0 (let z = w.1 in omega arith))
+    sym (length-take-le (6 + c.at_most-k.result) c.copy.new.out (let z = w.1 in omega arith))
 
 pub returns : goal.returns
 unfolding length_at
@@ -24,6 +24,6 @@ returns c = let k = c.at_most-k.ensures.1 in
     (place_of c.args.i + 5 + c.at_most-k.result - place_of c.args.i) (omega arith)
     c.copy.ensures.0 c.copy.ensures.1 in
     line-put c.args.s.now c.args.out.now c.args.i c.args.at c.at_most-k.result
-    (take (6 + c.at_most-k.result) c.copy.new.0) c.at_most-k.ensures.0 w.0
-    (length-take-le (6 + c.at_most-k.result) c.copy.new.0 (let z = w.1 in omega arith))
+    (take (6 + c.at_most-k.result) c.copy.new.out) c.at_most-k.ensures.0 w.0
+    (length-take-le (6 + c.at_most-k.result) c.copy.new.out (let z = w.1 in omega arith))
     (omega arith) c.put_text.ensures.0 c.put_text.ensures.1

@@ -1,5 +1,4 @@
 use mathlib.Core.Path.{◌∙◌}
-use borrow.Author.Tests.{not-true, not-false}
 use Rattle.snapshots.specs.AcceptedLaws.{restored-not, restored-blank, restored-in}
 use Rattle.snapshots.proofs.read_image.Goals as goal
 
@@ -10,9 +9,9 @@ pub returns-then-not-image : goal.returns-then-not-image
 returns-then-not-image c = let k = c.take_image-image.auto.1.0 in
     let l = c.if-s-ne-SIZE.false in
     restored-blank c.args.text.now c.args.s.now l c.take_image-image.ensures
-    (not-true c.take_image-image.result c.if-not-image.true) (k ∙ l)
+    (c.if-not-image.true) (k ∙ l)
     c.put_blank.ensures
 
 pub returns-else-not-image : goal.returns-else-not-image
 returns-else-not-image c = restored-in c.args.text.now c.args.s.now c.if-s-ne-SIZE.false c.take_image-image.ensures
-    (not-false c.take_image-image.result c.if-not-image.false)
+    (c.if-not-image.false)

@@ -3,7 +3,7 @@ use Rattle.snapshots.specs.StoredLaws.{rest-start, rest-turn, rest-stays, rest_e
 use mathlib.Core.Path.{refl}
 use Prim.Native.Nat.{◌-◌}
 use native.Mathlib.Omega.{arith}
-use borrow.Author.Needs.{rules}
+use borrow.Author.Rules.{rules}
 use Rattle.snapshots.proofs.store_lines.Goals as goal
 
 pub loop-at-init : goal.loop-at-init

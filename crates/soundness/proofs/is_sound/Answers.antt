@@ -1,6 +1,5 @@
 use native.Mathlib.Omega.{arith}
 use mathlib.Core.Path.{sym, ◌∙◌}
-use borrow.Author.Tests.{not-false}
 use Rattle.soundness.specs.ThereLaws.{loose-size, loose-few}
 use Rattle.soundness.specs.SameLaws.{whole-loose, whole-others}
 use Rattle.soundness.proofs.is_sound.Goals as goal
@@ -11,11 +10,11 @@ returns-then-not-is_loose c = whole-loose c.args.s.now
 
 pub bounds-s-5224 : goal.bounds-s-5224
 bounds-s-5224 c = let n = loose-size c.args.s.now
-    (sym c.is_loose.ensures ∙ not-false _ c.if-not-is_loose.false) in
+    (sym c.is_loose.ensures ∙ c.if-not-is_loose.false) in
     omega arith
 
 pub are_others-requires : goal.are_others-requires
-are_others-requires c = let l = sym c.is_loose.ensures ∙ not-false _ c.if-not-is_loose.false in (
+are_others-requires c = let l = sym c.is_loose.ensures ∙ c.if-not-is_loose.false in (
       loose-size
           c.args.s.now l,
       let n = loose-few

@@ -5,7 +5,7 @@ use mathlib.Core.List.{◌++◌}
 use lib.ListN.{length, take}
 use lib.Seq.{length-take-le}
 use Rattle.stays.specs.RowsLaws.{cut-long}
-use borrow.Author.Needs.{rules}
+use borrow.Author.Rules.{rules}
 use Rattle.stays.proofs.append.Goals as goal
 
 pub slice_bounds-octets-end : goal.slice_bounds-octets-end

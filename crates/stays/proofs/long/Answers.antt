@@ -1,4 +1,4 @@
-use borrow.Author.Needs.{rules}
+use borrow.Author.Rules.{rules}
 use mathlib.Core.Path.{◌≡◌}
 use native.Mathlib.Omega.{arith}
 use Rattle.texts.specs.Text.{told}

@@ -1,7 +1,6 @@
 use Rattle.steps.specs.SteppedLaws.{taken_not, taken-on, ready-facts, within-put}
 use Rattle.model.specs.Frames.{tick}
 use Rattle.laws.specs.TestsLaws.{and_both, and-not-left}
-use borrow.Author.Tests.{not-true, not-false}
 use mathlib.Core.Bool.{true}
 use mathlib.Core.List.{[]}
 use Rattle.laws.specs.PutLaws.{put-nil}
@@ -13,18 +12,18 @@ use Rattle.ticks.proofs.tick.Goals as goal
 pub returns-then-not-ready : goal.returns-then-not-ready
 returns-then-not-ready c = let a = c.args in
     taken_not tick true a.s.now a.out.now
-    (and-not-left _ true (sym c.ready.ensures ∙ not-true c.ready.result c.if-not-ready.true))
+    (and-not-left _ true (sym c.ready.ensures ∙ c.if-not-ready.true))
 
 pub bounds-s-5224 : goal.bounds-s-5224
 bounds-s-5224 c = let a = c.args in
     let f = ready-facts a.s.now a.out.now
-    (sym c.ready.ensures ∙ not-false c.ready.result c.if-not-ready.false) in
+    (sym c.ready.ensures ∙ c.if-not-ready.false) in
     omega (arith, f.0)
 
 pub returns-then-s-eq0 : goal.returns-then-s-eq0
 returns-then-s-eq0 c = let a = c.args in
     taken-on tick true a.s.now a.out.now
-    (and_both (sym c.ready.ensures ∙ not-false c.ready.result c.if-not-ready.false) refl)
+    (and_both (sym c.ready.ensures ∙ c.if-not-ready.false) refl)
     (λ m z q h. quiet a.s.now a.out.now m z q h c.if-s-eq0.true c.advance.ensures)
     c.advance.auto.0 refl
     (within-put a.out.now [] (sym (put-nil a.out.now 0)) refl (omega arith))
@@ -32,11 +31,11 @@ returns-then-s-eq0 c = let a = c.args in
 pub tick_in-requires : goal.tick_in-requires
 tick_in-requires c = let a = c.args in
     ready-facts a.s.now a.out.now
-    (sym c.ready.ensures ∙ not-false c.ready.result c.if-not-ready.false)
+    (sym c.ready.ensures ∙ c.if-not-ready.false)
 
 pub returns : goal.returns
 returns c = let a = c.args in
     taken-on tick true a.s.now a.out.now
-    (and_both (sym c.ready.ensures ∙ not-false c.ready.result c.if-not-ready.false) refl)
+    (and_both (sym c.ready.ensures ∙ c.if-not-ready.false) refl)
     c.tick_in.ensures.0 c.tick_in.auto.0 c.tick_in.auto.1.0
     c.tick_in.ensures.1

@@ -9,7 +9,7 @@ use Rattle.ticks.proofs.tick_in.Goals as goal
 
 pub bounds-s-5224-2 : goal.bounds-s-5224-2
 bounds-s-5224-2 c = let a = c.args in
-    let l = same_len_mid pairs_at pairs_size a.s.now c.tick_pairs-turn.new.0
+    let l = same_len_mid pairs_at pairs_size a.s.now c.tick_pairs-turn.new.t
     c.tick_pairs-turn.auto.0 in
     omega (
       arith,
@@ -20,9 +20,9 @@ bounds-s-5224-2 c = let a = c.args in
 pub shape_of-s : goal.shape_of-s
 shape_of-s c = let a = c.args in
     c.advance.auto.0
-    ∙ length-set (put_mid pairs_at pairs_size a.s.now c.tick_pairs-turn.new.0) count_at
+    ∙ length-set (put_mid pairs_at pairs_size a.s.now c.tick_pairs-turn.new.t) count_at
     c.tick_pairs-turn.result.kept
-    ∙ same_len_mid pairs_at pairs_size a.s.now c.tick_pairs-turn.new.0
+    ∙ same_len_mid pairs_at pairs_size a.s.now c.tick_pairs-turn.new.t
     c.tick_pairs-turn.auto.0
 
 pub returns : goal.returns

@@ -1,4 +1,3 @@
-use borrow.Author.Tests.{not-true, not-false}
 use mathlib.Core.Path.{refl, ◌∙◌, sym}
 use Prim.Native.Nat.{◌-◌}
 use Rattle.totals.specs.TwoLaws.{every-two-step, every-two-stop, every-two-end}
@@ -11,7 +10,7 @@ loop-i-init c = (omega arith, refl)
 
 pub returns-then-not-fits : goal.returns-then-not-fits
 returns-then-not-fits c = every-two-stop row_fits _ _ c.loop-i.i _ (omega arith)
-    (omega arith) (sym c.fits.ensures ∙ not-true _ c.if-not-fits.true)
+    (omega arith) (sym c.fits.ensures ∙ c.if-not-fits.true)
     ∙ c.loop-i.invariant.1
 
 pub loop-i-smaller : goal.loop-i-smaller
@@ -21,7 +20,7 @@ pub loop-i-preserved : goal.loop-i-preserved
 loop-i-preserved c = (
   omega arith,
   every-two-step row_fits _ _ c.loop-i.i _
-      (omega arith) (omega arith) (sym c.fits.ensures ∙ not-false _ c.if-not-fits.false)
+      (omega arith) (omega arith) (sym c.fits.ensures ∙ c.if-not-fits.false)
       ∙ c.loop-i.invariant.1,
 )
 

@@ -6,7 +6,7 @@ use Rattle.laws.specs.PutLaws.{put-nil}
 use Rattle.totals.specs.TwoLaws.{every-two-at}
 use Rattle.totals.specs.Table.{row_fits, row_sum}
 use native.Mathlib.Omega.{arith}
-use borrow.Author.Needs.{rules}
+use borrow.Author.Rules.{rules}
 use Rattle.totals.proofs.all_summed.Goals as goal
 
 pub loop-i-init : goal.loop-i-init

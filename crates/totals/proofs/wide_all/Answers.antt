@@ -5,7 +5,7 @@ use lib.ListN.{length, replicate}
 use Rattle.laws.specs.PutLaws.{put-nil}
 use Rattle.totals.specs.Table.{empty, table_rows}
 use Rattle.totals.specs.GainsLaws.{wide-turn, wide-end}
-use borrow.Author.Needs.{rules}
+use borrow.Author.Rules.{rules}
 use Rattle.totals.proofs.wide_all.Goals as goal
 
 pub no_rows-rows-requires : goal.no_rows-rows-requires

@@ -3,7 +3,7 @@ use native.Mathlib.Omega.{arith}
 use lib.ListN.{length}
 use Rattle.totals.specs.Gains.{wide_row}
 use Rattle.totals.specs.GainsLaws.{gain-within, gain-past}
-use borrow.Author.Needs.{rules}
+use borrow.Author.Rules.{rules}
 use Rattle.totals.proofs.wide_at.Goals as goal
 
 pub returns-then-i-lt-TABLE : goal.returns-then-i-lt-TABLE

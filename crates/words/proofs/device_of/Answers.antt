@@ -1,5 +1,5 @@
 use Rattle.words.specs.Pieces.{device_of}
-use borrow.Author.Needs.{rules}
+use borrow.Author.Rules.{rules}
 use Rattle.words.proofs.device_of.Goals as goal
 
 pub returns : goal.returns

@@ -4,7 +4,7 @@ use Rattle.words.specs.SaysLaws.{same}
 use Rattle.words.specs.PiecesLaws.{told-cut}
 use lib.ListN.{length}
 use lib.Seq.{length-take-le}
-use borrow.Author.Needs.{rules}
+use borrow.Author.Rules.{rules}
 use Rattle.words.proofs.text.Goals as goal
 
 pub slice_bounds-octets-end : goal.slice_bounds-octets-end

@@ -3,7 +3,6 @@ use Rattle.advert.specs.CostLaws.{count-all, count_none, count-hit, count-miss, 
 use Rattle.advert.specs.CostMostLaws.{compared-most}
 use Rattle.laws.specs.Loops.{some}
 use Rattle.std.proofs.Common.{◌-◌, sym, ap, ◌∙◌, arith}
-use borrow.Author.Tests.{not-true}
 use Rattle.advert.proofs.cost.some_cost.Goals as goal
 
 pub loop-part-init : goal.loop-part-init
@@ -53,7 +52,7 @@ returns-then-not-has_more c = let l = c.loop-part in
     let p = c.next_section-part.ensures in
     let n = c.if-part-eq0.false in
     let y = sym c.compare-c.ensures.0 ∙ c.if-c.false in
-    let z = c.has_more.ensures (not-true _ c.if-not-has_more.true) in (
+    let z = c.has_more.ensures (c.if-not-has_more.true) in (
       tried-done _ _ _ _ _ _ _ (tried-miss _ _ _ _ _ _ _ l.invariant.1 p n y) z,
       count-done _ _ _ _ _ _ _ _ _
           (count-miss _ _ _ _ _ _ _ _ _ l.invariant.2 p n c.compare-c.ensures.1 y) z,

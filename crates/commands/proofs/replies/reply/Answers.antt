@@ -5,7 +5,7 @@ use lib.ListN.{length, length-set}
 use Rattle.commands.proofs.replies.reply.Goals as goal
 
 pub bounds-out-6 : goal.bounds-out-6
-bounds-out-6 c = let e : length c.put_head.new.0 ≡ length
+bounds-out-6 c = let e : length c.put_head.new.out ≡ length
     c.args.out.now = c.out-1.given in
     simp length-set (omega arith)
 

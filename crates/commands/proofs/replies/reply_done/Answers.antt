@@ -11,7 +11,7 @@ pub put_head-requires : goal.put_head-requires
 put_head-requires c = (omega arith, omega (arith, c.answer_of.ensures ∙ c.requires.1))
 
 pub bounds-out-6 : goal.bounds-out-6
-bounds-out-6 c = let e : length c.put_head.new.0 ≡ length c.args.out.now = c.out-1.given in
+bounds-out-6 c = let e : length c.put_head.new.out ≡ length c.args.out.now = c.out-1.given in
     simp length-set (omega arith)
 
 pub returns : goal.returns

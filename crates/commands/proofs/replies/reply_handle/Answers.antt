@@ -8,11 +8,11 @@ use lib.ListN.{length, length-set}
 use Rattle.commands.proofs.replies.reply_handle.Goals as goal
 
 pub bounds-out-6 : goal.bounds-out-6
-bounds-out-6 c = let e : length c.put_head.new.0 ≡ length c.args.out.now = c.out-1.given in
+bounds-out-6 c = let e : length c.put_head.new.out ≡ length c.args.out.now = c.out-1.given in
     simp length-set (omega arith)
 
 pub bounds-out-7 : goal.bounds-out-7
-bounds-out-7 c = let e : length c.put_head.new.0 ≡ length c.args.out.now = c.out-1.given in
+bounds-out-7 c = let e : length c.put_head.new.out ≡ length c.args.out.now = c.out-1.given in
     simp length-set (omega arith)
 
 pub returns : goal.returns

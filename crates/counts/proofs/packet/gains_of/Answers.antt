@@ -30,7 +30,7 @@ returns c = let a = c.args in
     let s : List ℕ = a.s.now in
     let l : List ℕ = a.payload.now in
     let p = packet_of l in
-    let acts : List ℕ = c.mark_all.new.0 in
+    let acts : List ℕ = c.mark_all.new.acts in
     let dev : ℕ = c.get64-dev.result / 256 in
     let n : ℕ = c.at_most-n.result in
     let f : 10 + get_or l 8 0 ≤ length l = c.requires.1.0 in

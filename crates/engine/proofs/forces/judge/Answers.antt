@@ -10,7 +10,7 @@ use Rattle.engine.proofs.forces.judge.Goals as goal
 
 pub slice_bounds-judge-end-2 : goal.slice_bounds-judge-end-2
 slice_bounds-judge-end-2 c = let k = c.turn_to.auto.0 in
-    sym (length-take-le block_size c.turn_to.new.0 (omega arith))
+    sym (length-take-le block_size c.turn_to.new.s (omega arith))
 
 pub judge-r-requires : goal.judge-r-requires
 unfolding held_whole
@@ -18,7 +18,7 @@ judge-r-requires c = (
       head-core c.args.s.now c.requires.1 c.requires.0
           c.starts-begins.result (c.get32.result + 1) (ap (λ k. k + 1)
           (loose-stands c.args.s.now c.requires.1 c.requires.0 c.get32.ensures))
-          c.turn_to.new.0 c.turn_to.ensures,
+          c.turn_to.new.s c.turn_to.ensures,
       omega
           arith,
     )
@@ -30,6 +30,6 @@ returns c = let j = c.judge-r in
     called-in c.args.s.now c.requires.1 c.requires.0 octets c.args.frame.now c.args.out.now
     c.starts-begins.result (n.result + 1)
     (ap (λ k. k + 1) (loose-stands c.args.s.now c.requires.1 c.requires.0 n.ensures))
-    c.starts-begins.ensures c.turn_to.new.0 j.new.0 j.new.1.1.0 _ j.result
+    c.starts-begins.ensures c.turn_to.new.s j.new.s j.new.out _ j.result
     c.get32-reached.result c.turn_to.ensures j.ensures c.get32-reached.ensures
     c.turn_to-2.ensures

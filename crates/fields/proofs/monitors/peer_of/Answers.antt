@@ -1,5 +1,5 @@
 use Rattle.fields.specs.Monitors.{peer_of}
-use borrow.Author.Needs.{rules}
+use borrow.Author.Rules.{rules}
 use Rattle.fields.proofs.monitors.peer_of.Goals as goal
 
 pub returns : goal.returns

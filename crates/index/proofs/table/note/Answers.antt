@@ -8,7 +8,7 @@ use Rattle.index.proofs.table.note.Goals as goal
 pub returns-then-j-k : goal.returns-then-j-k
 returns-then-j-k c = (
       omega arith,
-      λ es d w s e. subst (λ x. Tabled x (c.args.k + 1) c.put_entry.new.0)
+      λ es d w s e. subst (λ x. Tabled x (c.args.k + 1) c.put_entry.new.table)
           (ap (with_entry es d) c.bit_of-bit.ensures
           ∙ sym (noted-new d c.args.h s es c.args.k c.args.table.now w e c.place-j.ensures.1
           c.if-j-k.true)) (c.put_entry.ensures es d w s e),
@@ -17,7 +17,7 @@ returns-then-j-k c = (
 pub returns : goal.returns
 returns c = (
       omega arith,
-      λ es d w s e. subst (λ x. Tabled x c.args.k c.put_bit.new.0)
+      λ es d w s e. subst (λ x. Tabled x c.args.k c.put_bit.new.table)
           (ap (with_bit es c.place-j.result) c.bit_of-bit.ensures
           ∙ sym (noted-old d c.args.h s es c.args.k c.args.table.now w e
           c.place-j.ensures.1 (omega arith)))

@@ -9,4 +9,4 @@ pub returns : goal.returns
 returns c = let from = entry_size * c.args.k in
     let f = c.put_row in
     entry-written c.args.table.now c.args.k c.args.dev c.args.bit (from + entry_size - from)
-    c.requires.1 (omega arith) (omega arith) f.new.0 _ f.ensures refl
+    c.requires.1 (omega arith) (omega arith) f.new.row _ f.ensures refl

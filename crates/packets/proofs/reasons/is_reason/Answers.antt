@@ -1,5 +1,4 @@
 use Rattle.std.proofs.Common.{sym, ◌∙◌}
-use borrow.Author.Tests.{not-true, not-false}
 use Rattle.marks.specs.FieldsLaws.{framed-facts}
 use Rattle.packets.specs.AlikeLaws.{no_block, no_row, no-frame, reason-at}
 use Rattle.packets.proofs.reasons.is_reason.Goals as goal
@@ -15,17 +14,17 @@ returns-then-i-ge-PAIRS c = let a = c.args in
 pub returns-then-not-is_framed : goal.returns-then-not-is_framed
 returns-then-not-is_framed c = let a = c.args in
     no-frame a.s.now a.i a.payload.now a.a
-    (sym c.is_framed.ensures ∙ not-true _ c.if-not-is_framed.true)
+    (sym c.is_framed.ensures ∙ c.if-not-is_framed.true)
 
 pub is_reason_in-requires : goal.is_reason_in-requires
 is_reason_in-requires c = (
       c.if-s-ne-SIZE.false,
       c.if-i-ge-PAIRS.false,
       framed-facts c.args.payload.now
-          (sym c.is_framed.ensures ∙ not-false _ c.if-not-is_framed.false),
+          (sym c.is_framed.ensures ∙ c.if-not-is_framed.false),
     )
 
 pub returns : goal.returns
 returns c = let a = c.args in
     c.is_reason_in.ensures ∙ reason-at a.s.now a.i a.payload.now a.a c.if-s-ne-SIZE.false
-    c.if-i-ge-PAIRS.false (sym c.is_framed.ensures ∙ not-false _ c.if-not-is_framed.false)
+    c.if-i-ge-PAIRS.false (sym c.is_framed.ensures ∙ c.if-not-is_framed.false)

@@ -2,7 +2,6 @@ use Rattle.std.proofs.Common.{◌≡◌, ◌+◌, ◌-◌, refl, ◌∙◌, arit
 use Rattle.model.specs.Layout.{most_monitors}
 use Rattle.model.specs.Frames.{packet_of}
 use Rattle.steps.specs.SteppedLaws.{rest-further}
-use borrow.Author.Tests.{not-true}
 use Rattle.packets.specs.BeginsLaws.{turns-idle}
 use Rattle.packets.specs.HandlesLaws.{turns-none, turns-turn}
 use Rattle.packets.proofs.starts.start_all.Goals as goal
@@ -14,7 +13,7 @@ returns-then-not-is_start c = let a = c.args in (
       refl,
       λ m w g. turns-idle m (packet_of a.payload.now) w.measured g.sender.sent a.acts.now a.under.now
           a.dev most_monitors a.s.now a.out.now a.n (omega arith) w.block w.count g
-          (c.is_start.ensures (not-true _ c.if-not-is_start.true)),
+          (c.is_start.ensures (c.if-not-is_start.true)),
     )
 
 pub loop-h-init : goal.loop-h-init

@@ -7,8 +7,8 @@ use Rattle.packets.proofs.starts.start_full.Goals as goal
 pub returns : goal.returns
 returns c = let a = c.args in
     let out : List ℕ = a.out.now in
-    let o : List ℕ = c.put_event-stop.new.1.1.1.0 in
-    let u : List ℕ = c.put_event-start.new.1.1.1.0 in
+    let o : List ℕ = c.put_event-stop.new.out in
+    let u : List ℕ = c.put_event-start.new.out in
     let l : length o ≡ length out = c.put_event-stop.auto.1.1.1.0 in
     let stop : ℕ = c.put_event-stop.result in
     let start : ℕ = c.put_event-start.result in

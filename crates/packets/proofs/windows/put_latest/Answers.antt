@@ -26,7 +26,7 @@ returns c = let a = c.args in
     let d : List ℕ = take (9 + n - 9) (drop 9 l) in
     let b : List ℕ = set (set s a.at (get_or l 0 0)) (a.at + 1) (get_or l 8 0) in
     let j : length b ≡ length s = simp length-set in
-    let k3 : length c.copy.new.0 ≡ length b = c.copy.auto.0 in
+    let k3 : length c.copy.new.out ≡ length b = c.copy.auto.0 in
     let k9 : length (drop 9 l) ≡ length l - 9 = length-drop 9 l in
     let ld : length d ≡ 9 + n - 9 = length-take-le (9 + n - 9) (drop 9 l) (omega (
       arith,
@@ -38,8 +38,8 @@ returns c = let a = c.args in
       arith,
       c.requires.0,
       c.requires.1.1,
-    )) c.copy.ensures.1) (put_of c.copy.new.0 (a.at + 2 + n)
-    (replicate (most_data - n) 0) (most_data - n) (length c.copy.new.0)
+    )) c.copy.ensures.1) (put_of c.copy.new.out (a.at + 2 + n)
+    (replicate (most_data - n) 0) (most_data - n) (length c.copy.new.out)
     c.fill.ensures.0 (omega (
       arith,
       c.requires.0,

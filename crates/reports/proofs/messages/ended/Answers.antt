@@ -1,5 +1,5 @@
 use Rattle.reports.specs.Texts.{is_ended}
-use borrow.Author.Needs.{rules}
+use borrow.Author.Rules.{rules}
 use Rattle.reports.proofs.messages.ended.Goals as goal
 
 pub returns-in-Read : goal.returns-in-Read

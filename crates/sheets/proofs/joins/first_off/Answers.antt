@@ -1,10 +1,9 @@
-use borrow.Author.Needs.{rules}
+use borrow.Author.Rules.{rules}
 use native.Mathlib.Omega.{arith}
 use native.Mathlib.Nat.{zero-add}
 use Prim.Native.Nat.{◌-◌}
 use mathlib.Core.Path.{◌≡◌, ◌∙◌, sym}
 use lib.ListN.{length}
-use borrow.Author.Tests.{not-true, not-false}
 use Rattle.sheets.specs.JoinsLaws.{off-step, off-stop, off-end}
 use Rattle.sheets.proofs.joins.first_off.Goals as goal
 
@@ -20,7 +19,7 @@ returns-then-not-one c = let x = c.args in
     let n : length x.t1 ≡ 16 = search rules in
     let m : length x.t2 ≡ 16 = search rules in
     off-stop x.t1 x.t2 l.h _ (omega arith) (omega arith)
-    (sym c.join-one.ensures.0 ∙ not-true _ c.if-not-one.true) l.invariant.1
+    (sym c.join-one.ensures.0 ∙ c.if-not-one.true) l.invariant.1
 
 pub loop-h-smaller : goal.loop-h-smaller
 loop-h-smaller c = omega arith
@@ -32,7 +31,7 @@ loop-h-preserved c = let x = c.args in
     let m : length x.t2 ≡ 16 = search rules in (
       omega arith,
       off-step x.t1 x.t2 l.h _ (omega arith) (omega arith)
-          (sym c.join-one.ensures.0 ∙ not-false _ c.if-not-one.false) l.invariant.1,
+          (sym c.join-one.ensures.0 ∙ c.if-not-one.false) l.invariant.1,
     )
 
 pub returns : goal.returns

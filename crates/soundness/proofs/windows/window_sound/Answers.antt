@@ -1,12 +1,11 @@
 use Rattle.soundness.specs.CodeLaws.{window-idle}
 use Rattle.soundness.specs.EarlyLaws.{window-late, window-many, window-sum}
 use native.Mathlib.Omega.{arith}
-use borrow.Author.Tests.{not-true}
 use Rattle.soundness.proofs.windows.window_sound.Goals as goal
 
 pub returns-then-not-runs : goal.returns-then-not-runs
 returns-then-not-runs c = let a = c.args in
-    window-idle a.position a.sampling a.ticks a.packets a.sum (not-true _ c.if-not-runs.true)
+    window-idle a.position a.sampling a.ticks a.packets a.sum (c.if-not-runs.true)
 
 pub returns-then-sampling-ticks : goal.returns-then-sampling-ticks
 returns-then-sampling-ticks c = let a = c.args in

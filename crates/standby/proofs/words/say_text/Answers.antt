@@ -2,7 +2,7 @@ use lib.ListN.{length}
 use lib.Seq.{length-take-le}
 use mathlib.Core.Path.{◌≡◌, sym}
 use native.Mathlib.Omega.{arith}
-use borrow.Author.Needs.{rules}
+use borrow.Author.Rules.{rules}
 use Rattle.standby.proofs.words.say_text.Goals as goal
 
 pub slice_bounds-octets-end : goal.slice_bounds-octets-end

@@ -9,16 +9,16 @@ use Rattle.texts.proofs.words.said.Goals as goal
 
 pub slice_bounds-digits-end : goal.slice_bounds-digits-end
 slice_bounds-digits-end c = let w = digits-so c.args.n c.write-k.result _
-    c.write-k.new.0 (omega arith) c.write-k.ensures in
+    c.write-k.new.text (omega arith) c.write-k.ensures in
     omega (arith, w.1)
 
 pub slice_bounds-with-end : goal.slice_bounds-with-end
-slice_bounds-with-end c = let w = digits-so c.args.n c.write-k.result _ c.write-k.new.0 (omega arith)
+slice_bounds-with-end c = let w = digits-so c.args.n c.write-k.result _ c.write-k.new.text (omega arith)
     c.write-k.ensures in
     sym (length-take-le _ _ (omega (arith, w.1)))
 
 pub returns : goal.returns
-returns c = let w = digits-so c.args.n c.write-k.result _ c.write-k.new.0 (omega arith)
+returns c = let w = digits-so c.args.n c.write-k.result _ c.write-k.new.text (omega arith)
     c.write-k.ensures in
     said-so (told c.args.t) c.args.words.now (Rattle.decimals.specs.Decimals.decimal c.args.n)
     c.with-before.ensures

@@ -3,7 +3,7 @@ use Rattle.texts.specs.Text.{told}
 use mathlib.Core.Path.{sym}
 use lib.Seq.{length-take-le}
 use native.Mathlib.Omega.{arith}
-use borrow.Author.Needs.{rules}
+use borrow.Author.Rules.{rules}
 use Rattle.texts.proofs.words.with.Goals as goal
 
 pub slice_bounds-copy-end-2 : goal.slice_bounds-copy-end-2
@@ -12,6 +12,6 @@ slice_bounds-copy-end-2 c = sym (length-take-le _ _ (omega (arith, c.least-at.en
 pub returns : goal.returns
 unfolding told
 returns c = let a = c.args in
-    with-so a.t.octets a.words.now c.copy.new.0 a.t.count c.least-at.result
+    with-so a.t.octets a.words.now c.copy.new.out a.t.count c.least-at.result
     c.least-n.result c.copy.result (search rules) c.least-at.ensures
     c.least-n.ensures c.copy.ensures.0 c.copy.ensures.1

@@ -5,7 +5,6 @@ use Rattle.ticks.specs.CalmLaws.{part_length}
 use Prim.Native.Nat.{◌-◌}
 use mathlib.Core.Path.{◌≡◌, refl, ◌∙◌}
 use native.Mathlib.Omega.{arith}
-use borrow.Author.Tests.{not-true, not-false}
 use Rattle.ticks.specs.CalmLaws.{calm-none, calm_more, calm-left, calm-turn}
 use Rattle.ticks.proofs.calm.calm_rows.Goals as goal
 
@@ -20,7 +19,7 @@ calm_row-requires c = let p = c.requires in
 pub shape_of-t-then-not-calm_row : goal.shape_of-t-then-not-calm_row
 shape_of-t-then-not-calm_row c = let l = c.loop-i in
     let r = c.calm_row in
-    same_len_mid (pair_size * l.i) (pair_size * l.i + pair_size - pair_size * l.i) l.t r.new.0 r.auto.0
+    same_len_mid (pair_size * l.i) (pair_size * l.i + pair_size - pair_size * l.i) l.t r.new.r r.auto.0
     ∙ l.invariant.2
 
 pub returns-then-not-calm_row : goal.returns-then-not-calm_row
@@ -29,7 +28,7 @@ returns-then-not-calm_row c = let a = c.args in
     let l = c.loop-i in
     let r = c.calm_row in
     let e = calm-left a.intervals.now a.periods.now l.t l.i (omega arith) (l.invariant.2 ∙ p.2) refl
-    (r.ensures.0 (not-true _ c.if-not-calm_row.true)) in
+    (r.ensures.0 (c.if-not-calm_row.true)) in
     (l.invariant.0, l.invariant.1, rw e l.invariant.3)
 
 pub loop-i-smaller : goal.loop-i-smaller
@@ -42,11 +41,11 @@ loop-i-preserved c = let a = c.args in
     let r = c.calm_row in (
       omega arith,
       omega arith,
-      same_len_mid (pair_size * l.i) (pair_size * l.i + pair_size - pair_size * l.i) l.t r.new.0 r.auto.0
+      same_len_mid (pair_size * l.i) (pair_size * l.i + pair_size - pair_size * l.i) l.t r.new.r r.auto.0
           ∙ l.invariant.2,
       calm_more a.intervals.now a.periods.now a.t.now a.from l.i l.invariant.0 l.invariant.3
           (calm-turn a.intervals.now a.periods.now l.t l.i (omega arith) (l.invariant.2 ∙ p.2) refl
-          (r.ensures.1 (not-false _ c.if-not-calm_row.false))),
+          (r.ensures.1 (c.if-not-calm_row.false))),
     )
 
 pub shape_of-t : goal.shape_of-t

@@ -5,7 +5,6 @@ use Rattle.twin.specs.StartsLaws.{below-pairs}
 use Rattle.twin.specs.Seen.{begun_at}
 use Rattle.twin.specs.SilentLaws.{typed-tick}
 use Rattle.commands.specs.Replies.{prefix_in}
-use borrow.Author.Tests.{not-true, not-false}
 use Rattle.std.proofs.Common.{refl, arith}
 use Rattle.twin.proofs.answers.put_tick.Goals as goal
 
@@ -38,7 +37,7 @@ pub returns-then-not-goes_on : goal.returns-then-not-goes_on
 returns-then-not-goes_on c = tick-ends (prefix_in c.args.head.now) c.args.t.now c.args.i (begun_at c.args.seen c.args.j)
     (typed-tick c.args.t.now c.args.i (c.requires.1.formed c.args.i (omega arith)) c.requires.2)
     (start-looks c.args.t.now c.args.i _ c.args.seen c.args.j c.requires.1 refl c.requires.3
-    c.requires.4).1.order c.goes_on.ensures (not-true _ c.if-not-goes_on.true)
+    c.requires.4).1.order c.goes_on.ensures (c.if-not-goes_on.true)
     c.handle_of.ensures c.packet_of-k.ensures c.payload_at.ensures
     c.put_event.ensures
 
@@ -46,7 +45,7 @@ pub returns-then-seen-ne1 : goal.returns-then-seen-ne1
 returns-then-seen-ne1 c = tick-off (prefix_in c.args.head.now) c.args.t.now c.args.i (begun_at c.args.seen c.args.j)
     (typed-tick c.args.t.now c.args.i (c.requires.1.formed c.args.i (omega arith)) c.requires.2)
     (start-looks c.args.t.now c.args.i _ c.args.seen c.args.j c.requires.1 refl c.requires.3
-    c.requires.4).1.order c.goes_on.ensures (not-false _ c.if-not-goes_on.false)
+    c.requires.4).1.order c.goes_on.ensures (c.if-not-goes_on.false)
     c.args.seen.filter c.requires.3.shows.filter c.if-seen-ne1.true c.args.out.now c.args.at
 
 pub windowed-requires : goal.windowed-requires
@@ -59,8 +58,8 @@ returns-then-not-windowed c = let monitor-of = c.monitor_of-a in
     tick-bare (prefix_in c.args.head.now) c.args.t.now c.args.i (begun_at c.args.seen c.args.j)
     (typed-tick c.args.t.now c.args.i (c.requires.1.formed c.args.i (omega arith)) c.requires.2)
     (start-looks c.args.t.now c.args.i _ c.args.seen c.args.j c.requires.1 refl c.requires.3
-    c.requires.4).1.order c.goes_on.ensures (not-false _ c.if-not-goes_on.false) monitor-of.result
-    monitor-of.ensures c.windowed.ensures (not-true _ c.if-not-windowed.true) c.args.out.now c.args.at
+    c.requires.4).1.order c.goes_on.ensures (c.if-not-goes_on.false) monitor-of.result
+    monitor-of.ensures c.windowed.ensures (c.if-not-windowed.true) c.args.out.now c.args.at
 
 pub phase-requires : goal.phase-requires
 phase-requires c = looks-at c.args.t.now _ _ _ (begun_at c.args.seen c.args.j) c.monitor_of-a.ensures
@@ -74,9 +73,9 @@ returns-then-phase-ne0 c = let monitor-of = c.monitor_of-a in
     tick-within (prefix_in c.args.head.now) c.args.t.now c.args.i (begun_at c.args.seen c.args.j)
     (typed-tick c.args.t.now c.args.i (c.requires.1.formed c.args.i (omega arith)) c.requires.2)
     (start-looks c.args.t.now c.args.i _ c.args.seen c.args.j c.requires.1 refl c.requires.3
-    c.requires.4).1.order c.goes_on.ensures (not-false _ c.if-not-goes_on.false) monitor-of.result
+    c.requires.4).1.order c.goes_on.ensures (c.if-not-goes_on.false) monitor-of.result
     packet-of.result c.phase.result monitor-of.ensures packet-of.ensures
-    c.windowed.ensures (not-false _ c.if-not-windowed.false) c.phase.ensures.0
+    c.windowed.ensures (c.if-not-windowed.false) c.phase.ensures.0
     c.if-phase-ne0.true c.args.out.now c.args.at
 
 pub put_window-requires : goal.put_window-requires
@@ -89,9 +88,9 @@ put_window-requires c = let monitor-of = c.monitor_of-a in
       tick-plain (prefix_in c.args.head.now) c.args.t.now c.args.i
           (begun_at c.args.seen c.args.j)
           (typed-tick c.args.t.now c.args.i (c.requires.1.formed c.args.i (omega arith)) c.requires.2)
-          looks.1.order c.goes_on.ensures (not-false _ c.if-not-goes_on.false) monitor-of.result
+          looks.1.order c.goes_on.ensures (c.if-not-goes_on.false) monitor-of.result
           packet-of.result c.phase.result monitor-of.ensures packet-of.ensures
-          c.windowed.ensures (not-false _ c.if-not-windowed.false)
+          c.windowed.ensures (c.if-not-windowed.false)
           c.phase.ensures.0
           (start-accepted c.args.t.now c.args.i c.args.seen c.args.j c.requires.3 c.requires.4),
       c.requires.5,
@@ -104,7 +103,7 @@ returns c = let monitor-of = c.monitor_of-a in
     tick-closes (prefix_in c.args.head.now) c.args.t.now c.args.i (begun_at c.args.seen c.args.j)
     (typed-tick c.args.t.now c.args.i (c.requires.1.formed c.args.i (omega arith)) c.requires.2)
     (start-looks c.args.t.now c.args.i _ c.args.seen c.args.j c.requires.1 refl c.requires.3
-    c.requires.4).1.order c.goes_on.ensures (not-false _ c.if-not-goes_on.false) monitor-of.result
+    c.requires.4).1.order c.goes_on.ensures (c.if-not-goes_on.false) monitor-of.result
     packet-of.result phase.result monitor-of.ensures packet-of.ensures c.windowed.ensures
-    (not-false _ c.if-not-windowed.false) phase.ensures.0 c.args.seen.filter c.if-phase-ne0.false
+    (c.if-not-windowed.false) phase.ensures.0 c.args.seen.filter c.if-phase-ne0.false
     c.requires.3.shows.filter c.if-seen-ne1.false c.put_window.ensures

@@ -1,7 +1,6 @@
 use Rattle.commands.specs.Replies.{prefix_in}
 use Rattle.twin.specs.MarksLaws.{packet-framed-at}
 use Rattle.twin.specs.TurningTurns.{turn-still, turn-moves, gone-start}
-use borrow.Author.Tests.{not-true, not-false}
 use Rattle.std.proofs.Common.{arith}
 use Rattle.twin.proofs.answers.put_turn.Goals as goal
 
@@ -11,7 +10,7 @@ returns-then-not-turned c = turn-still (prefix_in c.args.head.now)
     c.args.h c.args.seen
     c.args.turned c.requires.4
     c.args.out.now c.args.at
-    (not-true _ c.if-not-turned.true)
+    (c.if-not-turned.true)
 
 pub put_gone-n-requires : goal.put_gone-n-requires
 put_gone-n-requires c = (
@@ -38,5 +37,5 @@ put_event-m-requires c = (
 
 pub returns : goal.returns
 returns c = turn-moves (prefix_in c.args.head.now) c.args.t.now c.args.i c.args.h
-    c.args.seen c.args.turned c.requires.4 (not-false _ c.if-not-turned.false) c.requires.5
+    c.args.seen c.args.turned c.requires.4 (c.if-not-turned.false) c.requires.5
     c.payload_at.ensures c.put_gone-n.ensures c.put_event-m.ensures

@@ -1,7 +1,6 @@
 use Rattle.twin.specs.EventsLaws.{window-empty, window-barred, window-put, last_some, data-few}
 use Rattle.twin.specs.NumberedLaws.{start-added}
 use Rattle.twin.specs.HearsLaws.{start-part}
-use borrow.Author.Tests.{not-true, not-false}
 use Rattle.std.proofs.Common.{arith}
 use Rattle.twin.proofs.answers.put_window.Goals as goal
 
@@ -33,7 +32,7 @@ returns-then-not-allows c = (
       λ h. window-barred
           c.args.t.now c.args.a c.args.k c.args.i _ _ _
           c.window_of-w.ensures c.if-w-eq0.false h c.args.out.now
-          c.args.at c.allows.ensures (not-true _ c.if-not-allows.true),
+          c.args.at c.allows.ensures (c.if-not-allows.true),
     )
 
 pub event_of-requires : goal.event_of-requires
@@ -57,7 +56,7 @@ data_of-requires c = c.window_of-w.ensures.number.sent
 pub returns : goal.returns
 returns c = window-put c.args.t.now c.args.a c.args.k c.args.i _ _ _
     c.window_of-w.ensures c.args.out.now c.args.at c.requires.1
-    c.if-w-eq0.false c.allows.ensures (not-false _ c.if-not-allows.false)
+    c.if-w-eq0.false c.allows.ensures (c.if-not-allows.false)
     c.event_of.ensures c.payload_at-d.ensures
     (start-part c.args.t.now c.args.a c.args.k 0 _ c.requires.0.start
     c.payload_at-d.ensures) c.data_of.ensures

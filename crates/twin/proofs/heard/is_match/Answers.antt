@@ -1,15 +1,14 @@
 use Rattle.std.proofs.Common.{refl, arith}
-use borrow.Author.Tests.{not-true, not-false}
 use Rattle.twin.specs.HeardLaws.{match_none, match-first, match-second, second_is, type-in, extra-length}
 use Rattle.twin.proofs.heard.is_match.Goals as goal
 
 pub returns-then-not-meets : goal.returns-then-not-meets
 returns-then-not-meets c = match_none c.args.params.now
-    c.args.payload.now c.meets.ensures (not-true _ c.if-not-meets.true)
+    c.args.payload.now c.meets.ensures (c.if-not-meets.true)
 
 pub returns-then-at-eq5 : goal.returns-then-at-eq5
 returns-then-at-eq5 c = match-first c.args.params.now c.args.payload.now _ c.type_at-at.ensures c.if-at-eq5.true
-    c.meets.ensures (not-false _ c.if-not-meets.false)
+    c.meets.ensures (c.if-not-meets.false)
 
 pub slice_bounds-admits_by-count : goal.slice_bounds-admits_by-count
 slice_bounds-admits_by-count c = let k = second_is c.args.params.now c.type_at-at.result c.type_at-at.ensures
@@ -36,5 +35,5 @@ admits_by-requires c = (
 
 pub returns : goal.returns
 returns c = match-second c.args.params.now c.args.payload.now _ c.type_at-at.ensures
-    c.if-at-eq5.false c.meets.ensures (not-false _ c.if-not-meets.false) refl
+    c.if-at-eq5.false c.meets.ensures (c.if-not-meets.false) refl
     c.admits_by.ensures

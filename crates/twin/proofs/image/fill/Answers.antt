@@ -4,8 +4,8 @@ use Rattle.twin.specs.FilledLaws.{filled, shows-names}
 use Rattle.twin.proofs.image.fill.Goals as goal
 
 pub put_monitors-requires : goal.put_monitors-requires
-put_monitors-requires c = let j : length (set c.put32.new.0 4 c.after_all-seen.result.filter) ≡ length
-    c.put32.new.0 = simp length-set in
+put_monitors-requires c = let j : length (set c.put32.new.out 4 c.after_all-seen.result.filter) ≡ length
+    c.put32.new.out = simp length-set in
     let e = j ∙ c.put32.auto.0 in (
       omega (
         arith,
@@ -18,8 +18,8 @@ put_monitors-requires c = let j : length (set c.put32.new.0 4 c.after_all-seen.r
     )
 
 pub put_pairs-requires : goal.put_pairs-requires
-put_pairs-requires c = let j : length (set c.put32.new.0 4 c.after_all-seen.result.filter) ≡ length
-    c.put32.new.0 = simp length-set in
+put_pairs-requires c = let j : length (set c.put32.new.out 4 c.after_all-seen.result.filter) ≡ length
+    c.put32.new.out = simp length-set in
     let e = c.put_monitors.auto.0 ∙ j ∙ c.put32.auto.0 in (
       omega (
         arith,
@@ -32,8 +32,8 @@ put_pairs-requires c = let j : length (set c.put32.new.0 4 c.after_all-seen.resu
     )
 
 pub bounds-b-5224 : goal.bounds-b-5224
-bounds-b-5224 c = let j : length (set c.put32.new.0 4 c.after_all-seen.result.filter) ≡ length
-    c.put32.new.0 = simp length-set in
+bounds-b-5224 c = let j : length (set c.put32.new.out 4 c.after_all-seen.result.filter) ≡ length
+    c.put32.new.out = simp length-set in
     let e = c.put_pairs.auto.0 ∙ c.put_monitors.auto.0 ∙ j
     ∙ c.put32.auto.0 in
     omega (
@@ -43,10 +43,10 @@ bounds-b-5224 c = let j : length (set c.put32.new.0 4 c.after_all-seen.result.fi
     )
 
 pub shape_of-b : goal.shape_of-b
-shape_of-b c = let j : length (set c.put32.new.0 4 c.after_all-seen.result.filter) ≡ length
-    c.put32.new.0 = simp length-set in
-    let i : length (set c.put_pairs.new.0 count_at c.after_all-seen.result.count) ≡
-    length c.put_pairs.new.0 = simp length-set in
+shape_of-b c = let j : length (set c.put32.new.out 4 c.after_all-seen.result.filter) ≡ length
+    c.put32.new.out = simp length-set in
+    let i : length (set c.put_pairs.new.b count_at c.after_all-seen.result.count) ≡
+    length c.put_pairs.new.b = simp length-set in
     i ∙ c.put_pairs.auto.0 ∙ c.put_monitors.auto.0 ∙ j
     ∙ c.put32.auto.0
 

@@ -3,8 +3,8 @@ use Rattle.twin.specs.PairRowsLaws.{numbers-written}
 use Rattle.twin.proofs.image.put_numbers.Goals as goal
 
 pub bounds-row-23 : goal.bounds-row-23
-bounds-row-23 c = let j : length (set c.put16.new.0 10 c.phase.result) ≡ length
-    c.put16.new.0 = simp length-set in
+bounds-row-23 c = let j : length (set c.put16.new.out 10 c.phase.result) ≡ length
+    c.put16.new.out = simp length-set in
     let e = c.put64.auto.0 ∙ c.put32.auto.0 ∙ j ∙ c.put16.auto.0 in
     omega (
       arith,
@@ -13,11 +13,11 @@ bounds-row-23 c = let j : length (set c.put16.new.0 10 c.phase.result) ≡ lengt
     )
 
 pub shape_of-row : goal.shape_of-row
-shape_of-row c = let j : length (set c.put16.new.0 10 c.phase.result) ≡ length
-    c.put16.new.0 = simp length-set in
+shape_of-row c = let j : length (set c.put16.new.out 10 c.phase.result) ≡ length
+    c.put16.new.out = simp length-set in
     let e = c.put64.auto.0 ∙ c.put32.auto.0 ∙ j ∙ c.put16.auto.0 in
-    let i : length (set c.put64.new.0 23 c.kept_rssi.result) ≡ length
-    c.put64.new.0 = simp length-set in
+    let i : length (set c.put64.new.out 23 c.kept_rssi.result) ≡ length
+    c.put64.new.out = simp length-set in
     i ∙ e
 
 pub returns : goal.returns

@@ -1,5 +1,4 @@
 use Rattle.twin.specs.WindowsLaws.{from-none, from_some}
-use borrow.Author.Tests.{not-true, not-false}
 use Rattle.std.proofs.Common.{arith}
 use Rattle.twin.proofs.pairs.window_from.Goals as goal
 
@@ -9,7 +8,7 @@ returns-then-not-windowed c = (
   omega arith,
   from-none c.args.t.now
       c.args.a c.args.k c.args.n
-      c.windowed.ensures (not-true _ c.if-not-windowed.true),
+      c.windowed.ensures (c.if-not-windowed.true),
 )
 
 pub returns : goal.returns
@@ -20,5 +19,5 @@ returns c = (
       c.args.t.now c.args.a
       c.args.k c.args.n
       c.behind_tick.result c.phase.result c.windowed.ensures
-      (not-false _ c.if-not-windowed.false) c.phase.ensures.0 c.behind_tick.ensures.2,
+      (c.if-not-windowed.false) c.phase.ensures.0 c.behind_tick.ensures.2,
 )

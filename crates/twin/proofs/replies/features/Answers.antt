@@ -5,7 +5,7 @@ use Rattle.commands.specs.RepliesLaws.{reply-features}
 use Rattle.twin.proofs.replies.features.Goals as goal
 
 pub shape_of-out : goal.shape_of-out
-shape_of-out c = let e : length c.copy-2.new.0 ≡ length c.copy.new.0 = simp length-set at
+shape_of-out c = let e : length c.copy-2.new.out ≡ length c.copy.new.out = simp length-set at
     c.out-3-1.given in
     e ∙ c.out-2-1.given ∙ c.out-1.given
 

@@ -3,12 +3,12 @@ use Rattle.commands.specs.RepliesLaws.{reply-three}
 use Rattle.twin.proofs.replies.long.Goals as goal
 
 pub bounds-out-6 : goal.bounds-out-6
-bounds-out-6 c = let e : length c.put_complete.new.0 ≡ length
+bounds-out-6 c = let e : length c.put_complete.new.out ≡ length
     c.args.out.now = c.out-1.given in
     simp length-set (omega arith)
 
 pub bounds-out-7 : goal.bounds-out-7
-bounds-out-7 c = let e : length c.put_complete.new.0 ≡ length
+bounds-out-7 c = let e : length c.put_complete.new.out ≡ length
     c.args.out.now = c.out-1.given in
     simp length-set (omega arith)
 

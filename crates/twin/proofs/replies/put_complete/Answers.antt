@@ -9,7 +9,7 @@ pub bounds-out-2 : goal.bounds-out-2
 bounds-out-2 c = simp length-set (omega arith)
 
 pub shape_of-out : goal.shape_of-out
-shape_of-out c = let e : length c.put16.new.0 ≡ length
+shape_of-out c = let e : length c.put16.new.out ≡ length
     c.args.out.now = simp length-set at c.out-1.given in
     e
 

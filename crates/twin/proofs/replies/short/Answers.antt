@@ -3,7 +3,7 @@ use Rattle.commands.specs.RepliesLaws.{reply-two}
 use Rattle.twin.proofs.replies.short.Goals as goal
 
 pub bounds-out-6 : goal.bounds-out-6
-bounds-out-6 c = let e : length c.put_complete.new.0 ≡ length
+bounds-out-6 c = let e : length c.put_complete.new.out ≡ length
     c.args.out.now = c.out-1.given in
     simp length-set (omega arith)
 

@@ -1,7 +1,6 @@
 use Rattle.twin.specs.MarksLaws.{packet-framed-at, wants-none, wants-weak, wants-asked}
 use Rattle.twin.specs.FiltersLaws.{added-adds, added-long}
 use Rattle.std.proofs.Common.{arith}
-use borrow.Author.Tests.{not-true, not-false}
 use Rattle.twin.proofs.turns.wants.Goals as goal
 
 pub is_match-requires : goal.is_match-requires
@@ -14,7 +13,7 @@ is_match-requires c = (
 pub returns-then-not-is_match : goal.returns-then-not-is_match
 returns-then-not-is_match c = wants-none _ _ _ _ c.args.seen
     c.params_of-params.ensures c.payload_at.ensures
-    c.is_match.ensures (not-true _ c.if-not-is_match.true)
+    c.is_match.ensures (c.if-not-is_match.true)
 
 pub bounds-params-1 : goal.bounds-params-1
 bounds-params-1 c = let n = added-long _ _ _ c.requires.1 c.params_of-params.ensures in
@@ -22,12 +21,12 @@ bounds-params-1 c = let n = added-long _ _ _ c.requires.1 c.params_of-params.ens
 
 pub returns-then-level_of : goal.returns-then-level_of
 returns-then-level_of c = wants-weak _ _ _ _ c.args.seen c.params_of-params.ensures
-    c.payload_at.ensures c.is_match.ensures (not-false _ c.if-not-is_match.false) _ _ _
+    c.payload_at.ensures c.is_match.ensures (c.if-not-is_match.false) _ _ _
     c.rssi_at.ensures c.level_of.ensures c.level_of-2.ensures
     c.if-level_of.true
 
 pub returns : goal.returns
 returns c = wants-asked _ _ _ _ c.args.seen c.params_of-params.ensures
-    c.payload_at.ensures c.is_match.ensures (not-false _ c.if-not-is_match.false) _ _ _
+    c.payload_at.ensures c.is_match.ensures (c.if-not-is_match.false) _ _ _
     c.rssi_at.ensures c.level_of.ensures c.level_of-2.ensures
     c.if-level_of.false c.holds.ensures
