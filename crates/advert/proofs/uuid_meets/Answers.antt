@@ -1,45 +1,30 @@
-use Rattle.std.proofs.Common.{◌≡◌, ◌≤◌, true, length, get_or, sym, ◌∙◌, arith, length-drop}
-use borrow.Author.Tests.{not-false}
+use Rattle.std.proofs.Common.{◌≡◌, true, sym, ◌∙◌, arith, length-drop}
 use Rattle.advert.specs.PartsLaws.{rest-whole}
 use Rattle.advert.specs.Uuid.{uuid_form}
 use Rattle.advert.specs.UuidLaws.{uuid-bounds, uuid-bad, uuid-of}
 use Rattle.advert.proofs.uuid_meets.Goals as goal
 
 
--- what is known of the condition once its form was asked
-
-formed : (c : lts.After-shared-slice-known4
-    (uuid-form-reads.Asked, uuid-form-reads.Learnt, some-lists-reads.Asked, some-lists-reads.Learnt) reads.Pre
-    reads.Post)
-    → (3 ≤ length c.before.before.before.before.before.before.args.condition.now)
-    × (length c.before.before.before.before.before.before.args.condition.now ≤ 17)
-    × (get_or c.before.before.before.before.before.before.args.condition.now 0 0 ≤ 3)
-formed c =
-    uuid-bounds c.before.before.before.before.before.before.args.condition.now
-    (sym c.before.before.uuid-form.ensures
-    ∙ not-false c.before.before.uuid-form.result c.before.if1.left)
-
-
 pub returns-then-not-uuid_form : goal.returns-then-not-uuid_form
 returns-then-not-uuid_form c = uuid-bad _ _ _ (sym c.uuid_form.ensures ∙ c.if-not-uuid_form.true)
 
 pub bounds-condition-0 : goal.bounds-condition-0
-bounds-condition-0 c = omega (arith, formed c)
+bounds-condition-0 c = omega (arith, uuid-bounds c.args.condition.now (sym c.uuid_form.ensures ∙ c.if-not-uuid_form.false))
 
 pub overflow_mul-t : goal.overflow_mul-t
-overflow_mul-t c = omega (arith, formed c)
+overflow_mul-t c = omega (arith, uuid-bounds c.args.condition.now (sym c.uuid_form.ensures ∙ c.if-not-uuid_form.false))
 
 pub overflow_mul-t-2 : goal.overflow_mul-t-2
-overflow_mul-t-2 c = omega (arith, formed c)
+overflow_mul-t-2 c = omega (arith, uuid-bounds c.args.condition.now (sym c.uuid_form.ensures ∙ c.if-not-uuid_form.false))
 
 pub overflow_add-t : goal.overflow_add-t
-overflow_add-t c = omega (arith, formed c)
+overflow_add-t c = omega (arith, uuid-bounds c.args.condition.now (sym c.uuid_form.ensures ∙ c.if-not-uuid_form.false))
 
 pub slice_bounds-some_lists-count : goal.slice_bounds-some_lists-count
-slice_bounds-some_lists-count c = omega (arith, formed c)
+slice_bounds-some_lists-count c = omega (arith, uuid-bounds c.args.condition.now (sym c.uuid_form.ensures ∙ c.if-not-uuid_form.false))
 
 pub slice_bounds-some_lists-start : goal.slice_bounds-some_lists-start
-slice_bounds-some_lists-start c = omega (arith, formed c)
+slice_bounds-some_lists-start c = omega (arith, uuid-bounds c.args.condition.now (sym c.uuid_form.ensures ∙ c.if-not-uuid_form.false))
 
 pub some_lists-requires : goal.some_lists-requires
 some_lists-requires c = let xs = c.args.condition.now in
