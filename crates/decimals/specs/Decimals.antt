@@ -1,5 +1,5 @@
 -- Numbers in decimal, written and read. Definitions alone.
-use Rattle.std.specs.Prelude.{ℕ, zero, suc, ◌+◌, ◌-◌, ◌*◌, ◌/◌, ◌%◌, Bool, true, false, ◌&&◌, List, [], ◌∷◌, ◌++◌, leb, ltb, length}
+use Rattle.std.specs.Prelude.{ℕ, zero, suc, ◌+◌, ◌-◌, ◌*◌, ◌/◌, ◌%◌, Bool, ◌&&◌, List, [], ◌∷◌, ◌++◌, leb, ltb, length}
 use Rattle.laws.specs.Tests.{pick}
 use Rattle.laws.specs.Loops.{every}
 use Rattle.decimals.specs.declared.Number.{Number}

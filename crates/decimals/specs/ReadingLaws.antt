@@ -1,11 +1,10 @@
 -- A word read as a number. Assumes nothing.
-use Rattle.std.specs.Prelude.{ℕ, zero, suc, ◌+◌, ◌-◌, ◌*◌, ◌≤◌, ◌<◌, ◌≡◌, refl, Bool, true, false, ◌&&◌, List, [], ◌∷◌, ◌++◌, leb, ltb, length, drop, get_or}
+use Rattle.std.specs.Prelude.{ℕ, ◌+◌, ◌-◌, ◌*◌, ◌≤◌, ◌<◌, ◌≡◌, refl, Bool, true, false, ◌&&◌, List, [], ◌∷◌, leb, length, drop, get_or}
 use Rattle.std.proofs.Common.{sym, ap, ◌∙◌, subst, arith, le-leb, leb-true, leb-false, drop_of_length-le, drop-cons, add-one}
 use Rattle.std.proofs.lemmas.Bool.{false≢true, lt-leb}
 use Rattle.laws.specs.Tests.{pick}
-use Rattle.laws.specs.TestsLaws.{pick_true, pick-false, both, and_left, and_right, and_both, and-not-left, and-not-right, cases-le}
+use Rattle.laws.specs.TestsLaws.{pick_true, pick-false, and_left, and_right, and_both, and-not-left, and-not-right}
 use Rattle.laws.specs.Loops.{every}
-use Rattle.decimals.specs.declared.Number.{Number}
 use Rattle.decimals.specs.declared.Number.TheVariants.{Is, Not}
 use Rattle.decimals.specs.Decimals.{last, top, is_digit, value_from, is_number, number_of, grown, grown_from, number_from}
 

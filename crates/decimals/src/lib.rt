@@ -1,5 +1,7 @@
 // Numbers in decimal: written with no zero in front, and read (document 01, A session in full: "the refusal number in
 // decimal").
+#![tactic(auto)]
+
 ghost use Rattle.std.specs.Prelude.{◌+◌, ◌-◌, ◌*◌, ◌/◌, ◌%◌, ◌≤◌, ◌<◌, ◌≡◌, length};
 ghost use Rattle.laws.specs.Put.{put};
 ghost use Rattle.decimals.specs.Decimals.{decimal_in, written_in, grown as grown_by, grown_from, number_of, number_from};

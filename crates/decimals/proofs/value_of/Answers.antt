@@ -1,6 +1,5 @@
 use Rattle.decimals.specs.ReadingLaws.{value_on, value-end}
 use mathlib.Core.Path.{refl}
-use Prim.Native.Nat.{◌-◌}
 use native.Mathlib.Omega.{arith}
 use Rattle.decimals.proofs.value_of.Goals as goal
 
