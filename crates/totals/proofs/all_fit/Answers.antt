@@ -1,5 +1,4 @@
 use mathlib.Core.Path.{refl, ◌∙◌, sym}
-use Prim.Native.Nat.{◌-◌}
 use Rattle.totals.specs.TwoLaws.{every-two-step, every-two-stop, every-two-end}
 use Rattle.totals.specs.Table.{row_fits}
 use native.Mathlib.Omega.{arith}

@@ -1,7 +1,6 @@
 use Rattle.totals.specs.TwoLaws.{map-two-turn, map-two-end}
 use lib.ListN.{length}
 use mathlib.Core.Path.{◌≡◌, sym}
-use Prim.Native.Nat.{◌-◌}
 use Rattle.laws.specs.PutLaws.{put-nil}
 use Rattle.totals.specs.TwoLaws.{every-two-at}
 use Rattle.totals.specs.Table.{row_fits, row_sum}
@@ -22,16 +21,16 @@ loop-i-smaller c = omega arith
 pub loop-i-preserved : goal.loop-i-preserved
 loop-i-preserved c = let x = c.args in
     let l = c.loop-i in
-    let n : length x.t1 ≡ 16 = search rules in
-    let m : length x.t2 ≡ 16 = search rules in (
+    let n : length x.t ≡ 16 = search rules in
+    let m : length x.d ≡ 16 = search rules in (
       omega arith,
-      map-two-turn row_sum x.t1 x.t2 (omega arith) l.i l.invariant.1 _
+      map-two-turn row_sum x.t x.d (omega arith) l.i l.invariant.1 _
           (omega arith) c.summed-r.ensures,
     )
 
 pub returns : goal.returns
 returns c = let x = c.args in
     let l = c.loop-i in
-    let n : length x.t1 ≡ 16 = search rules in
-    let m : length x.t2 ≡ 16 = search rules in
-    map-two-end row_sum x.t1 x.t2 (omega arith) l.i l.invariant.1 (omega arith)
+    let n : length x.t ≡ 16 = search rules in
+    let m : length x.d ≡ 16 = search rules in
+    map-two-end row_sum x.t x.d (omega arith) l.i l.invariant.1 (omega arith)

@@ -1,5 +1,4 @@
 use mathlib.Core.Path.{sym, ap, ◌∙◌}
-use mathlib.Core.Bool.{true, false}
 use Rattle.totals.specs.Table.{row_fits, row_sum}
 use Rattle.totals.specs.GainsLaws.{turn-added, turn-asked, turn-passes}
 use Rattle.totals.proofs.turn.Goals as goal
