@@ -11,4 +11,4 @@ returns-then-condition-address c = address-other _ _ _ (λ z. c.if-condition-add
 pub returns : goal.returns
 returns c = let a = c.args in
     rw c.compare-c.ensures.0
-    (sym (address-meets a.condition.now a.address-type a.address.now (omega arith)))
+    (sym (address-meets a.condition.now a.address_type a.address.now (omega arith)))
