@@ -26,7 +26,7 @@ returns-then-m c = let l = c.loop-i in
     let m = c.pattern_cost-m.ensures in
     let y = sym m.0 ∙ c.if-m.true in (
       asked-hit _ _ l.i _ l.invariant.0 _ p (omega arith) y,
-      counted-hit _ _ _ l.i _ l.invariant.1 _ p (omega arith) m.1 c.wrapping_add_usize-count.ensures y,
+      counted-hit _ _ _ l.i _ l.invariant.1 _ p (omega arith) m.1 c.wrapping_add_usize-count.ensures.value y,
     )
 
 pub loop-i-smaller : goal.loop-i-smaller
@@ -39,7 +39,7 @@ loop-i-preserved c = let l = c.loop-i in
     let m = c.pattern_cost-m.ensures in
     let y = sym m.0 ∙ c.if-m.false in (
       asked-miss _ _ l.i _ l.invariant.0 _ p (omega arith) y,
-      counted-miss _ _ _ l.i _ l.invariant.1 _ p (omega arith) m.1 c.wrapping_add_usize-count.ensures y,
+      counted-miss _ _ _ l.i _ l.invariant.1 _ p (omega arith) m.1 c.wrapping_add_usize-count.ensures.value y,
     )
 
 pub returns : goal.returns

@@ -3,5 +3,5 @@ use Rattle.state.proofs.advance.Goals as goal
 
 pub returns : goal.returns
 returns c = let a = c.args in
-    advanced-by a.block.now c.get32-position.ensures c.wrapping_add_u32.ensures
+    advanced-by a.block.now c.get32-position.ensures c.wrapping_add_u32.ensures.value
     c.put32.ensures.0 c.put32.ensures.1

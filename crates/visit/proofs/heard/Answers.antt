@@ -5,8 +5,8 @@ use Rattle.visit.proofs.heard.Goals as goal
 pub returns-then-v-device : goal.returns-then-v-device
 returns-then-v-device c = heard-some c.args.device
     c.args.level c.args.v _ _
-    _ _ c.if-v-device.true refl refl c.wrapping_add_u64.ensures
-    c.wrapping_add_u64-then-v-device.ensures
+    _ _ c.if-v-device.true refl refl c.wrapping_add_u64.ensures.value
+    c.wrapping_add_u64-then-v-device.ensures.value
 
 pub returns : goal.returns
 returns c = heard-none c.args.device c.args.level

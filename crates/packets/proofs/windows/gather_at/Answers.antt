@@ -30,8 +30,8 @@ returns c = let a = c.args in
     let g3 : a.at + window_size ≤ length s = c.requires.0 in
     window-written s l a.at g3 c.requires.1 (number-of 4 s a.at c.get32-count.ensures (omega arith))
     (number-of 8 s (a.at + 4) c.get64-sum.ensures (omega arith))
-    c.wrapping_add_u32.ensures c.extend.ensures
-    c.wrapping_add_u64.ensures
+    c.wrapping_add_u32.ensures.value c.extend.ensures
+    c.wrapping_add_u64.ensures.value
     (put_of s a.at (octets_of 4 c.wrapping_add_u32.result) 4 (length s)
     c.put32.ensures.0 (omega arith) c.put32.ensures.1)
     (put_of c.put32.new.out (a.at + 4) (octets_of 8 c.wrapping_add_u64.result) 8

@@ -18,4 +18,4 @@ pub returns : goal.returns
 returns c = gather-one c.args.t.now c.args.a c.args.k c.args.i c.args.w.packets
     c.args.w.sum c.args.w.last _ _ _ c.is_heard.ensures
     (c.if-not-is_heard.false) c.rssi_at.ensures c.extended.ensures
-    c.wrapping_add_u64.ensures
+    c.wrapping_add_u64.ensures.value
