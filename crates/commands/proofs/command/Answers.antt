@@ -24,8 +24,8 @@ returns c = let a = c.args in
     (sym c.ready.ensures ∙ c.if-not-ready.false) in
     let f = ready-facts a.s.now a.out.now y in
     let x = c.execute-n.ensures in
-    let n : length c.execute-n.new.s ≡ length a.s.now = c.execute-n.auto.0 in
+    let n : length c.execute-n.new.s ≡ length a.s.now = c.execute-n.auto.s in
     λ o. taken-on (command o a.params.now) true a.s.now a.out.now (and_both y refl)
     (answered a.params.now a.s.now a.out.now x
     (position-moved c.execute-n.new.s (n ∙ f.0) c.advance.ensures) o)
-    (c.advance.auto.0 ∙ n) c.execute-n.auto.1.1.0 x.1
+    (c.advance.auto.block ∙ n) c.execute-n.auto.out x.1

@@ -24,7 +24,7 @@ bounds-out-at-6 c = let a = c.args in
     let b : List ℕ = set (set (set (set (set a.out.now a.at 62) (a.at + 1) (12 + length a.adv.now))
     (a.at + 2) 2) (a.at + 3) 1) (a.at + 4) a.event in
     let j : length b ≡ length a.out.now = simp length-set in
-    let k : length c.copy.new.out ≡ length b = c.copy.auto.0 in
+    let k : length c.copy.new.out ≡ length b = c.copy.auto.out in
     omega arith
 
 pub bounds-out-at-7 : goal.bounds-out-at-7
@@ -34,9 +34,9 @@ bounds-out-at-7 c = let a = c.args in
     (a.at + 2) 2) (a.at + 3) 1) (a.at + 4) a.event in
     let d : List ℕ = set c.copy.new.out (a.at + 12) n in
     let j : length b ≡ length a.out.now = simp length-set in
-    let k : length c.copy.new.out ≡ length b = c.copy.auto.0 in
+    let k : length c.copy.new.out ≡ length b = c.copy.auto.out in
     let h : length d ≡ length c.copy.new.out = simp length-set in
-    let i : length c.copy-2.new.out ≡ length d = c.copy-2.auto.0 in
+    let i : length c.copy-2.new.out ≡ length d = c.copy-2.auto.out in
     omega arith
 
 pub shape_of-out : goal.shape_of-out
@@ -46,9 +46,9 @@ shape_of-out c = let a = c.args in
     (a.at + 2) 2) (a.at + 3) 1) (a.at + 4) a.event in
     let d : List ℕ = set c.copy.new.out (a.at + 12) n in
     let j : length b ≡ length a.out.now = simp length-set in
-    let k : length c.copy.new.out ≡ length b = c.copy.auto.0 in
+    let k : length c.copy.new.out ≡ length b = c.copy.auto.out in
     let h : length d ≡ length c.copy.new.out = simp length-set in
-    let i : length c.copy-2.new.out ≡ length d = c.copy-2.auto.0 in
+    let i : length c.copy-2.new.out ≡ length d = c.copy-2.auto.out in
     simp length-set (omega arith)
 
 pub returns : goal.returns
@@ -58,9 +58,9 @@ returns c = let a = c.args in
     (a.at + 2) 2) (a.at + 3) 1) (a.at + 4) a.event in
     let d : List ℕ = set c.copy.new.out (a.at + 12) n in
     let j : length b ≡ length a.out.now = simp length-set in
-    let k : length c.copy.new.out ≡ length b = c.copy.auto.0 in
+    let k : length c.copy.new.out ≡ length b = c.copy.auto.out in
     let h : length d ≡ length c.copy.new.out = simp length-set in
-    let i : length c.copy-2.new.out ≡ length d = c.copy-2.auto.0 in
+    let i : length c.copy-2.new.out ≡ length d = c.copy-2.auto.out in
     report-written a.out.now a.at a.event a.device.now a.adv.now a.rssi (omega arith)
     (omega arith) (put_of b (a.at + 5) a.device.now (length a.device.now) (length b)
     c.copy.ensures.0 (omega arith) c.copy.ensures.1)

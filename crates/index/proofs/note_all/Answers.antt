@@ -29,7 +29,7 @@ loop-i-preserved c = let l = c.loop-i in
             arith,
             c.slice_known-1.given i,
           ))) (omega arith) l.invariant.2 key.result key.ensures f.result f.new.table f.new.seen _
-          (f.auto.0 ∙ table-long l.s l.invariant.2.long) f.auto.1.0 f.ensures.1 refl,
+          (f.auto.table ∙ table-long l.s l.invariant.2.long) f.auto.seen f.ensures.1 refl,
     )
 
 pub returns : goal.returns

@@ -8,7 +8,7 @@ pub returns-then-s-ne-SIZE : goal.returns-then-s-ne-SIZE
 returns-then-s-ne-SIZE c = blank-not c.args.s.now (λ e. c.if-s-ne-SIZE.true e)
 
 pub slice_bounds-put_blank-end-2 : goal.slice_bounds-put_blank-end-2
-slice_bounds-put_blank-end-2 c = simp length-take (let k = c.fill.auto.0 in omega arith)
+slice_bounds-put_blank-end-2 c = simp length-take (let k = c.fill.auto.out in omega arith)
 
 pub returns : goal.returns
 returns c = let a = c.args in

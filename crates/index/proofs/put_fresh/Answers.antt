@@ -12,7 +12,7 @@ returns-then-s-ne-SIZE c = let a = c.args in (
     )
 
 pub slice_bounds-put_fresh-end-3 : goal.slice_bounds-put_fresh-end-3
-slice_bounds-put_fresh-end-3 c = simp length-take (let k = c.fill.auto.0 in omega arith)
+slice_bounds-put_fresh-end-3 c = simp length-take (let k = c.fill.auto.out in omega arith)
 
 pub returns : goal.returns
 returns c = let a = c.args in (

@@ -14,7 +14,7 @@ note_all-k-requires c = let f = c.fill.ensures in
     (q.0, omega arith, q.1)
 
 pub shape_of-s : goal.shape_of-s
-shape_of-s c = simp length-set (c.note_all-k.auto.0 ∙ c.fill.auto.0)
+shape_of-s c = simp length-set (c.note_all-k.auto.s ∙ c.fill.auto.out)
 
 pub returns : goal.returns
 returns c = let m = c.at_most-n in

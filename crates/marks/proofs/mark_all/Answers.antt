@@ -39,7 +39,7 @@ pub admit_each-requires : goal.admit_each-requires
 admit_each-requires c = let a = c.args in
     let f = fits-facts (length a.acts.now) a.s.now a.payload.now
     (sym c.is_fit.ensures ∙ c.if-not-is_fit.false) in
-    (omega (arith, f.0, c.mark_each.auto.0), f.1, f.2)
+    (omega (arith, f.0, c.mark_each.auto.acts), f.1, f.2)
 
 pub returns : goal.returns
 returns c = let a = c.args in

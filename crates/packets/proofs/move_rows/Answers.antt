@@ -30,7 +30,7 @@ loop-i-preserved c = let a = c.args in
     let t = c.move_row-reason in (
       omega arith,
       omega arith,
-      t.auto.0 ∙ l.invariant.2,
+      t.auto.s ∙ l.invariant.2,
       λ m held n b x.
           let p = packet_of a.payload.now in
           let y = l.invariant.3 m held n b x in

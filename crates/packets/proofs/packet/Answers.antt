@@ -39,5 +39,5 @@ returns c = let a = c.args in
     ∙ c.if-not-has_packet.false) in
     taken-on (packet (packet_of l)) (has_packet l) a.s.now a.out.now
     (and_both (sym c.ready.ensures ∙ c.if-not-ready.false) k)
-    (c.step.ensures.1 k) c.step.auto.0 c.step.auto.1.1.0
+    (c.step.ensures.1 k) c.step.auto.s c.step.auto.out
     c.step.ensures.0

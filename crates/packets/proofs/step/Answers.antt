@@ -19,16 +19,16 @@ move_rows-reason-requires c = let p = c.requires in (
         c.end_of-to.ensures.1,
         c.at_most-n.ensures.1,
       ),
-      c.ask.auto.0,
+      c.ask.auto.acts,
       p.2,
     )
 
 pub start_all-turn-requires : goal.start_all-turn-requires
 start_all-turn-requires c = let p = c.requires in (
-      c.move_rows-reason.auto.0
+      c.move_rows-reason.auto.s
           ∙ p.0,
       c.at_most-n.ensures.1,
-      c.ask.auto.0,
+      c.ask.auto.acts,
       c.held_in-held.ensures.0,
       omega arith,
       p.1,
@@ -36,13 +36,13 @@ start_all-turn-requires c = let p = c.requires in (
     )
 
 pub is_told-told-requires : goal.is_told-told-requires
-is_told-told-requires c = c.start_all-turn.auto.0 ∙ c.move_rows-reason.auto.0 ∙ c.requires.0
+is_told-told-requires c = c.start_all-turn.auto.s ∙ c.move_rows-reason.auto.s ∙ c.requires.0
 
 pub put_told-r-requires : goal.put_told-r-requires
 put_told-r-requires c = let p = c.requires in
     let a = c.args in
     let k : length c.start_all-turn.new.out ≡ length
-    a.out.now = c.start_all-turn.auto.1.1.1.1.1.1.0 in
+    a.out.now = c.start_all-turn.auto.out in
     (omega (arith, c.start_all-turn.ensures.1, p.1), p.2)
 
 pub returns : goal.returns
@@ -66,7 +66,7 @@ returns c = let a = c.args in
             z.ensures.1,
             c.put_told-r.ensures.0,
             pre.1,
-          )) z.auto.1.1.1.1.1.1.0 z.ensures.2 c.put_told-r.ensures.1,
+          )) z.auto.out z.ensures.2 c.put_told-r.ensures.1,
       λ k m e b h.
           let w : Holding m s n = block-holding m s n e b (clamped c.at_most-n.ensures) in
           let t : Sender p dev = packet-sender l dev (λ i. omega (

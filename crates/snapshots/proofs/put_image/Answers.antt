@@ -13,7 +13,7 @@ put_lines-b-requires c = let w = c.save_head-a in
     let h = (head-put c.args.s.now c.args.out.now c.requires.0 c.requires.1 w.ensures.0
     w.ensures.1).0 in
     let k = length-head_text (core_of c.args.s.now) in
-    let j = w.auto.1.0 in
+    let j = w.auto.out in
     (c.requires.0, omega arith)
 
 pub slice_bounds-save_rest-end : goal.slice_bounds-save_rest-end

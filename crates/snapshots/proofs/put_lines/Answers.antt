@@ -34,7 +34,7 @@ loop-i-preserved c = let l = c.loop-i in
     let w = lines_more c.args.s.now c.args.out.now c.args.from l.i c.requires.1 (omega arith)
     l.invariant.2 l.invariant.3 c.put_one-at.ensures.1 in (
       omega arith,
-      c.put_one-at.auto.1.1.0
+      c.put_one-at.auto.out
           ∙ l.invariant.1,
       c.put_one-at.ensures.0 ∙ w.0,
       w.1,

@@ -6,7 +6,7 @@ pub returns-then-s-ne-SIZE : goal.returns-then-s-ne-SIZE
 returns-then-s-ne-SIZE c = restored-not c.args.text.now c.args.s.now c.if-s-ne-SIZE.true
 
 pub returns-then-not-image : goal.returns-then-not-image
-returns-then-not-image c = let k = c.take_image-image.auto.1.0 in
+returns-then-not-image c = let k = c.take_image-image.auto.s in
     let l = c.if-s-ne-SIZE.false in
     restored-blank c.args.text.now c.args.s.now l c.take_image-image.ensures
     (c.if-not-image.true) (k ∙ l)

@@ -25,7 +25,7 @@ returns-then-s-eq0 c = let a = c.args in
     taken-on tick true a.s.now a.out.now
     (and_both (sym c.ready.ensures ∙ c.if-not-ready.false) refl)
     (λ m z q h. quiet a.s.now a.out.now m z q h c.if-s-eq0.true c.advance.ensures)
-    c.advance.auto.0 refl
+    c.advance.auto.block refl
     (within-put a.out.now [] (sym (put-nil a.out.now 0)) refl (omega arith))
 
 pub tick_in-requires : goal.tick_in-requires
@@ -37,5 +37,5 @@ pub returns : goal.returns
 returns c = let a = c.args in
     taken-on tick true a.s.now a.out.now
     (and_both (sym c.ready.ensures ∙ c.if-not-ready.false) refl)
-    c.tick_in.ensures.0 c.tick_in.auto.0 c.tick_in.auto.1.0
+    c.tick_in.ensures.0 c.tick_in.auto.s c.tick_in.auto.out
     c.tick_in.ensures.1

@@ -10,7 +10,7 @@ use Rattle.ticks.proofs.tick_in.Goals as goal
 pub bounds-s-5224-2 : goal.bounds-s-5224-2
 bounds-s-5224-2 c = let a = c.args in
     let l = same_len_mid pairs_at pairs_size a.s.now c.tick_pairs-turn.new.t
-    c.tick_pairs-turn.auto.0 in
+    c.tick_pairs-turn.auto.t in
     omega (
       arith,
       l,
@@ -19,11 +19,11 @@ bounds-s-5224-2 c = let a = c.args in
 
 pub shape_of-s : goal.shape_of-s
 shape_of-s c = let a = c.args in
-    c.advance.auto.0
+    c.advance.auto.block
     ∙ length-set (put_mid pairs_at pairs_size a.s.now c.tick_pairs-turn.new.t) count_at
     c.tick_pairs-turn.result.kept
     ∙ same_len_mid pairs_at pairs_size a.s.now c.tick_pairs-turn.new.t
-    c.tick_pairs-turn.auto.0
+    c.tick_pairs-turn.auto.t
 
 pub returns : goal.returns
 returns c = let a = c.args in (

@@ -15,7 +15,7 @@ pub calm_behind-next-requires : goal.calm_behind-next-requires
 calm_behind-next-requires c = (
       omega arith,
       omega arith,
-      c.tick_row-turn.auto.0
+      c.tick_row-turn.auto.t
           ∙ c.loop-i.invariant.3 ∙ c.requires.2,
       c.requires.5,
       c.requires.6,
@@ -32,8 +32,8 @@ loop-i-preserved c = let a = c.args in
       x.ensures.1,
       omega (arith, e.kept-most, l.invariant.1, x.ensures.0),
       omega (arith, e.wrote-most, l.invariant.2, x.ensures.0),
-      x.auto.0 ∙ c.tick_row-turn.auto.0 ∙ l.invariant.3,
-      c.tick_row-turn.auto.1.1.1.0 ∙ l.invariant.4,
+      x.auto.t ∙ c.tick_row-turn.auto.t ∙ l.invariant.3,
+      c.tick_row-turn.auto.out ∙ l.invariant.4,
       λ u p. x.ensures.2 u a.out.now _ a.filters.now a.prefix.now _
           c.requires.4
           (passed-turn a.intervals.now a.periods.now a.filters.now a.prefix.now u a.out.now l.i

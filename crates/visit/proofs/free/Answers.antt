@@ -8,7 +8,7 @@ loop-i-init c = (omega arith, sym (zero-add _))
 
 pub returns-then-not-v : goal.returns-then-not-v
 unfolding free_in is_free
-returns-then-not-v c = let rows = c.args.t1 in
+returns-then-not-v c = let rows = c.args.rows in
     let n : length rows ≡ 64 = search rules in (
       place-hit is_free rows c.loop-i.i _
           c.loop-i.invariant.1 (omega arith) c.if-not-v.true,
@@ -20,7 +20,7 @@ loop-i-smaller c = omega arith
 
 pub loop-i-preserved : goal.loop-i-preserved
 unfolding is_free
-loop-i-preserved c = let rows = c.args.t1 in
+loop-i-preserved c = let rows = c.args.rows in
     let n : length rows ≡ 64 = search rules in (
       omega arith,
       place-miss is_free rows c.loop-i.i _
@@ -29,7 +29,7 @@ loop-i-preserved c = let rows = c.args.t1 in
 
 pub returns : goal.returns
 unfolding free_in
-returns c = let rows = c.args.t1 in
+returns c = let rows = c.args.rows in
     let n : length rows ≡ 64 = search rules in (
       place_end is_free rows c.loop-i.i nobody c.loop-i.invariant.1 (omega arith),
       omega

@@ -8,7 +8,7 @@ loop-i-init c = (omega arith, sym (zero-add _))
 
 pub returns-then-is_in : goal.returns-then-is_in
 unfolding place_in
-returns-then-is_in c = let rows = c.args.t1 in
+returns-then-is_in c = let rows = c.args.rows in
     let n : length rows ≡ 64 = search rules in (
       place-hit
           (is_in c.args.low
@@ -22,7 +22,7 @@ pub loop-i-smaller : goal.loop-i-smaller
 loop-i-smaller c = omega arith
 
 pub loop-i-preserved : goal.loop-i-preserved
-loop-i-preserved c = let rows = c.args.t1 in
+loop-i-preserved c = let rows = c.args.rows in
     let n : length rows ≡ 64 = search rules in (
       omega arith,
       place-miss
@@ -34,7 +34,7 @@ loop-i-preserved c = let rows = c.args.t1 in
 
 pub returns : goal.returns
 unfolding place_in
-returns c = let rows = c.args.t1 in
+returns c = let rows = c.args.rows in
     let n : length rows ≡ 64 = search rules in (
       place_end (is_in c.args.low c.args.high) rows
           c.loop-i.i nobody c.loop-i.invariant.1 (omega arith),

@@ -18,7 +18,7 @@ pub turn_all-requires : goal.turn_all-requires
 turn_all-requires c = (
       c.requires.0,
       c.at_most-n.ensures.1,
-      c.mark_all.auto.0,
+      c.mark_all.auto.acts,
       omega arith,
       c.requires.1,
     )

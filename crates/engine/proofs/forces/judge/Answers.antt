@@ -9,7 +9,7 @@ use Rattle.engine.specs.LooseLaws.{loose-stands, head-core, called-in}
 use Rattle.engine.proofs.forces.judge.Goals as goal
 
 pub slice_bounds-judge-end-2 : goal.slice_bounds-judge-end-2
-slice_bounds-judge-end-2 c = let k = c.turn_to.auto.0 in
+slice_bounds-judge-end-2 c = let k = c.turn_to.auto.s in
     sym (length-take-le block_size c.turn_to.new.s (omega arith))
 
 pub judge-r-requires : goal.judge-r-requires

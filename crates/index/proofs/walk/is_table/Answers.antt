@@ -15,7 +15,7 @@ returns-then-k-eq-STOPPED c = walks-stop (pairs_of c.args.n c.args.pairs.now) c.
 pub is_gathered-same-requires : goal.is_gathered-same-requires
 is_gathered-same-requires c = let h = walks-few (pairs_of c.args.n c.args.pairs.now) c.args.table.now _ _
     c.walk-k.ensures c.if-k-eq-STOPPED.false in
-    (c.requires.0, c.walk-k.auto.1.1.0, h)
+    (c.requires.0, c.walk-k.auto.masks, h)
 
 pub overflow_mul-from : goal.overflow_mul-from
 overflow_mul-from c = let h = walks-few (pairs_of c.args.n c.args.pairs.now) c.args.table.now _ _

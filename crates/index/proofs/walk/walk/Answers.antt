@@ -49,7 +49,7 @@ loop-i-preserved c = let l = c.loop-i in
     ))) c.args.n c.requires.3 l.i (omega arith) c.args.table.now l.k l.masks l.slots
     l.invariant.3 l.invariant.4 c.key_at-key.result c.key_at-key.ensures f.ensures
     c.if-next-eq-STOPPED.false in
-    (omega arith, f.auto.1.0 ∙ l.invariant.1, f.auto.1.1.0 ∙ l.invariant.2, g.0, g.1)
+    (omega arith, f.auto.masks ∙ l.invariant.1, f.auto.slots ∙ l.invariant.2, g.0, g.1)
 
 pub returns : goal.returns
 returns c = let l = c.loop-i in

@@ -47,8 +47,8 @@ loop-h-preserved c = let a = c.args in
       omega (arith, c),
       t.ensures.0,
       omega (arith, t.ensures.1),
-      t.auto.0 ∙ l.invariant.3,
-      t.auto.1.1.1.1.1.1.1.0 ∙ l.invariant.4,
+      t.auto.s ∙ l.invariant.3,
+      t.auto.out ∙ l.invariant.4,
       t.ensures.2 ∙ rest-further l.out a.out.now l.wrote (l.wrote + t.result.wrote) (omega arith)
           l.invariant.5,
       λ m w g.

@@ -9,7 +9,7 @@ returns c = let a = c.args in
     let out : List ℕ = a.out.now in
     let o : List ℕ = c.put_event-stop.new.out in
     let u : List ℕ = c.put_event-start.new.out in
-    let l : length o ≡ length out = c.put_event-stop.auto.1.1.1.0 in
+    let l : length o ≡ length out = c.put_event-stop.auto.out in
     let stop : ℕ = c.put_event-stop.result in
     let start : ℕ = c.put_event-start.result in
     let e : a.at + stop + start ≡ a.at + (stop + start) = omega arith in

@@ -12,7 +12,7 @@ shape_of-s c = let a = c.args in
     let l : List ℕ = a.payload.now in
     let b : List ℕ = set (set a.s.now a.at (get_or l 0 0)) (a.at + 1) (get_or l 8 0) in
     let j : length b ≡ length a.s.now = simp length-set in
-    c.fill.auto.0 ∙ c.copy.auto.0 ∙ j
+    c.fill.auto.out ∙ c.copy.auto.out ∙ j
 
 pub returns : goal.returns
 returns c = let a = c.args in
@@ -26,7 +26,7 @@ returns c = let a = c.args in
     let d : List ℕ = take (9 + n - 9) (drop 9 l) in
     let b : List ℕ = set (set s a.at (get_or l 0 0)) (a.at + 1) (get_or l 8 0) in
     let j : length b ≡ length s = simp length-set in
-    let k3 : length c.copy.new.out ≡ length b = c.copy.auto.0 in
+    let k3 : length c.copy.new.out ≡ length b = c.copy.auto.out in
     let k9 : length (drop 9 l) ≡ length l - 9 = length-drop 9 l in
     let ld : length d ≡ 9 + n - 9 = length-take-le (9 + n - 9) (drop 9 l) (omega (
       arith,

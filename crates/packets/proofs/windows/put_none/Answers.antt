@@ -6,7 +6,7 @@ use Rattle.packets.proofs.windows.put_none.Goals as goal
 
 pub shape_of-s : goal.shape_of-s
 shape_of-s c = let a = c.args in
-    c.fill.auto.0 ∙ length-set a.s.now a.at 255
+    c.fill.auto.out ∙ length-set a.s.now a.at 255
 
 pub returns : goal.returns
 returns c = let a = c.args in

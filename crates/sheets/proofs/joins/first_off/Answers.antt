@@ -16,9 +16,9 @@ join-one-requires c = tt
 pub returns-then-not-one : goal.returns-then-not-one
 returns-then-not-one c = let x = c.args in
     let l = c.loop-h in
-    let n : length x.t1 ≡ 16 = search rules in
-    let m : length x.t2 ≡ 16 = search rules in
-    off-stop x.t1 x.t2 l.h _ (omega arith) (omega arith)
+    let n : length x.t ≡ 16 = search rules in
+    let m : length x.d ≡ 16 = search rules in
+    off-stop x.t x.d l.h _ (omega arith) (omega arith)
     (sym c.join-one.ensures.0 ∙ c.if-not-one.true) l.invariant.1
 
 pub loop-h-smaller : goal.loop-h-smaller
@@ -27,14 +27,14 @@ loop-h-smaller c = omega arith
 pub loop-h-preserved : goal.loop-h-preserved
 loop-h-preserved c = let x = c.args in
     let l = c.loop-h in
-    let n : length x.t1 ≡ 16 = search rules in
-    let m : length x.t2 ≡ 16 = search rules in (
+    let n : length x.t ≡ 16 = search rules in
+    let m : length x.d ≡ 16 = search rules in (
       omega arith,
-      off-step x.t1 x.t2 l.h _ (omega arith) (omega arith)
+      off-step x.t x.d l.h _ (omega arith) (omega arith)
           (sym c.join-one.ensures.0 ∙ c.if-not-one.false) l.invariant.1,
     )
 
 pub returns : goal.returns
 returns c = let x = c.args in
-    let n : length x.t1 ≡ 16 = search rules in
-    off-end x.t1 x.t2 c.loop-h.h (omega arith) c.loop-h.invariant.1
+    let n : length x.t ≡ 16 = search rules in
+    off-end x.t x.d c.loop-h.h (omega arith) c.loop-h.invariant.1

@@ -11,7 +11,7 @@ put_count-requires c = let e = length-set c.args.out.now
     omega (arith, e)
 
 pub shape_of-out-then-sum-lt0 : goal.shape_of-out-then-sum-lt0
-shape_of-out-then-sum-lt0 c = c.put_count.auto.0 ∙ length-set c.args.out.now c.args.at 45
+shape_of-out-then-sum-lt0 c = c.put_count.auto.out ∙ length-set c.args.out.now c.args.at 45
 
 pub returns-then-sum-lt0 : goal.returns-then-sum-lt0
 returns-then-sum-lt0 c = let a = c.args in

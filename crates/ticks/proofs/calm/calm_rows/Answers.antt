@@ -19,7 +19,7 @@ calm_row-requires c = let p = c.requires in
 pub shape_of-t-then-not-calm_row : goal.shape_of-t-then-not-calm_row
 shape_of-t-then-not-calm_row c = let l = c.loop-i in
     let r = c.calm_row in
-    same_len_mid (pair_size * l.i) (pair_size * l.i + pair_size - pair_size * l.i) l.t r.new.r r.auto.0
+    same_len_mid (pair_size * l.i) (pair_size * l.i + pair_size - pair_size * l.i) l.t r.new.r r.auto.r
     ∙ l.invariant.2
 
 pub returns-then-not-calm_row : goal.returns-then-not-calm_row
@@ -41,7 +41,7 @@ loop-i-preserved c = let a = c.args in
     let r = c.calm_row in (
       omega arith,
       omega arith,
-      same_len_mid (pair_size * l.i) (pair_size * l.i + pair_size - pair_size * l.i) l.t r.new.r r.auto.0
+      same_len_mid (pair_size * l.i) (pair_size * l.i + pair_size - pair_size * l.i) l.t r.new.r r.auto.r
           ∙ l.invariant.2,
       calm_more a.intervals.now a.periods.now a.t.now a.from l.i l.invariant.0 l.invariant.3
           (calm-turn a.intervals.now a.periods.now l.t l.i (omega arith) (l.invariant.2 ∙ p.2) refl

@@ -19,7 +19,7 @@ overflow_add-at c = let a = c.args in
 pub tell_stop-stop-requires : goal.tell_stop-stop-requires
 tell_stop-stop-requires c = let a = c.args in
     let k : length c.tell_window-report.new.out ≡ length
-    a.out.now = c.tell_window-report.auto.1.0 in (
+    a.out.now = c.tell_window-report.auto.out in (
       omega arith,
       omega arith,
       stop-room a.on a.period a.filters.now a.prefix.now a.r.now a.at _

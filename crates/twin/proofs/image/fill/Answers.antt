@@ -6,7 +6,7 @@ use Rattle.twin.proofs.image.fill.Goals as goal
 pub put_monitors-requires : goal.put_monitors-requires
 put_monitors-requires c = let j : length (set c.put32.new.out 4 c.after_all-seen.result.filter) ≡ length
     c.put32.new.out = simp length-set in
-    let e = j ∙ c.put32.auto.0 in (
+    let e = j ∙ c.put32.auto.out in (
       omega (
         arith,
         e,
@@ -20,7 +20,7 @@ put_monitors-requires c = let j : length (set c.put32.new.out 4 c.after_all-seen
 pub put_pairs-requires : goal.put_pairs-requires
 put_pairs-requires c = let j : length (set c.put32.new.out 4 c.after_all-seen.result.filter) ≡ length
     c.put32.new.out = simp length-set in
-    let e = c.put_monitors.auto.0 ∙ j ∙ c.put32.auto.0 in (
+    let e = c.put_monitors.auto.b ∙ j ∙ c.put32.auto.out in (
       omega (
         arith,
         e,
@@ -34,8 +34,8 @@ put_pairs-requires c = let j : length (set c.put32.new.out 4 c.after_all-seen.re
 pub bounds-b-5224 : goal.bounds-b-5224
 bounds-b-5224 c = let j : length (set c.put32.new.out 4 c.after_all-seen.result.filter) ≡ length
     c.put32.new.out = simp length-set in
-    let e = c.put_pairs.auto.0 ∙ c.put_monitors.auto.0 ∙ j
-    ∙ c.put32.auto.0 in
+    let e = c.put_pairs.auto.b ∙ c.put_monitors.auto.b ∙ j
+    ∙ c.put32.auto.out in
     omega (
       arith,
       e,
@@ -47,8 +47,8 @@ shape_of-b c = let j : length (set c.put32.new.out 4 c.after_all-seen.result.fil
     c.put32.new.out = simp length-set in
     let i : length (set c.put_pairs.new.b count_at c.after_all-seen.result.count) ≡
     length c.put_pairs.new.b = simp length-set in
-    i ∙ c.put_pairs.auto.0 ∙ c.put_monitors.auto.0 ∙ j
-    ∙ c.put32.auto.0
+    i ∙ c.put_pairs.auto.b ∙ c.put_monitors.auto.b ∙ j
+    ∙ c.put32.auto.out
 
 pub returns : goal.returns
 returns c = filled c.args.t.now c.args.n c.after_all-seen.result c.args.b.now

@@ -23,7 +23,7 @@ put_settings-requires c = let n = c.requires (let z = c.if-a-eq0.false in omega 
 
 pub put_added-requires : goal.put_added-requires
 put_added-requires c = let n = c.requires (let z = c.if-a-eq0.false in omega (arith, z)) in (
-      c.put_settings.auto.0,
+      c.put_settings.auto.row,
       added-adds
           c.args.t.now c.args.a _ n.added c.params_of-params.ensures,
     )

@@ -23,7 +23,7 @@ overflow_cast-row c = let k = data-short c.args.t.now
 pub shape_of-row : goal.shape_of-row
 shape_of-row c = let j : length (set (set c.args.row.now 24 c.event_of.result) 25
     (length c.data_of-data.result.now)) ≡ length c.args.row.now = simp length-set in
-    c.copy.auto.0 ∙ j
+    c.copy.auto.out ∙ j
 
 pub returns : goal.returns
 returns c = latest-some c.args.t.now c.args.r c.args.none c.event_of.result

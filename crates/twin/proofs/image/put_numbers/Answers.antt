@@ -5,7 +5,7 @@ use Rattle.twin.proofs.image.put_numbers.Goals as goal
 pub bounds-row-23 : goal.bounds-row-23
 bounds-row-23 c = let j : length (set c.put16.new.out 10 c.phase.result) ≡ length
     c.put16.new.out = simp length-set in
-    let e = c.put64.auto.0 ∙ c.put32.auto.0 ∙ j ∙ c.put16.auto.0 in
+    let e = c.put64.auto.out ∙ c.put32.auto.out ∙ j ∙ c.put16.auto.out in
     omega (
       arith,
       e,
@@ -15,7 +15,7 @@ bounds-row-23 c = let j : length (set c.put16.new.out 10 c.phase.result) ≡ len
 pub shape_of-row : goal.shape_of-row
 shape_of-row c = let j : length (set c.put16.new.out 10 c.phase.result) ≡ length
     c.put16.new.out = simp length-set in
-    let e = c.put64.auto.0 ∙ c.put32.auto.0 ∙ j ∙ c.put16.auto.0 in
+    let e = c.put64.auto.out ∙ c.put32.auto.out ∙ j ∙ c.put16.auto.out in
     let i : length (set c.put64.new.out 23 c.kept_rssi.result) ≡ length
     c.put64.new.out = simp length-set in
     i ∙ e

@@ -18,7 +18,7 @@ bounds-params-at c = let g = type-at-range c.args.params.now c.type_at-at.result
     omega (arith, g.2)
 
 pub bounds-row-5 : goal.bounds-row-5
-bounds-row-5 c = let e : length c.copy.new.out ≡ length c.args.row.now = c.copy.auto.0
+bounds-row-5 c = let e : length c.copy.new.out ≡ length c.args.row.now = c.copy.auto.out
     ∙ length-set c.args.row.now 0 c.args.h in
     omega (arith, e, c.requires.0)
 
@@ -33,7 +33,7 @@ overflow_cast-row c = let q = condition-short c.args.params.now c.type_at-at.res
     omega (arith, q)
 
 pub bounds-row-6 : goal.bounds-row-6
-bounds-row-6 c = let e : length c.copy.new.out ≡ length c.args.row.now = c.copy.auto.0
+bounds-row-6 c = let e : length c.copy.new.out ≡ length c.args.row.now = c.copy.auto.out
     ∙ length-set c.args.row.now 0 c.args.h in
     simp length-set (omega (arith, e, c.requires.0))
 
@@ -48,13 +48,13 @@ slice_bounds-copy-start-2 c = let g = type-at-range c.args.params.now c.type_at-
     omega (arith, g.2)
 
 pub shape_of-row : goal.shape_of-row
-shape_of-row c = let e : length c.copy.new.out ≡ length c.args.row.now = c.copy.auto.0
+shape_of-row c = let e : length c.copy.new.out ≡ length c.args.row.now = c.copy.auto.out
     ∙ length-set c.args.row.now 0 c.args.h in
     let j : length (set (set c.copy.new.out 5
     (get_or c.args.params.now c.type_at-at.result 0)) 6
     (length c.args.params.now - (c.type_at-at.result + 1))) ≡ length
     c.copy.new.out = simp length-set in
-    c.copy-2.auto.0 ∙ j ∙ e
+    c.copy-2.auto.out ∙ j ∙ e
 
 pub returns : goal.returns
 returns c = settings-put c.args.row.now c.args.params.now c.args.h c.type_at-at.result
