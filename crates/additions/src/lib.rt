@@ -1,6 +1,8 @@
 // Additions of editions of the prefix from a file (document 02, T-12): one a line, in the form of an A4 line. The
 // file's octets come in pieces of any size; each character goes behind those of its line, and a whole line is given
 // to `engine::add`. The first that is refused stops. Reading the file is the caller's.
+#![tactic(auto)]
+
 ghost use Rattle.std.specs.Prelude.{◌+◌, ◌≤◌, min, ◌≡◌, length};
 ghost use Rattle.sessions.specs.Session.{state_after};
 ghost use Rattle.engine.specs.Calls.{wrote_of};

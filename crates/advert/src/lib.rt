@@ -1,5 +1,7 @@
 // Whether a condition is well formed, and whether a packet matches it (document 01, Conditions). Every match reads the
 // advertisement and the scan response through one lookup, next_section, and compares octets by one function, compare.
+#![tactic(auto)]
+
 mod cost;
 mod lookup;
 mod patterns;

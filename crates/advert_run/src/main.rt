@@ -4,6 +4,8 @@
 // then, for a well-formed condition, 1 if the packet matches and 0 if not, and a dash for any other. The vectors and
 // their answers are made by vectors.py, an independent program written from documents 01 and 02; there each answer is
 // worked out by hand too, and the two are compared.
+#![tactic(auto)]
+
 ghost use Rattle.std.specs.Prelude.{◌≤◌, ◌≡◌, length};
 
 use advert::Form;

@@ -1,5 +1,7 @@
 // AES-128 encryption after FIPS 197. A column of the state is a number: its octet in row r is at place 256^r. Look-ups
 // go by the octets of key and block, so the time of a call may depend on them.
+#![tactic(auto)]
+
 ghost use Rattle.std.specs.Prelude.{◌≡◌, [], ◌∷◌, map, ◌<◌};
 ghost use Rattle.fips197.specs.Field.{xtimes, substitute};
 ghost use Rattle.fips197.specs.Words.{octet, octets, sums, rotated};

@@ -3,6 +3,8 @@
 // written; 01 a number of octets, a key of so many and an address, both the least octet first, for which 01 is written
 // if the key resolves the address and 00 if not. Other lines are passed over. The answers are from FIPS 197, from the
 // Core Specification and by OpenSSL (vectors.py).
+#![tactic(auto)]
+
 ghost use Rattle.std.specs.Prelude.{◌+◌, ◌≤◌, ◌<◌, length};
 
 use aes::Block;

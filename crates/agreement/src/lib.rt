@@ -1,1 +1,2 @@
 // The slow twin's blocks answer as the first engine's do: specs/, no code.
+#![tactic(auto)]

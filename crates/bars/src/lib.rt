@@ -1,5 +1,7 @@
 // The service record as a picture (man/visits.1): the rows that are kept for it in a lent block, the search among
 // them, and where a visit's bar and the axis' marks stand, from their ticks.
+#![tactic(auto)]
+
 ghost use Rattle.std.specs.Prelude.{◌+◌, ◌-◌, ◌*◌, ◌/◌, ◌%◌, ◌≤◌, ◌<◌, ◌≡◌, ◌&&◌, ◌||◌, leb};
 ghost use Rattle.laws.specs.Tests.{pick};
 ghost use Rattle.octets.specs.Numbers.{number_at};

@@ -2,6 +2,8 @@
 // header is include/bournejade.h. The state is the caller's block of 6,987 octets, lent to each call and changed in
 // place; any octets in it are met. Each call returns 0 or the refusal's number, and gives the counts of octets
 // through the last parameters.
+#![tactic(auto)]
+
 mod numbers;
 
 ghost use Rattle.std.specs.Prelude.{◌≡◌, length};

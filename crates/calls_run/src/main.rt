@@ -4,6 +4,8 @@
 // second is the size of the pieces that a replay's text is shown in. Tag 0 ends a script: its image is saved, and a
 // line is written with a digest of all that was seen of its calls, how many they are, and how many octets they wrote.
 // The independent implementation makes the scripts and the lines (reference/README.md, Stored scripts).
+#![tactic(auto)]
+
 mod journal;
 mod make;
 mod seen;

@@ -1,5 +1,7 @@
 // Vendor commands executed on the lent block (document 01, Commands): the status, the change in place, the Command
 // Complete written into the lent output, the position moved. The block is laid out as the model's `padded` says.
+#![tactic(auto)]
+
 mod replies;
 
 ghost use Rattle.std.specs.Prelude.{ℕ, ◌+◌, ◌-◌, ◌*◌, ◌≤◌, ◌<◌, ◌≡◌, true, length};

@@ -3,6 +3,8 @@
 // octets written into the block at an offset of two octets, 02 a command's parameters, 03 the image is to be shown.
 // Other lines are passed over. The sessions and their answers are made by vectors.py, which asks the independent
 // implementation.
+#![tactic(auto)]
+
 ghost use Rattle.std.specs.Prelude.{◌+◌, ◌≤◌, ◌<◌, length};
 
 use refusals::Wrote;

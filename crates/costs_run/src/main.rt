@@ -3,6 +3,8 @@
 // length of a scan response and 31 octets, each padded with zeros. For each vector a line is written: 1 if the packet
 // matches and 0 if not, and how many comparisons it took. Ends at a line of another length. vectors.py makes the
 // vectors and the answers from the independent implementation.
+#![tactic(auto)]
+
 ghost use Rattle.std.specs.Prelude.{◌≤◌, ◌≡◌, length};
 
 use refusals::Wrote;

@@ -1,6 +1,8 @@
 // What a frame counts for each handle (document 02, T-09), from the block before it: sixteen gains to be added to the
 // rows of a table. Nothing is changed. A packet's starts are told without its turns: each takes one of the room, the
 // free places and the pairs that keep a smaller RSSI.
+#![tactic(auto)]
+
 mod packet;
 mod reasons;
 mod tick;

@@ -1,5 +1,7 @@
 // What the program of the service desk is asked and says: a device's address as people write it, its type, and which
 // monitors watch it, in words (document 02, T-02).
+#![tactic(auto)]
+
 ghost use Rattle.std.specs.Prelude.{◌+◌, ◌≤◌, ◌≡◌, ◌++◌, ◌∷◌, [], take};
 ghost use Rattle.texts.specs.Text.{room, told};
 ghost use Rattle.desk.specs.Written.{digit_of, is_pair, is_colon, octet_at, is_address, address_in, type_of};

@@ -1,1 +1,2 @@
 // The rows are specifications alone: see specs.
+#![tactic(auto)]

@@ -1,5 +1,7 @@
 // Events and reports, appended to a lent output at an index (document 01, Watching, by history). Where one does not
 // fit, or an argument is not of its length, nothing is written and the answer is 0.
+#![tactic(auto)]
+
 ghost use Rattle.std.specs.Prelude.{◌+◌, ◌≤◌, ◌≡◌, length};
 ghost use Rattle.laws.specs.Put.{put, put_if};
 ghost use Rattle.laws.specs.Tests.{pick};

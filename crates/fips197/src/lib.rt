@@ -1,1 +1,2 @@
 // The definitions of FIPS 197 and their laws: specs/ alone.
+#![tactic(auto)]

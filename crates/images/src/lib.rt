@@ -1,1 +1,2 @@
 // The laws of the image's text. They are in specs/; there is no code.
+#![tactic(auto)]

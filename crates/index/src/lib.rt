@@ -1,6 +1,8 @@
 // The index by device behind the core of a block (document 02, T-02): worked out from the pairs, asked, compared. And
 // the whole block of a state, with the editions of the prefix (T-12) behind the index: its size, and how one is
 // begun. The core is laid out as `State` says.
+#![tactic(auto)]
+
 mod table;
 mod walk;
 

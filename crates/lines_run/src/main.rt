@@ -1,6 +1,8 @@
 // Runs vectors through the crates lines and reader, one line of output for each: the line, or the refusal's number
 // (document 01, Lines, Refusal numbers, A session in full). What it must write stands in stdout, which is written
 // from the document by hand.
+#![tactic(auto)]
+
 use refusals::{Refusal, Wrote};
 
 // What a lent output holds before a call; it stands there still where nothing was written.

@@ -1,6 +1,8 @@
 // What a packet means to each monitor of a block (document 01, Conditions, Watching, by history). The monitors are
 // asked once, in handle order; what each says of the packet is kept as one octet a handle, which the loops over pairs
 // and handles read.
+#![tactic(auto)]
+
 mod asks;
 mod keys;
 mod options;

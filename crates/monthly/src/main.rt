@@ -3,6 +3,8 @@
 // (document 02, T-09 and T-10): a table, or comma-separated values. Where a journal stopped, the refusal's number
 // follows on a line; a refused image or a refused join gives only the number. What is counted, joined, written and
 // read back is the crates' month and sheets; here are files and arguments.
+#![tactic(auto)]
+
 mod journal;
 mod rows;
 mod site;

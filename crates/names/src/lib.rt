@@ -1,5 +1,7 @@
 // Names of numbers: a table has a row for each, its number, how many characters its name has, and they. The words of
 // refusals stand here once.
+#![tactic(auto)]
+
 ghost use Rattle.std.specs.Prelude.{◌+◌, ◌-◌, ◌≤◌, ◌<◌, ◌≡◌, length};
 ghost use Rattle.names.specs.Names.{name_in};
 ghost use Rattle.names.specs.Refusals.{refusal_name};

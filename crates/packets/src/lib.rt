@@ -3,6 +3,8 @@
 // and those that the packet may start, and keeps what each says of the packet as one octet a handle. Then the rows of
 // the device's pairs are changed in place, the handles take their turns, which start pairs behind them, and the
 // reports are written.
+#![tactic(auto)]
+
 mod device;
 pub mod reasons;
 pub mod reports;

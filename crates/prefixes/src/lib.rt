@@ -1,5 +1,7 @@
 // The editions of the prefix behind the index of a block (document 02, T-12): whether they are sound, which is in
 // force at a frame, one more behind them. The block is laid out as `Whole` says.
+#![tactic(auto)]
+
 ghost use Rattle.std.specs.Prelude.{◌+◌, ◌*◌, ◌≤◌, ◌<◌, ◌≡◌, length, drop, replicate, leb};
 ghost use Rattle.laws.specs.Put.{put};
 ghost use Rattle.laws.specs.Tests.{sames};

@@ -1,5 +1,7 @@
 // The refusals of every call with their numbers (document 01, Refusal numbers; document 02, T-12), and what a call
 // that writes answers.
+#![tactic(auto)]
+
 ghost use Rattle.std.specs.Prelude.{◌≡◌};
 ghost use Rattle.refusals.specs.Numbers.{number};
 

@@ -1,5 +1,7 @@
 // What the program of a standby decides beside replay: what its options ask, what an image's file holds, and what it
 // says on standard error (man/standby.1). Octets in, octets out: reading and writing files is the program's.
+#![tactic(auto)]
+
 ghost use Rattle.std.specs.Prelude.{◌≡◌, ◌≤◌};
 ghost use Rattle.reports.specs.Choices.{Loads};
 ghost use Rattle.reports.specs.Options.{plain_asked, option_of, first_name, fits_of, adds_of, is_dash as is_dash_of, names_of, three_of, is_dashed};

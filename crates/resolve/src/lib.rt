@@ -1,5 +1,7 @@
 // Resolvable private addresses (Bluetooth Core Specification, Vol 3, Part H, 2.2.2; Vol 6, Part B, 1.3.2.3). Key and
 // address are as a condition and a packet have them, the least octet first.
+#![tactic(auto)]
+
 ghost use Rattle.std.specs.Prelude.{◌+◌, ◌<◌, ◌≤◌, ◌≡◌, [], ◌∷◌, length, get_or};
 ghost use Rattle.octets.specs.Little.{little};
 ghost use Rattle.fips197.specs.Words.{octets};

@@ -1,6 +1,8 @@
 // The lines of an image stored in a block of 5,225 octets (document 01, The image), whatever they hold: A0 at the
 // start, A1 and A5 in the row of their handle, A3 behind the pairs. Nothing is tested here: whether the text was an
 // image is told afterwards, by the block's soundness and by what save would write of it.
+#![tactic(auto)]
+
 ghost use Rattle.std.specs.Prelude.{◌≡◌, length};
 ghost use Rattle.restore.specs.Lines.{stored_monitor, stored_pair, spread_of, stored, stored_in};
 ghost use Rattle.model.specs.Layout.{block_size, line_row, monitor_size, pair_size};

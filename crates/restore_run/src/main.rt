@@ -4,6 +4,8 @@
 // the answers to every text that is one character of it off, one octet's digits off, and cut at every length; L, for
 // the largest image, changes two characters at each place and cuts it. The texts and the answers are made by
 // vectors.rs over the independent implementation.
+#![tactic(auto)]
+
 ghost use Rattle.std.specs.Prelude.{◌+◌, ◌≤◌, ◌<◌, length};
 
 use index::Whole;

@@ -2,6 +2,8 @@
 // the lines before hexadecimal: A0 from its start, A1 or A5 of each monitor row in use by handle, A3 of each pair held
 // in start order, AF with their numbers. Lengths that stand in rows are cut to what the row has, so any block whatever
 // can be given.
+#![tactic(auto)]
+
 mod passes;
 
 ghost use Rattle.std.specs.Prelude.{◌+◌, ◌*◌, ◌≤◌, ◌<◌, ◌≡◌, true, ◌&&◌, ◌∷◌, length, eqb};

@@ -1,1 +1,2 @@
 // Sessions and failover, over any engine: definitions and laws alone (specs/).
+#![tactic(auto)]

@@ -4,6 +4,8 @@
 // a digest of all answers' octets and then of the saved image's text, how many octets these are, and the number of the
 // refusal that stopped the replay (0: none). sessions.py makes the sessions and the lines, over the independent
 // implementation.
+#![tactic(auto)]
+
 ghost use Rattle.std.specs.Prelude.{◌+◌, ◌≤◌, ◌<◌, length};
 
 use engine::{Loaded, Stop};

@@ -1,5 +1,7 @@
 // The text of sixteen rows as `month --csv` writes it, and such a text read back (document 02, T-10): the rows whose
 // text it is, octet for octet, and nothing else.
+#![tactic(auto)]
+
 mod joins;
 mod marks;
 mod reads;

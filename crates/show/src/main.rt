@@ -1,5 +1,7 @@
 // The program `show FILE..`: the lines of journals, images and answers in words, a line each, on standard output
 // (man/show.1). The words are the crate shown's; here are files and words of the command.
+#![tactic(auto)]
+
 mod files;
 
 use libc::STDERR_FILENO;

@@ -1,6 +1,8 @@
 // A line of a journal, of an image or of answers in words (man/show.1). What a line is is told by its first octet: 01
 // to 04 a frame, 0E, 3E and FF an event, A0, A1, A3, A4, A5 and AF a line of an image. A number in decimal is a
 // refusal.
+#![tactic(auto)]
+
 ghost use Rattle.std.specs.Prelude.{◌+◌, ◌-◌, ◌≤◌, ◌<◌, ◌≡◌, true, false, eqb, length, take, ◌&&◌};
 ghost use Rattle.words.specs.Says.{Says};
 ghost use Rattle.shown.specs.Line.{is_kind, why_no_frame, is_event, form_of, why_not, line_text, no_line, octets_why, octets_text, why_no_text, text_words, is_digits, small_of, refusal_in, is_refusal, refused_text, words_of, is_line};

@@ -1,6 +1,8 @@
 // Images with editions (document 02, T-12): the image's text of a whole block, any text read into one, and whether a
 // block is sound. The core's text and the core are those of the crates save and restore; a line for each edition
 // stands behind the first line.
+#![tactic(auto)]
+
 ghost use Rattle.std.specs.Prelude.{ℕ, ◌+◌, ◌*◌, ◌≤◌, ◌<◌, ◌≡◌, true, List, length, take, drop};
 ghost use Rattle.laws.specs.Put.{put, put_if};
 ghost use Rattle.laws.specs.Loops.{each};

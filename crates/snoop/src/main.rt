@@ -1,6 +1,8 @@
 // The program `snoop [--from SECONDS] IMAGE JOURNAL`: restores the image, replays the journal and writes a btsnoop
 // file of the commands and of the answers' events and reports on standard output, with time from ticks (man/snoop.1).
 // What is written is the crate captures'; here are files and words of the command.
+#![tactic(auto)]
+
 mod journal;
 
 use decimals::Number;

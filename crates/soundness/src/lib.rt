@@ -1,5 +1,7 @@
 // Whether a block of octets is a sound state (document 01, The image, "Sound"): in place, in bounded work, for any
 // octets. The rows are laid out as `State` says.
+#![tactic(auto)]
+
 mod keys;
 mod tails;
 mod windows;

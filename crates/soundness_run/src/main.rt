@@ -4,6 +4,8 @@
 // every check found the block sound, else 0. Before each check the highest octet of the position is turned from 0 to
 // 1 or back, so that no check can be spared. The vectors and their answers are made by vectors.py, an independent
 // program written from document 01.
+#![tactic(auto)]
+
 ghost use Rattle.std.specs.Prelude.{◌≤◌, ◌≡◌, length};
 
 use refusals::Wrote;

@@ -1,5 +1,7 @@
 // The state: a block of octets whose rows are the image's before hexadecimal (document 01, Sizes of the gateway, The
 // image), its limits and offsets, how one is begun, and the two units of time.
+#![tactic(auto)]
+
 mod settings;
 
 ghost use Rattle.std.specs.Prelude.{◌≡◌, ◌<◌, length, nat_lt};

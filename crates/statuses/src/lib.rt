@@ -2,6 +2,8 @@
 // interval, what version 2 adds (document 02, T-13), condition type, the condition's form and length, room for one
 // more monitor. 0 is success. Nothing here looks at the state: what a status takes from it (room for a monitor,
 // whether a handle is live, the present setting of the filter) is a parameter.
+#![tactic(auto)]
+
 ghost use Rattle.std.specs.Prelude.{◌+◌, ◌≤◌, ◌<◌, ◌≡◌, true, ◌&&◌, eqb, length, get_or};
 ghost use Rattle.model.specs.Layout.{extra_size};
 ghost use Rattle.model.specs.Level.{level, in_range};

@@ -1,5 +1,7 @@
 // The service record's rows in text (man/visits.1): a visit as a row of a table for people, of comma-separated
 // values, or as a JSON object.
+#![tactic(auto)]
+
 ghost use Rattle.std.specs.Prelude.{◌+◌, ◌/◌, ◌%◌, ◌≤◌, ◌<◌, ◌≡◌, ◌++◌, [], length, take, ◌&&◌, leb};
 ghost use Rattle.texts.specs.Text.{room, told};
 ghost use Rattle.stays.specs.Clocks.{nine, two_at, is_time, time_in};

@@ -73,6 +73,7 @@ holds-in (q ∷ qs) h d t = go (eqb q.handle h && sames (watched q) d) refl t (�
 
 pub in-holds : (qs : List Pair) (h : ℕ) (d : List ℕ) → In (h, d) (map key qs) → holds qs h d ≡ true
 unfolding holds some_of is_pair
+in-holds [] h d x' = elim x' [ ]
 in-holds (q ∷ qs) h d (inl w) =
     let a : eqb q.handle h ≡ true = eq-eqb q.handle h (ap (λ x. x.0) (sym w)) in
     let b : sames (watched q) d ≡ true = eq-sames (watched q) d (ap (λ x. x.1) (sym w)) in

@@ -1,1 +1,2 @@
 // Laws of one step of the model. They are in specs/; there is no code.
+#![tactic(auto)]

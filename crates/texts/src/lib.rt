@@ -1,5 +1,7 @@
 // Texts put together: words and numbers (`words`), addresses, types, times, levels. Each is put behind a text, as far
 // as there is room.
+#![tactic(auto)]
+
 ghost use Rattle.std.specs.Prelude.{◌+◌, ◌*◌, ◌/◌, ◌%◌, ◌≤◌, ◌<◌, ◌≡◌, ◌++◌, take};
 ghost use Rattle.lines.specs.Hex.{digit as hex_digit};
 ghost use Rattle.texts.specs.Text.{room, told};

@@ -1,6 +1,8 @@
 // A tick (document 01, Watching, by history): one pass over the pairs held, in place. For each pair in start order:
 // the ticks since a good packet, the end of a watch with its stop event, the closing of a window with its report.
 // Pairs that stay move down over those that end, and the rows behind them are cleared.
+#![tactic(auto)]
+
 mod calm;
 mod columns;
 mod tells;

@@ -1,1 +1,2 @@
 // Definitions and laws alone: the texts that a takeover writes, and a takeover in turns.
+#![tactic(auto)]

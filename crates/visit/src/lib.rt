@@ -1,6 +1,8 @@
 // The visits of devices, by the start and stop events of answers (document 01, Watching, by history): a book of the
 // visits that are open, and what an event, a cancelled monitor, a packet and the journal's end do to it. A visit's
 // key is a number of 8 octets as they stand in an event: address type, address, handle. By value: no row is lent.
+#![tactic(auto)]
+
 pub mod frames;
 
 ghost use Rattle.std.specs.Prelude.{◌≡◌, ℕ, ◌+◌, ◌*◌, ◌/◌, ◌%◌, ◌<◌, ◌≤◌, length, replicate};

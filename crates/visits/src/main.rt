@@ -1,6 +1,8 @@
 // The program `visits [--csv|--json|--svg] [--from TIME] IMAGE JOURNAL`: restores the image, replays the journal and
 // writes the service record, a row for each visit of a device (man/visits.1). What a visit is, is the crate visit's,
 // and its row the crate stays'; here are files and words of the command.
+#![tactic(auto)]
+
 mod axis;
 mod drawing;
 mod effects;

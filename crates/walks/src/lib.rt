@@ -1,4 +1,6 @@
 // Walks the events of an answer, or of what a replay wrote: where the event that begins at an index ends.
+#![tactic(auto)]
+
 ghost use Rattle.std.specs.Prelude.{◌≡◌, ◌<◌};
 ghost use Rattle.walks.specs.Walk.{behind as behind_of};
 

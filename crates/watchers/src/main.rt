@@ -2,6 +2,8 @@
 // watch the device and the lowest handle, or that there is none (document 02, T-02). The address is as people write
 // it, the type `public`, which is taken where none is given, or `random`. A refused image gives the refusal's number.
 // What is asked and said is the crate desk's; here are files and arguments.
+#![tactic(auto)]
+
 use engine::Loaded;
 use index::{Watch, Whole};
 use libc::{STDERR_FILENO, STDOUT_FILENO};

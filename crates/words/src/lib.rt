@@ -1,5 +1,7 @@
 // Words put into an output, each behind what it has, as far as there is room; the answer is the end then. The pieces
 // of a line in words: numbers, levels, addresses, UUIDs, names of numbers.
+#![tactic(auto)]
+
 ghost use Rattle.std.specs.Prelude.{◌+◌, ◌-◌, ◌≤◌, ◌<◌, min, ◌≡◌, ◌++◌, length, drop};
 ghost use Rattle.decimals.specs.Decimals.{decimal};
 ghost use Rattle.lines.specs.Hex.{hex_of};

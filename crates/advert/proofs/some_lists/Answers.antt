@@ -32,7 +32,7 @@ loop-part-smaller c = let w = c.next_section-part.ensures.less c.if-part-eq0.fal
 
 pub loop-part-preserved : goal.loop-part-preserved
 loop-part-preserved c = let y = sym c.lists.ensures ∙ c.if-lists.false in (
-      c.next_section-part.ensures.high,
-      tried-miss _ _ _ _ _ _ _
-          c.loop-part.invariant.1 c.next_section-part.ensures c.if-part-eq0.false y,
-    )
+  c.next_section-part.ensures.high,
+  tried-miss _ _ _ _ _ _ _
+      c.loop-part.invariant.1 c.next_section-part.ensures c.if-part-eq0.false y,
+)

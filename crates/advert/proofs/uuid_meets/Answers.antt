@@ -4,7 +4,6 @@ use Rattle.advert.specs.Uuid.{uuid_form}
 use Rattle.advert.specs.UuidLaws.{uuid-bounds, uuid-bad, uuid-of}
 use Rattle.advert.proofs.uuid_meets.Goals as goal
 
-
 pub returns-then-not-uuid_form : goal.returns-then-not-uuid_form
 returns-then-not-uuid_form c = uuid-bad _ _ _ (sym c.uuid_form.ensures ∙ c.if-not-uuid_form.true)
 

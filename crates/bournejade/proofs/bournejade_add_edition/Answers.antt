@@ -6,7 +6,7 @@ use Rattle.bournejade.proofs.bournejade_add_edition.Goals as goal
 
 pub returns : goal.returns
 returns c = (
-      c.answer_number.ensures ∙ ap number_in c.add-r.ensures.0
-          ∙ number-reply _ (known-add c.args.state.now _),
-      c.add-r.ensures.1,
-    )
+  c.answer_number.ensures ∙ ap number_in c.add-r.ensures.0
+      ∙ number-reply _ (known-add c.args.state.now _),
+  c.add-r.ensures.1,
+)

@@ -23,10 +23,10 @@ overflow_cast-h c = let b = add-handle c.free_handle-h.result c.args.params.now
 
 pub reply_handle-requires : goal.reply_handle-requires
 reply_handle-requires c = (
-      omega arith,
-      answer-add _
-          c.requires.3,
-    )
+  omega arith,
+  answer-add _
+      c.requires.3,
+)
 
 pub returns-then-status-eq0 : goal.returns-then-status-eq0
 returns-then-status-eq0 c = let a = c.args in
@@ -45,10 +45,10 @@ returns-then-status-eq0 c = let a = c.args in
 
 pub reply_handle-requires-2 : goal.reply_handle-requires-2
 reply_handle-requires-2 c = (
-      omega arith,
-      answer-add _
-          c.requires.3,
-    )
+  omega arith,
+  answer-add _
+      c.requires.3,
+)
 
 pub returns : goal.returns
 returns c = let a = c.args in

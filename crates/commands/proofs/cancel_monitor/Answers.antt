@@ -9,29 +9,29 @@ use Rattle.commands.proofs.cancel_monitor.Goals as goal
 
 pub cancel-requires : goal.cancel-requires
 cancel-requires c = let a = c.args in (
-      omega arith,
-      cancel-handle a.s.now a.params.now
-          c.get8-h.result c.live-found.ensures
-          c.cancel_status-status.ensures c.if-status-eq0.true,
-    )
+  omega arith,
+  cancel-handle a.s.now a.params.now
+      c.get8-h.result c.live-found.ensures
+      c.cancel_status-status.ensures c.if-status-eq0.true,
+)
 
 pub reply_done-requires : goal.reply_done-requires
 reply_done-requires c = (search rules, answer-cancel)
 
 pub returns-then-status-eq0 : goal.returns-then-status-eq0
 returns-then-status-eq0 c = let a = c.args in (
-      (λ m e q. cancel-done m a.s.now a.params.now e q a.out.now
-          c.get16-opcode.ensures c.requires.2 c.get8-h.ensures c.live-found.ensures
-          c.cancel_status-status.ensures c.if-status-eq0.true (c.cancel.ensures m e q)
-          c.reply_done.ensures),
-      replied-within a.out.now (omega arith) c.reply_done.ensures,
-    )
+  (λ m e q. cancel-done m a.s.now a.params.now e q a.out.now
+      c.get16-opcode.ensures c.requires.2 c.get8-h.ensures c.live-found.ensures
+      c.cancel_status-status.ensures c.if-status-eq0.true (c.cancel.ensures m e q)
+      c.reply_done.ensures),
+  replied-within a.out.now (omega arith) c.reply_done.ensures,
+)
 
 pub returns : goal.returns
 returns c = let a = c.args in (
-      (λ m e q. cancel-failed m a.s.now a.params.now e q a.out.now
-          c.get16-opcode.ensures c.requires.2 c.get8-h.ensures c.live-found.ensures
-          c.cancel_status-status.ensures
-          c.if-status-eq0.false refl c.reply.ensures),
-      replied-within a.out.now (omega arith) c.reply.ensures,
-    )
+  (λ m e q. cancel-failed m a.s.now a.params.now e q a.out.now
+      c.get16-opcode.ensures c.requires.2 c.get8-h.ensures c.live-found.ensures
+      c.cancel_status-status.ensures
+      c.if-status-eq0.false refl c.reply.ensures),
+  replied-within a.out.now (omega arith) c.reply.ensures,
+)

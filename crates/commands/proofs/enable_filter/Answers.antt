@@ -11,16 +11,16 @@ reply_done-requires c = (search rules, answer-enable)
 
 pub returns-then-status-eq0 : goal.returns-then-status-eq0
 returns-then-status-eq0 c = let a = c.args in (
-      (λ m e q. enable-done m a.s.now a.params.now e q a.out.now
-          c.get16-opcode.ensures c.requires.2 c.enable_status-status.ensures
-          c.if-status-eq0.true c.get8.ensures refl c.reply_done.ensures),
-      replied-within a.out.now (omega arith) c.reply_done.ensures,
-    )
+  (λ m e q. enable-done m a.s.now a.params.now e q a.out.now
+      c.get16-opcode.ensures c.requires.2 c.enable_status-status.ensures
+      c.if-status-eq0.true c.get8.ensures refl c.reply_done.ensures),
+  replied-within a.out.now (omega arith) c.reply_done.ensures,
+)
 
 pub returns : goal.returns
 returns c = let a = c.args in (
-      (λ m e q. enable-failed m a.s.now a.params.now e q a.out.now
-          c.get16-opcode.ensures c.requires.2 c.enable_status-status.ensures
-          c.if-status-eq0.false refl c.reply.ensures),
-      replied-within a.out.now (omega arith) c.reply.ensures,
-    )
+  (λ m e q. enable-failed m a.s.now a.params.now e q a.out.now
+      c.get16-opcode.ensures c.requires.2 c.enable_status-status.ensures
+      c.if-status-eq0.false refl c.reply.ensures),
+  replied-within a.out.now (omega arith) c.reply.ensures,
+)

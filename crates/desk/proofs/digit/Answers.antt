@@ -23,9 +23,9 @@ returns-then-c-lt97 c = (
 
 pub returns-then-c-le102 : goal.returns-then-c-le102
 returns-then-c-le102 c = (
-      digit-lower c.args.c (omega arith) (omega arith),
-      omega arith,
-    )
+  digit-lower c.args.c (omega arith) (omega arith),
+  omega arith,
+)
 
 pub returns : goal.returns
 returns c = (digit-above c.args.c (omega arith), omega arith)

@@ -26,12 +26,12 @@ returns-then-table-i c = let e : c.loop-i.i + 2 + c.wide-k.result -
 
 pub loop-i-preserved : goal.loop-i-preserved
 loop-i-preserved c = (
-      refl,
-      omega arith,
-      met-other
-          c.args.table.now c.loop-i.i c.args.x c.loop-i.invariant.2
-          c.wide-k.result c.wide-k.ensures.0 (omega arith) (omega arith) c.if-table-i.false,
-    )
+  refl,
+  omega arith,
+  met-other
+      c.args.table.now c.loop-i.i c.args.x c.loop-i.invariant.2
+      c.wide-k.result c.wide-k.ensures.0 (omega arith) (omega arith) c.if-table-i.false,
+)
 
 pub returns : goal.returns
 returns c = met-end c.args.table.now c.loop-i.i

@@ -14,12 +14,12 @@ use Rattle.packets.proofs.move_rows.Goals as goal
 
 pub loop-i-init : goal.loop-i-init
 loop-i-init c = let a = c.args in (
-      omega arith,
-      omega arith,
-      refl,
-      λ m held n b x. moves-begin m (packet_of a.payload.now) b.measured
-          b.sender.sent b.roomy a.from (omega (arith, x.most)) x.below b.block,
-    )
+  omega arith,
+  omega arith,
+  refl,
+  λ m held n b x. moves-begin m (packet_of a.payload.now) b.measured
+      b.sender.sent b.roomy a.from (omega (arith, x.most)) x.below b.block,
+)
 
 pub loop-i-smaller : goal.loop-i-smaller
 loop-i-smaller c = omega arith

@@ -12,28 +12,28 @@ use Rattle.packets.proofs.step.Goals as goal
 
 pub move_rows-reason-requires : goal.move_rows-reason-requires
 move_rows-reason-requires c = let p = c.requires in (
-      p.0,
-      c.end_of-to.ensures.0,
-      omega (
-        arith,
-        c.end_of-to.ensures.1,
-        c.at_most-n.ensures.1,
-      ),
-      c.ask.auto.acts,
-      p.2,
-    )
+  p.0,
+  c.end_of-to.ensures.0,
+  omega (
+    arith,
+    c.end_of-to.ensures.1,
+    c.at_most-n.ensures.1,
+  ),
+  c.ask.auto.acts,
+  p.2,
+)
 
 pub start_all-turn-requires : goal.start_all-turn-requires
 start_all-turn-requires c = let p = c.requires in (
-      c.move_rows-reason.auto.s
-          ∙ p.0,
-      c.at_most-n.ensures.1,
-      c.ask.auto.acts,
-      c.held_in-held.ensures.0,
-      omega arith,
-      p.1,
-      p.2,
-    )
+  c.move_rows-reason.auto.s
+      ∙ p.0,
+  c.at_most-n.ensures.1,
+  c.ask.auto.acts,
+  c.held_in-held.ensures.0,
+  omega arith,
+  p.1,
+  p.2,
+)
 
 pub is_told-told-requires : goal.is_told-told-requires
 is_told-told-requires c = c.start_all-turn.auto.s ∙ c.move_rows-reason.auto.s ∙ c.requires.0

@@ -14,10 +14,10 @@ shift_in-requires c = (omega arith, leb-true _ _ (sym c.room.ensures ∙ c.if-ro
 pub returns-then-room : goal.returns-then-room
 unfolding put_if
 returns-then-room c = let a = c.args in (
-      rw (le-leb a.to a.from (omega arith))
-          (sym c.if-room.true ∙ c.room.ensures),
-      c.shift_in.ensures,
-    )
+  rw (le-leb a.to a.from (omega arith))
+      (sym c.if-room.true ∙ c.room.ensures),
+  c.shift_in.ensures,
+)
 
 pub returns : goal.returns
 unfolding put_if

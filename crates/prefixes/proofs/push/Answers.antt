@@ -9,17 +9,17 @@ use Rattle.prefixes.proofs.push.Goals as goal
 
 pub returns-then-s-ne-SIZE : goal.returns-then-s-ne-SIZE
 returns-then-s-ne-SIZE c = (
-      push-sized c.args.s.now c.args.prefix.now c.if-s-ne-SIZE.true,
-      pushed-not c.args.number
-          c.args.prefix.now c.args.s.now,
-    )
+  push-sized c.args.s.now c.args.prefix.now c.if-s-ne-SIZE.true,
+  pushed-not c.args.number
+      c.args.prefix.now c.args.s.now,
+)
 
 pub returns-then-n-gt-PREFIX : goal.returns-then-n-gt-PREFIX
 returns-then-n-gt-PREFIX c = (
-      push-long c.args.s.now c.args.prefix.now c.if-n-gt-PREFIX.true,
-      pushed-not c.args.number
-          c.args.prefix.now c.args.s.now,
-    )
+  push-long c.args.s.now c.args.prefix.now c.if-n-gt-PREFIX.true,
+  pushed-not c.args.number
+      c.args.prefix.now c.args.s.now,
+)
 
 pub returns-then-count-eq-EDITIONS : goal.returns-then-count-eq-EDITIONS
 returns-then-count-eq-EDITIONS c = (

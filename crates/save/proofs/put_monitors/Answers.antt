@@ -15,13 +15,13 @@ loop-h-init c = let z = monitors-none c.args.s.now c.args.out.now
 
 pub put_monitor-next-requires : goal.put_monitor-next-requires
 put_monitor-next-requires c = (
-      simp (length-take, length-drop) (omega arith),
-      omega (
-        arith,
-        length-monitors_text c.args.s.now
-            c.loop-h.h,
-      ),
-    )
+  simp (length-take, length-drop) (omega arith),
+  omega (
+    arith,
+    length-monitors_text c.args.s.now
+        c.loop-h.h,
+  ),
+)
 
 pub loop-h-smaller : goal.loop-h-smaller
 loop-h-smaller c = omega arith

@@ -14,13 +14,13 @@ loop-i-init c = let z = pairs-none c.args.s.now c.args.out.now
 
 pub put_pair-next-requires : goal.put_pair-next-requires
 put_pair-next-requires c = (
-      simp (length-take, length-drop) (omega arith),
-      omega (
-        arith,
-        length-pairs_text c.args.s.now
-            c.loop-i.i,
-      ),
-    )
+  simp (length-take, length-drop) (omega arith),
+  omega (
+    arith,
+    length-pairs_text c.args.s.now
+        c.loop-i.i,
+  ),
+)
 
 pub loop-i-smaller : goal.loop-i-smaller
 loop-i-smaller c = omega arith

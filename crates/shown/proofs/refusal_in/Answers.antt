@@ -16,11 +16,11 @@ slice_bounds-read-length c = sym (length-take-le _ _ (omega arith))
 pub returns-in-Is : goal.returns-in-Is
 unfolding refusal_in number_in Rattle.laws.specs.Tests.pick
 returns-in-Is c = rw (
-      c.small.ensures,
-      le-ltb _ _ c.if-n-lt2.false,
-      sym
-          c.read-read.ensures ∙ c.read-1.given.1,
-    )
+  c.small.ensures,
+  le-ltb _ _ c.if-n-lt2.false,
+  sym
+      c.read-read.ensures ∙ c.read-1.given.1,
+)
 
 pub returns-in-Not : goal.returns-in-Not
 unfolding refusal_in number_in Rattle.laws.specs.Tests.pick

@@ -10,10 +10,10 @@ use Rattle.snapshots.proofs.past_lines.Goals as goal
 
 pub loop-i-init : goal.loop-i-init
 loop-i-init c = (
-      omega arith,
-      lines-begin c.args.s.now c.args.text.now c.requires.0 c.requires.1
-          c.args.from,
-    )
+  omega arith,
+  lines-begin c.args.s.now c.args.text.now c.requires.0 c.requires.1
+      c.args.from,
+)
 
 pub past_one-at-requires : goal.past_one-at-requires
 past_one-at-requires c = let k = c.at_most-count.ensures.1 in (omega arith, omega arith)

@@ -15,11 +15,11 @@ slice_bounds-line-end c = (one-line-at (line_at c.args.s.now
 
 pub slice_bounds-past-end : goal.slice_bounds-past-end
 slice_bounds-past-end c = simp length-take (omega (
-      arith,
-      (one-line-at
-          (line_at c.args.s.now c.args.i) edition_line (length-line_at c.args.s.now
-          c.args.i) c.put_one-n.ensures).within,
-    ))
+  arith,
+  (one-line-at
+      (line_at c.args.s.now c.args.i) edition_line (length-line_at c.args.s.now
+      c.args.i) c.put_one-n.ensures).within,
+))
 
 pub returns : goal.returns
 returns c = rw (one-line-at (line_at c.args.s.now c.args.i) edition_line

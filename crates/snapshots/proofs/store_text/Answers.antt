@@ -27,11 +27,11 @@ overflow_add-e c = omega (
 
 pub overflow_add-result : goal.overflow_add-result
 overflow_add-result c = omega (
-      arith,
-      c.read_pairs-k.ensures.0,
-      leading-within
-          c.args.text.now c.args.at line_row,
-    )
+  arith,
+  c.read_pairs-k.ensures.0,
+  leading-within
+      c.args.text.now c.args.at line_row,
+)
 
 pub returns-then-is_end : goal.returns-then-is_end
 returns-then-is_end c = let a = c.args in

@@ -22,10 +22,10 @@ loop-i-smaller c = omega arith
 
 pub loop-i-preserved : goal.loop-i-preserved
 loop-i-preserved c = let l = c.loop-i in (
-      omega arith,
-      pairs-more c.args.s.now l.i c.pair_sound.ensures l.invariant.1
-          c.if-not-pair_sound.false,
-    )
+  omega arith,
+  pairs-more c.args.s.now l.i c.pair_sound.ensures l.invariant.1
+      c.if-not-pair_sound.false,
+)
 
 pub returns : goal.returns
 returns c = let e : c.loop-i.i ≡ c.args.c = omega arith in

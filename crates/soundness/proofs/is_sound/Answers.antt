@@ -15,11 +15,11 @@ bounds-s-5224 c = let n = loose-size c.args.s.now
 
 pub are_others-requires : goal.are_others-requires
 are_others-requires c = let l = sym c.is_loose.ensures ∙ c.if-not-is_loose.false in (
-      loose-size
-          c.args.s.now l,
-      let n = loose-few
-          c.args.s.now l in let w = c.wide.ensures.0 in omega arith,
-    )
+  loose-size
+      c.args.s.now l,
+  let n = loose-few
+      c.args.s.now l in let w = c.wide.ensures.0 in omega arith,
+)
 
 pub returns : goal.returns
 returns c = whole-others c.args.s.now (λ k. omega (arith, c.shared_slice_known-1.given k))

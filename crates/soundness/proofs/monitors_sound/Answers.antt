@@ -19,10 +19,10 @@ loop-h-smaller c = omega arith
 
 pub loop-h-preserved : goal.loop-h-preserved
 loop-h-preserved c = (
-      omega arith,
-      monitors-more c.args.s.now
-          c.loop-h.h c.monitor_sound.ensures c.loop-h.invariant.1 c.if-not-monitor_sound.false,
-    )
+  omega arith,
+  monitors-more c.args.s.now
+      c.loop-h.h c.monitor_sound.ensures c.loop-h.invariant.1 c.if-not-monitor_sound.false,
+)
 
 pub returns : goal.returns
 returns c = monitors-end c.args.s.now c.loop-h.h c.loop-h.invariant.1

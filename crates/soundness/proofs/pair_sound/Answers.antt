@@ -15,7 +15,7 @@ returns-then-not-seen_sound c = pair-unseen c.args.s.now c.requires.0 c.args.i c
 pub returns : goal.returns
 unfolding Rattle.soundness.specs.Fields.sifts_at
 returns c = pair-seen c.args.s.now c.requires.0 c.args.i c.wide-h.result c.requires.1 (λ k. omega (
-      arith,
-      c.shared_slice_known-1.given k,
-    )) c.wide-h.ensures.0 (omega arith) refl refl
+  arith,
+  c.shared_slice_known-1.given k,
+)) c.wide-h.ensures.0 (omega arith) refl refl
     c.seen_sound.ensures c.if-not-seen_sound.false c.rest_sound.ensures

@@ -27,16 +27,16 @@ shape_of-s c = let a = c.args in
 
 pub returns : goal.returns
 returns c = let a = c.args in (
-      λ m z q h.
-          ticked a.s.now a.out.now m z q h c.head_of-head.ensures
-          c.column-intervals.ensures c.column-periods.ensures c.filters_of-filters.ensures
-          c.at_most-n.ensures.2 c.at_most-end.ensures.2
-          c.tick_pairs-turn.ensures c.advance.ensures,
-      within-put a.out.now _
-          c.tick_pairs-turn.ensures.octets c.tick_pairs-turn.ensures.count (omega (
-            arith,
-            c.tick_pairs-turn.ensures.wrote-most,
-            c.at_most-n.ensures.1,
-            c.requires.1,
-          )),
-    )
+  λ m z q h.
+      ticked a.s.now a.out.now m z q h c.head_of-head.ensures
+      c.column-intervals.ensures c.column-periods.ensures c.filters_of-filters.ensures
+      c.at_most-n.ensures.2 c.at_most-end.ensures.2
+      c.tick_pairs-turn.ensures c.advance.ensures,
+  within-put a.out.now _
+      c.tick_pairs-turn.ensures.octets c.tick_pairs-turn.ensures.count (omega (
+        arith,
+        c.tick_pairs-turn.ensures.wrote-most,
+        c.at_most-n.ensures.1,
+        c.requires.1,
+      )),
+)

@@ -13,13 +13,13 @@ tick_row-turn-requires c = let l = c.loop-i in
 
 pub calm_behind-next-requires : goal.calm_behind-next-requires
 calm_behind-next-requires c = (
-      omega arith,
-      omega arith,
-      c.tick_row-turn.auto.t
-          ∙ c.loop-i.invariant.3 ∙ c.requires.2,
-      c.requires.5,
-      c.requires.6,
-    )
+  omega arith,
+  omega arith,
+  c.tick_row-turn.auto.t
+      ∙ c.loop-i.invariant.3 ∙ c.requires.2,
+  c.requires.5,
+  c.requires.6,
+)
 
 pub loop-i-smaller : goal.loop-i-smaller
 loop-i-smaller c = omega arith

@@ -14,11 +14,11 @@ loop-i-init c = (refl, omega arith, nothing _ _)
 
 pub loop-i-preserved : goal.loop-i-preserved
 loop-i-preserved c = (
-      refl,
-      omega arith,
-      hex-turn
-          c.args.s.now c.loop-i.i (omega arith) c.loop-i.invariant.2 c.pair-end.ensures,
-    )
+  refl,
+  omega arith,
+  hex-turn
+      c.args.s.now c.loop-i.i (omega arith) c.loop-i.invariant.2 c.pair-end.ensures,
+)
 
 pub returns : goal.returns
 returns c = let e : take c.loop-i.i c.args.s.now ≡ c.args.s.now = take_all c.loop-i.i

@@ -18,11 +18,11 @@ loop-left-init c = (
 
 pub loop-left-preserved : goal.loop-left-preserved
 loop-left-preserved c = (
-      omega arith,
-      number-turn
-          c.args.s.now (c.loop-left.false - 1) c.loop-left.false (omega arith)
-          (omega arith) c.loop-left.invariant.1 c.pair-end.ensures,
-    )
+  omega arith,
+  number-turn
+      c.args.s.now (c.loop-left.false - 1) c.loop-left.false (omega arith)
+      (omega arith) c.loop-left.invariant.1 c.pair-end.ensures,
+)
 
 pub returns : goal.returns
 returns c = let e : c.loop-left.false ≡ 0 = omega arith in

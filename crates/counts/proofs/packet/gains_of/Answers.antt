@@ -16,12 +16,12 @@ use Rattle.counts.proofs.packet.gains_of.Goals as goal
 
 pub turn_all-requires : goal.turn_all-requires
 turn_all-requires c = (
-      c.requires.0,
-      c.at_most-n.ensures.1,
-      c.mark_all.auto.acts,
-      omega arith,
-      c.requires.1,
-    )
+  c.requires.0,
+  c.at_most-n.ensures.1,
+  c.mark_all.auto.acts,
+  omega arith,
+  c.requires.1,
+)
 
 pub returns : goal.returns
 unfolding last_number

@@ -23,16 +23,16 @@ returns-then-a-lt-MATCHED c = let a = c.args in (
 
 pub returns : goal.returns
 returns c = let a = c.args in (
-      c.left_after-rest.ensures.1,
-      λ m acts w g o l.
-          let p = packet_of a.payload.now in
-          let low = c.requires.2 in
-          let x : Sought p a.h (a.h + 256 * a.dev) =
-          record { sent = g.sent; low = low; number = ap (λ (k : ℕ). a.h + 256 * k) g.number } in
-          let s = c.is_start-start.ensures m p a.h w x in (
-            row-matched m p a.h acts a.dev a.a g low o (omega arith) l s
-                (c.is_cause-cause.ensures m a.h a.dev acts w g low refl o)
-                c.gain_of-gain.ensures,
-            left-matched m p a.h acts a.dev a.a g low o l s c.left_after-rest.ensures.0,
-          ),
-    )
+  c.left_after-rest.ensures.1,
+  λ m acts w g o l.
+      let p = packet_of a.payload.now in
+      let low = c.requires.2 in
+      let x : Sought p a.h (a.h + 256 * a.dev) =
+      record { sent = g.sent; low = low; number = ap (λ (k : ℕ). a.h + 256 * k) g.number } in
+      let s = c.is_start-start.ensures m p a.h w x in (
+        row-matched m p a.h acts a.dev a.a g low o (omega arith) l s
+            (c.is_cause-cause.ensures m a.h a.dev acts w g low refl o)
+            c.gain_of-gain.ensures,
+        left-matched m p a.h acts a.dev a.a g low o l s c.left_after-rest.ensures.0,
+      ),
+)

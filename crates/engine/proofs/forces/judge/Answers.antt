@@ -15,13 +15,13 @@ slice_bounds-judge-end-2 c = let k = c.turn_to.auto.s in
 pub judge-r-requires : goal.judge-r-requires
 unfolding held_whole
 judge-r-requires c = (
-      head-core c.args.s.now c.requires.1 c.requires.0
-          c.starts-begins.result (c.get32.result + 1) (ap (λ k. k + 1)
-          (loose-stands c.args.s.now c.requires.1 c.requires.0 c.get32.ensures))
-          c.turn_to.new.s c.turn_to.ensures,
-      omega
-          arith,
-    )
+  head-core c.args.s.now c.requires.1 c.requires.0
+      c.starts-begins.result (c.get32.result + 1) (ap (λ k. k + 1)
+      (loose-stands c.args.s.now c.requires.1 c.requires.0 c.get32.ensures))
+      c.turn_to.new.s c.turn_to.ensures,
+  omega
+      arith,
+)
 
 pub returns : goal.returns
 unfolding held_whole

@@ -11,12 +11,12 @@ loop-i-init c = (refl, omega arith, λ o r t. t)
 
 pub loop-i-preserved : goal.loop-i-preserved
 loop-i-preserved c = (
-      refl,
-      omega arith,
-      left-turn (characters_text)
-          c.args.s.now c.loop-i.i (c.loop-i.i + 1) (characters-next c.args.s.now
-          c.loop-i.i (omega arith)) c.loop-i.invariant.2 c.character-end.ensures,
-    )
+  refl,
+  omega arith,
+  left-turn (characters_text)
+      c.args.s.now c.loop-i.i (c.loop-i.i + 1) (characters-next c.args.s.now
+      c.loop-i.i (omega arith)) c.loop-i.invariant.2 c.character-end.ensures,
+)
 
 pub returns : goal.returns
 returns c = left_end (characters_text) c.args.s.now c.loop-i.i

@@ -11,16 +11,16 @@ loop-i-init c = (refl, omega arith, λ o r t. t)
 
 pub loop-i-preserved : goal.loop-i-preserved
 loop-i-preserved c = (
-      refl,
-      omega arith,
-      let k : c.loop-i.i +
-          c.size.result - c.loop-i.i
-          ≡ c.size.result = omega arith in left-turn (structures_text) c.args.s.now
-          c.loop-i.i (c.loop-i.i + c.size.result) (structures-next c.args.s.now
-          c.loop-i.i c.size.result (omega arith)
-          c.size.ensures.0 c.size.ensures.1)
-          c.loop-i.invariant.2 (rw k at c.structure-end.ensures),
-    )
+  refl,
+  omega arith,
+  let k : c.loop-i.i +
+      c.size.result - c.loop-i.i
+      ≡ c.size.result = omega arith in left-turn (structures_text) c.args.s.now
+      c.loop-i.i (c.loop-i.i + c.size.result) (structures-next c.args.s.now
+      c.loop-i.i c.size.result (omega arith)
+      c.size.ensures.0 c.size.ensures.1)
+      c.loop-i.invariant.2 (rw k at c.structure-end.ensures),
+)
 
 pub returns : goal.returns
 returns c = left_end (structures_text) c.args.s.now c.loop-i.i

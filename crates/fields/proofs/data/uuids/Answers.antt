@@ -11,15 +11,15 @@ loop-i-init c = (refl, omega arith, λ o r t. t)
 
 pub loop-i-preserved : goal.loop-i-preserved
 loop-i-preserved c = (
-      refl,
-      omega arith,
-      let k : c.loop-i.i +
-          c.least.result - c.loop-i.i ≡ c.least.result = omega arith in left-turn
-          (uuids_text c.args.k) c.args.s.now c.loop-i.i
-          (c.loop-i.i + c.least.result) (uuids-next c.args.s.now c.loop-i.i
-          c.args.k c.least.result c.requires (omega arith)
-          c.least.ensures) c.loop-i.invariant.2 (rw k at c.next_uuid-end.ensures),
-    )
+  refl,
+  omega arith,
+  let k : c.loop-i.i +
+      c.least.result - c.loop-i.i ≡ c.least.result = omega arith in left-turn
+      (uuids_text c.args.k) c.args.s.now c.loop-i.i
+      (c.loop-i.i + c.least.result) (uuids-next c.args.s.now c.loop-i.i
+      c.args.k c.least.result c.requires (omega arith)
+      c.least.ensures) c.loop-i.invariant.2 (rw k at c.next_uuid-end.ensures),
+)
 
 pub returns : goal.returns
 returns c = left_end (uuids_text c.args.k) c.args.s.now

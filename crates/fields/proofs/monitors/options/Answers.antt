@@ -11,9 +11,9 @@ returns-then-x-eq0 c = taken _ _ (eq-eqb _ _ c.if-x-eq0.true) c.put.ensures
 
 pub overflow_mul-x : goal.overflow_mul-x
 overflow_mul-x c = omega (
-      arith,
-      c.ranges.x,
-    )
+  arith,
+  c.ranges.x,
+)
 
 pub returns : goal.returns
 unfolding options_text codes

@@ -18,11 +18,11 @@ returns-then-not-is_framed c = let a = c.args in
 
 pub is_reason_in-requires : goal.is_reason_in-requires
 is_reason_in-requires c = (
-      c.if-s-ne-SIZE.false,
-      c.if-i-ge-PAIRS.false,
-      framed-facts c.args.payload.now
-          (sym c.is_framed.ensures ∙ c.if-not-is_framed.false),
-    )
+  c.if-s-ne-SIZE.false,
+  c.if-i-ge-PAIRS.false,
+  framed-facts c.args.payload.now
+      (sym c.is_framed.ensures ∙ c.if-not-is_framed.false),
+)
 
 pub returns : goal.returns
 returns c = let a = c.args in

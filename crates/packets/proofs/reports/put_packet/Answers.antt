@@ -21,10 +21,10 @@ returns-then-not-is_framed c = let a = c.args in
 
 pub put_reports-requires : goal.put_reports-requires
 put_reports-requires c = (
-      omega arith,
-      framed-facts c.args.payload.now
-          (sym c.is_framed.ensures ∙ c.if-not-is_framed.false),
-    )
+  omega arith,
+  framed-facts c.args.payload.now
+      (sym c.is_framed.ensures ∙ c.if-not-is_framed.false),
+)
 
 pub returns : goal.returns
 returns c = let a = c.args in

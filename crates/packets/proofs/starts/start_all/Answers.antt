@@ -8,26 +8,26 @@ use Rattle.packets.proofs.starts.start_all.Goals as goal
 
 pub returns-then-not-is_start : goal.returns-then-not-is_start
 returns-then-not-is_start c = let a = c.args in (
-      omega arith,
-      omega arith,
-      refl,
-      λ m w g. turns-idle m (packet_of a.payload.now) w.measured g.sender.sent a.acts.now a.under.now
-          a.dev most_monitors a.s.now a.out.now a.n (omega arith) w.block w.count g
-          (c.is_start.ensures (c.if-not-is_start.true)),
-    )
+  omega arith,
+  omega arith,
+  refl,
+  λ m w g. turns-idle m (packet_of a.payload.now) w.measured g.sender.sent a.acts.now a.under.now
+      a.dev most_monitors a.s.now a.out.now a.n (omega arith) w.block w.count g
+      (c.is_start.ensures (c.if-not-is_start.true)),
+)
 
 pub loop-h-init : goal.loop-h-init
 loop-h-init c = let a = c.args in (
-      omega arith,
-      omega arith,
-      omega arith,
-      refl,
-      refl,
-      refl,
-      λ m w g. turns-none m (packet_of a.payload.now) w.measured g.sender.sent a.s.now a.out.now
-          a.n
-          w.block w.count,
-    )
+  omega arith,
+  omega arith,
+  omega arith,
+  refl,
+  refl,
+  refl,
+  λ m w g. turns-none m (packet_of a.payload.now) w.measured g.sender.sent a.s.now a.out.now
+      a.n
+      w.block w.count,
+)
 
 pub start_at-turn-requires : goal.start_at-turn-requires
 start_at-turn-requires c = let p = c.requires in

@@ -31,7 +31,7 @@ slice_bounds-past-end c = simp length-take
 
 pub returns : goal.returns
 returns c = rw (one-line-at (end_text c.args.mons c.args.pairs) monitor_line (omega (
-      arith,
-      length-end_text c.args.mons
-          c.args.pairs,
-    )) c.put_end-n.ensures).text at c.past.ensures
+  arith,
+  length-end_text c.args.mons
+      c.args.pairs,
+)) c.put_end-n.ensures).text at c.past.ensures

@@ -13,10 +13,10 @@ slice_bounds-line-end c = (one_line (head_text c.args.s.now) monitor_line
 
 pub slice_bounds-past-end : goal.slice_bounds-past-end
 slice_bounds-past-end c = simp length-take (omega (
-      arith,
-      (one_line (head_text c.args.s.now) monitor_line
-          (omega (arith, length-head_text c.args.s.now)) c.put_head-n.ensures).within,
-    ))
+  arith,
+  (one_line (head_text c.args.s.now) monitor_line
+      (omega (arith, length-head_text c.args.s.now)) c.put_head-n.ensures).within,
+))
 
 pub returns : goal.returns
 returns c = rw (one_line (head_text c.args.s.now) monitor_line (omega (arith, length-head_text c.args.s.now))

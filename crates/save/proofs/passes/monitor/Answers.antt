@@ -13,11 +13,11 @@ slice_bounds-line-end c = (one-line-at (monitor_text c.args.row.now) monitor_lin
 
 pub slice_bounds-past-end : goal.slice_bounds-past-end
 slice_bounds-past-end c = simp length-take (omega (
-      arith,
-      (one-line-at (monitor_text c.args.row.now)
-          monitor_line (omega (arith, length-monitor_text c.args.row.now))
-          c.put_monitor-n.ensures).within,
-    ))
+  arith,
+  (one-line-at (monitor_text c.args.row.now)
+      monitor_line (omega (arith, length-monitor_text c.args.row.now))
+      c.put_monitor-n.ensures).within,
+))
 
 pub returns : goal.returns
 returns c = rw (one-line-at (monitor_text c.args.row.now) monitor_line

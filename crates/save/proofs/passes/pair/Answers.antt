@@ -13,11 +13,11 @@ slice_bounds-line-end c = (one-line-at (pair_text c.args.row.now) monitor_line
 
 pub slice_bounds-past-end : goal.slice_bounds-past-end
 slice_bounds-past-end c = simp length-take (omega (
-      arith,
-      (one-line-at (pair_text c.args.row.now)
-          monitor_line (omega (arith, length-pair_text c.args.row.now))
-          c.put_pair-n.ensures).within,
-    ))
+  arith,
+  (one-line-at (pair_text c.args.row.now)
+      monitor_line (omega (arith, length-pair_text c.args.row.now))
+      c.put_pair-n.ensures).within,
+))
 
 pub returns : goal.returns
 returns c = rw (one-line-at (pair_text c.args.row.now) monitor_line

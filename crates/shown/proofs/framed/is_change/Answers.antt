@@ -14,12 +14,12 @@ returns-then-n-gt-MOST_CHANGE c = rw (le-ltb _ _ c.if-n-lt-LEAST_CHANGE.false, l
 pub returns : goal.returns
 unfolding is_change Rattle.laws.specs.Tests.pick
 returns c = rw (
-      le-ltb _ _ c.if-n-lt-LEAST_CHANGE.false,
-      le-ltb _ _
-          c.if-n-gt-MOST_CHANGE.false,
-      c.wide-size.ensures.0,
-      c.get8.ensures,
-      c.get8-code.ensures,
-      c.get8-kind.ensures,
-      c.get8-which.ensures,
-    )
+  le-ltb _ _ c.if-n-lt-LEAST_CHANGE.false,
+  le-ltb _ _
+      c.if-n-gt-MOST_CHANGE.false,
+  c.wide-size.ensures.0,
+  c.get8.ensures,
+  c.get8-code.ensures,
+  c.get8-kind.ensures,
+  c.get8-which.ensures,
+)

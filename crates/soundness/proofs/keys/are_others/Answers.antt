@@ -20,12 +20,12 @@ loop-i-smaller c = omega arith
 
 pub loop-i-preserved : goal.loop-i-preserved
 loop-i-preserved c = let l = c.loop-i in (
-      omega arith,
-      others-more c.args.s.now l.i c.take_key.ensures.0 l.invariant.1
-          c.if-not-take_key.false,
-      omega arith,
-      c.take_key.ensures.1,
-    )
+  omega arith,
+  others-more c.args.s.now l.i c.take_key.ensures.0 l.invariant.1
+      c.if-not-take_key.false,
+  omega arith,
+  c.take_key.ensures.1,
+)
 
 pub returns : goal.returns
 returns c = let e : c.loop-i.i ≡ c.args.c = omega arith in

@@ -19,11 +19,11 @@ loop-j-smaller c = omega arith
 
 pub loop-j-preserved : goal.loop-j-preserved
 loop-j-preserved c = (
-      omega arith,
-      other-more c.args.s.now c.requires.0 c.args.i
-          c.loop-j.j c.requires.1 (omega arith) c.get64-key.ensures
-          c.get64.ensures c.if-key-get64.false c.loop-j.invariant.1,
-    )
+  omega arith,
+  other-more c.args.s.now c.requires.0 c.args.i
+      c.loop-j.j c.requires.1 (omega arith) c.get64-key.ensures
+      c.get64.ensures c.if-key-get64.false c.loop-j.invariant.1,
+)
 
 pub returns : goal.returns
 returns c = other-end c.args.s.now c.requires.0 c.args.i c.loop-j.j c.loop-j.invariant.1 (omega arith)

@@ -9,11 +9,11 @@ returns-then-n-from-lt8 c = c.zeros_four.ensures
 
 pub loop-i-init : goal.loop-i-init
 loop-i-init c = let a = c.args in (
-      omega arith,
-      joined-none a.r.now _ (omega arith) (omega arith) c.get64-any.ensures a.from
-          (omega arith),
-      λ e. e,
-    )
+  omega arith,
+  joined-none a.r.now _ (omega arith) (omega arith) c.get64-any.ensures a.from
+      (omega arith),
+  λ e. e,
+)
 
 pub loop-i-smaller : goal.loop-i-smaller
 loop-i-smaller c = omega arith

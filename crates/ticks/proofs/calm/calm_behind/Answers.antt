@@ -4,11 +4,11 @@ use Rattle.ticks.proofs.calm.calm_behind.Goals as goal
 
 pub returns-then-kept-from : goal.returns-then-kept-from
 returns-then-kept-from c = let a = c.args in (
-      omega arith,
-      omega arith,
-      calm-none a.intervals.now a.periods.now a.t.now a.from
-          a.kept,
-    )
+  omega arith,
+  omega arith,
+  calm-none a.intervals.now a.periods.now a.t.now a.from
+      a.kept,
+)
 
 pub returns : goal.returns
 returns c = let a = c.args in

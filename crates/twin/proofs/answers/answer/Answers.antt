@@ -13,14 +13,14 @@ after_all-requires c = frames-less c.args.t.now _
 
 pub reply-requires : goal.reply-requires
 reply-requires c = (
-      c.requires.0,
-      c.requires.1.formed
-          c.args.i (omega arith),
-      sym
-          c.kind_at-kind.ensures ∙ c.if-kind-eq1.true,
-      c.after_all.ensures,
-      c.requires.2,
-    )
+  c.requires.0,
+  c.requires.1.formed
+      c.args.i (omega arith),
+  sym
+      c.kind_at-kind.ensures ∙ c.if-kind-eq1.true,
+  c.after_all.ensures,
+  c.requires.2,
+)
 
 pub returns-then-kind-eq3 : goal.returns-then-kind-eq3
 returns-then-kind-eq3 c = says-tick c.args.head.now c.args.t.now c.args.i
@@ -29,14 +29,14 @@ returns-then-kind-eq3 c = says-tick c.args.head.now c.args.t.now c.args.i
 
 pub packet-requires : goal.packet-requires
 packet-requires c = (
-      c.requires.0,
-      c.requires.1,
-      packet-comes
-          c.args.t.now c.args.i c.requires.1
-          (λ z. c.if-kind-eq1.false (c.kind_at-kind.ensures ∙ z))
-          (λ z. c.if-kind-eq3.false (c.kind_at-kind.ensures ∙ z)),
-      c.requires.2,
-    )
+  c.requires.0,
+  c.requires.1,
+  packet-comes
+      c.args.t.now c.args.i c.requires.1
+      (λ z. c.if-kind-eq1.false (c.kind_at-kind.ensures ∙ z))
+      (λ z. c.if-kind-eq3.false (c.kind_at-kind.ensures ∙ z)),
+  c.requires.2,
+)
 
 pub returns : goal.returns
 returns c = says-packet c.args.head.now c.args.t.now c.args.i

@@ -20,15 +20,15 @@ packet_of-requires c = below-pairs c.args.seen
 
 pub is_reason-requires : goal.is_reason-requires
 is_reason-requires c = (
-      looks-at c.args.t.now
-          c.args.i _ _ (begun_at c.args.seen
-          c.loop-j.j) c.monitor_of.ensures c.packet_of.ensures
-          (start-looks c.args.t.now c.args.i _ c.args.seen c.loop-j.j
-          c.requires.0 refl c.requires.2 c.loop-j-test.true).1,
-      c.requires.1,
-      c.requires.0.formed
-          c.args.i (omega arith),
-    )
+  looks-at c.args.t.now
+      c.args.i _ _ (begun_at c.args.seen
+      c.loop-j.j) c.monitor_of.ensures c.packet_of.ensures
+      (start-looks c.args.t.now c.args.i _ c.args.seen c.loop-j.j
+      c.requires.0 refl c.requires.2 c.loop-j-test.true).1,
+  c.requires.1,
+  c.requires.0.formed
+      c.args.i (omega arith),
+)
 
 pub returns-then-is_reason : goal.returns-then-is_reason
 returns-then-is_reason c = sym (some-hit (told_by c.args.t.now c.args.i) c.args.seen c.loop-j.j
@@ -39,13 +39,13 @@ returns-then-is_reason c = sym (some-hit (told_by c.args.t.now c.args.i) c.args.
 
 pub loop-j-preserved : goal.loop-j-preserved
 loop-j-preserved c = (
-      omega (arith, c.loop-j-test.true),
-      sym
-          (some-miss (told_by c.args.t.now c.args.i) c.args.seen c.loop-j.j
-          c.requires.2.shows.held c.loop-j-test.true (told_at_lem c.args.t.now c.args.i _ _ _
-          c.monitor_of.ensures c.packet_of.ensures
-          c.is_reason.ensures) c.if-is_reason.false) ∙ c.loop-j.invariant.1,
-    )
+  omega (arith, c.loop-j-test.true),
+  sym
+      (some-miss (told_by c.args.t.now c.args.i) c.args.seen c.loop-j.j
+      c.requires.2.shows.held c.loop-j-test.true (told_at_lem c.args.t.now c.args.i _ _ _
+      c.monitor_of.ensures c.packet_of.ensures
+      c.is_reason.ensures) c.if-is_reason.false) ∙ c.loop-j.invariant.1,
+)
 
 pub returns : goal.returns
 returns c = sym

@@ -19,12 +19,12 @@ payload_at-p-requires c = start-stands c.args.t.now _ _ _
 
 pub put_event-requires : goal.put_event-requires
 put_event-requires c = (
-      c.requires.0,
-      start-framed
-          c.args.t.now _ _ _ _ (c.requires.1 c.if-gone-ge-PAIRS.false) c.packet_of.ensures
-          c.payload_at-p.ensures,
-      c.requires.2,
-    )
+  c.requires.0,
+  start-framed
+      c.args.t.now _ _ _ _ (c.requires.1 c.if-gone-ge-PAIRS.false) c.packet_of.ensures
+      c.payload_at-p.ensures,
+  c.requires.2,
+)
 
 pub returns : goal.returns
 returns c = gone_one (prefix_in c.args.head.now) c.args.t.now c.args.seen c.args.gone

@@ -10,9 +10,9 @@ use Rattle.twin.proofs.answers.put_tick.Goals as goal
 
 pub goes_on-requires : goal.goes_on-requires
 goes_on-requires c = (
-      below-pairs c.args.seen c.requires.3.shows.held c.args.j c.requires.4,
-      (start-looks c.args.t.now c.args.i _ c.args.seen c.args.j c.requires.1 refl c.requires.3 c.requires.4).0,
-    )
+  below-pairs c.args.seen c.requires.3.shows.held c.args.j c.requires.4,
+  (start-looks c.args.t.now c.args.i _ c.args.seen c.args.j c.requires.1 refl c.requires.3 c.requires.4).0,
+)
 
 pub overflow_sub-k : goal.overflow_sub-k
 overflow_sub-k c = let s = (start-looks c.args.t.now c.args.i _ c.args.seen c.args.j c.requires.1 refl c.requires.3
@@ -26,12 +26,12 @@ payload_at-requires c = start-stands c.args.t.now _ _ _
 
 pub put_event-requires : goal.put_event-requires
 put_event-requires c = (
-      c.requires.0,
-      start-framed c.args.t.now _ _ _ _ (start-looks c.args.t.now c.args.i _ c.args.seen
-          c.args.j c.requires.1 refl c.requires.3 c.requires.4).1.start c.packet_of-k.ensures
-          c.payload_at.ensures,
-      omega (arith, c.requires.5),
-    )
+  c.requires.0,
+  start-framed c.args.t.now _ _ _ _ (start-looks c.args.t.now c.args.i _ c.args.seen
+      c.args.j c.requires.1 refl c.requires.3 c.requires.4).1.start c.packet_of-k.ensures
+      c.payload_at.ensures,
+  omega (arith, c.requires.5),
+)
 
 pub returns-then-not-goes_on : goal.returns-then-not-goes_on
 returns-then-not-goes_on c = tick-ends (prefix_in c.args.head.now) c.args.t.now c.args.i (begun_at c.args.seen c.args.j)

@@ -14,26 +14,26 @@ returns-then-not-turned c = turn-still (prefix_in c.args.head.now)
 
 pub put_gone-n-requires : goal.put_gone-n-requires
 put_gone-n-requires c = (
-      c.requires.0,
-      gone-start
-          (prefix_in c.args.head.now) c.args.t.now c.args.i c.args.h
-          c.args.seen c.args.turned c.requires.4 c.requires.3,
-      omega
-          (arith, c.requires.5),
-    )
+  c.requires.0,
+  gone-start
+      (prefix_in c.args.head.now) c.args.t.now c.args.i c.args.h
+      c.args.seen c.args.turned c.requires.4 c.requires.3,
+  omega
+      (arith, c.requires.5),
+)
 
 pub put_event-m-requires : goal.put_event-m-requires
 put_event-m-requires c = (
-      c.requires.0,
-      packet-framed-at
-          c.args.t.now c.args.i _ c.requires.1 c.payload_at.ensures,
-      omega (
-        arith,
-        c.requires.5,
-        c.put_gone-n.ensures.0,
-        c.out-1.given,
-      ),
-    )
+  c.requires.0,
+  packet-framed-at
+      c.args.t.now c.args.i _ c.requires.1 c.payload_at.ensures,
+  omega (
+    arith,
+    c.requires.5,
+    c.put_gone-n.ensures.0,
+    c.out-1.given,
+  ),
+)
 
 pub returns : goal.returns
 returns c = turn-moves (prefix_in c.args.head.now) c.args.t.now c.args.i c.args.h

@@ -25,48 +25,48 @@ take_turn-turned-requires c = (
 
 pub put_turn-at-requires : goal.put_turn-at-requires
 put_turn-at-requires c = (
-      c.requires.0,
-      c.requires.2,
-      c.loop-h-test.true,
-      c.loop-h.invariant.1,
-      c.take_turn-turned.ensures,
-      omega (
-        arith,
-        c.loop-h.invariant.2,
-        c.loop-h.invariant.3,
-        c.requires.4,
-        c.loop-h-test.true,
-      ),
-    )
+  c.requires.0,
+  c.requires.2,
+  c.loop-h-test.true,
+  c.loop-h.invariant.1,
+  c.take_turn-turned.ensures,
+  omega (
+    arith,
+    c.loop-h.invariant.2,
+    c.loop-h.invariant.3,
+    c.requires.4,
+    c.loop-h-test.true,
+  ),
+)
 
 pub overflow_add-at : goal.overflow_add-at
 overflow_add-at c = omega (
-      arith,
-      c.loop-h.invariant.2,
-      c.put_turn-at.ensures.0,
-      c.loop-h-test.true,
-    )
+  arith,
+  c.loop-h.invariant.2,
+  c.put_turn-at.ensures.0,
+  c.loop-h-test.true,
+)
 
 pub loop-h-preserved : goal.loop-h-preserved
 loop-h-preserved c = (
-      omega (arith, c.loop-h-test.true),
-      c.take_turn-turned.ensures.turns,
-      omega (
+  omega (arith, c.loop-h-test.true),
+  c.take_turn-turned.ensures.turns,
+  omega (
+    arith,
+    c.loop-h.invariant.2,
+    c.put_turn-at.ensures.0,
+  ),
+  c.out-1.given
+      ∙ c.loop-h.invariant.3,
+  turns_more
+      (prefix_in c.args.head.now) c.args.t.now c.args.i c.loop-h.h
+      c.loop-h.next c.loop-h.invariant.1 (omega (
         arith,
         c.loop-h.invariant.2,
-        c.put_turn-at.ensures.0,
-      ),
-      c.out-1.given
-          ∙ c.loop-h.invariant.3,
-      turns_more
-          (prefix_in c.args.head.now) c.args.t.now c.args.i c.loop-h.h
-          c.loop-h.next c.loop-h.invariant.1 (omega (
-            arith,
-            c.loop-h.invariant.2,
-            c.requires.4,
-            c.loop-h-test.true,
-          )) c.loop-h.invariant.4 c.put_turn-at.ensures.1,
-    )
+        c.requires.4,
+        c.loop-h-test.true,
+      )) c.loop-h.invariant.4 c.put_turn-at.ensures.1,
+)
 
 pub shape_of-out : goal.shape_of-out
 shape_of-out c = c.loop-h.invariant.3

@@ -28,12 +28,12 @@ allows-requires c = (
 
 pub returns-then-not-allows : goal.returns-then-not-allows
 returns-then-not-allows c = (
-      omega arith,
-      λ h. window-barred
-          c.args.t.now c.args.a c.args.k c.args.i _ _ _
-          c.window_of-w.ensures c.if-w-eq0.false h c.args.out.now
-          c.args.at c.allows.ensures (c.if-not-allows.true),
-    )
+  omega arith,
+  λ h. window-barred
+      c.args.t.now c.args.a c.args.k c.args.i _ _ _
+      c.window_of-w.ensures c.if-w-eq0.false h c.args.out.now
+      c.args.at c.allows.ensures (c.if-not-allows.true),
+)
 
 pub event_of-requires : goal.event_of-requires
 event_of-requires c = c.window_of-w.ensures.number.sent
@@ -42,11 +42,11 @@ event_of-requires c = c.window_of-w.ensures.number.sent
 
 pub slice_bounds-put_report-end : goal.slice_bounds-put_report-end
 slice_bounds-put_report-end c = omega (
-      arith,
-      start-part
-          c.args.t.now c.args.a c.args.k 0 _ c.requires.0.start
-          c.payload_at-d.ensures,
-    )
+  arith,
+  start-part
+      c.args.t.now c.args.a c.args.k 0 _ c.requires.0.start
+      c.payload_at-d.ensures,
+)
 
 pub data_of-requires : goal.data_of-requires
 data_of-requires c = c.window_of-w.ensures.number.sent

@@ -33,14 +33,14 @@ returns-then-turn_tells c = tells-stop c.args.t.now c.args.i c.loop-h.h 16 c.loo
 
 pub loop-h-preserved : goal.loop-h-preserved
 loop-h-preserved c = (
-      omega (arith, c.loop-h-test.true),
-      c.take_turn-turned.ensures.turns,
-      tells-on
-          c.args.t.now c.args.i c.loop-h.h (tells_more c.args.t.now c.args.i
-          c.loop-h.h c.loop-h.next c.loop-h.invariant.1 c.loop-h-test.true
-          c.take_turn-turned.ensures.started c.turn_tells.ensures)
-          c.loop-h.invariant.2 c.if-turn_tells.false,
-    )
+  omega (arith, c.loop-h-test.true),
+  c.take_turn-turned.ensures.turns,
+  tells-on
+      c.args.t.now c.args.i c.loop-h.h (tells_more c.args.t.now c.args.i
+      c.loop-h.h c.loop-h.next c.loop-h.invariant.1 c.loop-h-test.true
+      c.take_turn-turned.ensures.started c.turn_tells.ensures)
+      c.loop-h.invariant.2 c.if-turn_tells.false,
+)
 
 pub returns : goal.returns
 returns c = sym

@@ -28,12 +28,12 @@ returns-then-not-same c = hears-stranger c.args.t.now c.args.a c.args.k c.args.i
 
 pub is_match-requires : goal.is_match-requires
 is_match-requires c = (
-      rw c.params_of.ensures
-          c.requires.0.adds,
-      rw
-          c.payload_at-p.ensures (heard-framed c.args.t.now c.args.a c.args.k
-          c.args.i c.requires.1 c.is_packet.ensures (c.if-not-is_packet.false)),
-    )
+  rw c.params_of.ensures
+      c.requires.0.adds,
+  rw
+      c.payload_at-p.ensures (heard-framed c.args.t.now c.args.a c.args.k
+      c.args.i c.requires.1 c.is_packet.ensures (c.if-not-is_packet.false)),
+)
 
 pub returns : goal.returns
 returns c = hears-match c.args.t.now c.args.a c.args.k c.args.i c.requires.1

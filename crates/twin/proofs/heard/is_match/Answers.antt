@@ -27,11 +27,11 @@ slice_bounds-admits_by-end c = let k = type-in c.args.params.now c.type_at-at.re
 
 pub admits_by-requires : goal.admits_by-requires
 admits_by-requires c = (
-      extra-length c.args.params.now
-          c.type_at-at.result c.requires.0
-          c.type_at-at.ensures c.if-at-eq5.false,
-      c.requires.1,
-    )
+  extra-length c.args.params.now
+      c.type_at-at.result c.requires.0
+      c.type_at-at.ensures c.if-at-eq5.false,
+  c.requires.1,
+)
 
 pub returns : goal.returns
 returns c = match-second c.args.params.now c.args.payload.now _ c.type_at-at.ensures

@@ -13,20 +13,20 @@ params_of-params-requires c = let n = c.requires (let z = c.if-a-eq0.false in om
 
 pub put_settings-requires : goal.put_settings-requires
 put_settings-requires c = let n = c.requires (let z = c.if-a-eq0.false in omega (arith, z)) in (
-      refl,
-      added-adds
-          c.args.t.now c.args.a _ n.added
-          c.params_of-params.ensures,
-      sized-short c.args.t.now
-          c.args.a _ n.sized c.params_of-params.ensures,
-    )
+  refl,
+  added-adds
+      c.args.t.now c.args.a _ n.added
+      c.params_of-params.ensures,
+  sized-short c.args.t.now
+      c.args.a _ n.sized c.params_of-params.ensures,
+)
 
 pub put_added-requires : goal.put_added-requires
 put_added-requires c = let n = c.requires (let z = c.if-a-eq0.false in omega (arith, z)) in (
-      c.put_settings.auto.row,
-      added-adds
-          c.args.t.now c.args.a _ n.added c.params_of-params.ensures,
-    )
+  c.put_settings.auto.row,
+  added-adds
+      c.args.t.now c.args.a _ n.added c.params_of-params.ensures,
+)
 
 pub returns : goal.returns
 returns c = let n = c.requires (let z = c.if-a-eq0.false in omega (arith, z)) in

@@ -4,11 +4,11 @@ use Rattle.twin.proofs.pairs.behind_tick.Goals as goal
 
 pub loop-i-init : goal.loop-i-init
 loop-i-init c = let o = c.requires.order in (
-      o,
-      omega arith,
-      look-first c.args.t.now c.args.k
-          c.args.n c.args.last,
-    )
+  o,
+  omega arith,
+  look-first c.args.t.now c.args.k
+      c.args.n c.args.last,
+)
 
 pub is_tick-requires : goal.is_tick-requires
 is_tick-requires c = (c.requires.formed (c.loop-i.i - 1)
@@ -66,10 +66,10 @@ loop-i-preserved c = let n = c.loop-i-test.true in
 
 pub returns : goal.returns
 returns c = let m = c.loop-i.invariant in (
-      m.0,
-      m.1,
-      sym
-          (m.2 ∙ look-end c.args.t.now c.args.k
-          c.args.n c.loop-i.i c.loop-i.false m.0
-          (omega (arith, c.loop-i-test.false))),
-    )
+  m.0,
+  m.1,
+  sym
+      (m.2 ∙ look-end c.args.t.now c.args.k
+      c.args.n c.loop-i.i c.loop-i.false m.0
+      (omega (arith, c.loop-i-test.false))),
+)

@@ -7,11 +7,11 @@ start_reason-r-requires c = c.requires.start
 
 pub loop-i-init : goal.loop-i-init
 loop-i-init c = let o = c.requires.order in (
-      omega arith,
-      o,
-      reason-first c.args.t.now c.args.a
-          c.args.k _ c.requires.start c.start_reason-r.ensures,
-    )
+  omega arith,
+  o,
+  reason-first c.args.t.now c.args.a
+      c.args.k _ c.requires.start c.start_reason-r.ensures,
+)
 
 pub reason_after-r-requires : goal.reason_after-r-requires
 reason_after-r-requires c = let l = c.loop-i-test.true in

@@ -11,9 +11,9 @@ status_of-status-requires c = (c.requires.3, params-some c.args.t.now c.args.i _
 
 pub bounds-params-0 : goal.bounds-params-0
 bounds-params-0 c = omega (
-      arith,
-      params-some c.args.t.now c.args.i _ c.requires.1 c.requires.2 c.params_of-params.ensures,
-    )
+  arith,
+  params-some c.args.t.now c.args.i _ c.requires.1 c.requires.2 c.params_of-params.ensures,
+)
 
 pub returns-then-is_add : goal.returns-then-is_add
 unfolding sub_of

@@ -13,20 +13,20 @@ handle_of-requires c = below-pairs c.args.seen c.requires
 
 pub carry-next-requires : goal.carry-next-requires
 carry-next-requires c = let h = c.loop-i-test.true in (
-      keep-room _ _ _ c.loop-i.i
-          c.requires c.loop-i.invariant.1 h,
-      below-pairs
-          c.args.seen c.requires
-          c.loop-i.i h,
-    )
+  keep-room _ _ _ c.loop-i.i
+      c.requires c.loop-i.invariant.1 h,
+  below-pairs
+      c.args.seen c.requires
+      c.loop-i.i h,
+)
 
 pub loop-i-preserved : goal.loop-i-preserved
 loop-i-preserved c = let h = c.loop-i-test.true in (
-      omega (arith, h),
-      keep-turn (of_other c.args.h) _ _
-          c.loop-i.i c.requires
-          c.loop-i.invariant.1 h (other-is _ _ _ c.handle_of.ensures) c.carry-next.ensures,
-    )
+  omega (arith, h),
+  keep-turn (of_other c.args.h) _ _
+      c.loop-i.i c.requires
+      c.loop-i.invariant.1 h (other-is _ _ _ c.handle_of.ensures) c.carry-next.ensures,
+)
 
 pub returns : goal.returns
 returns c = keep-end _ _ _ c.loop-i.i c.requires

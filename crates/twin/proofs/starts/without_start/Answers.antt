@@ -7,19 +7,19 @@ loop-i-init c = (omega arith, but-none _ _ _ (rest-bare _ _ c.requires c.emptied
 
 pub carry-next-requires : goal.carry-next-requires
 carry-next-requires c = let h = c.loop-i-test.true in (
-      but-room _ _ _ c.loop-i.i c.requires
-          c.loop-i.invariant.1 h,
-      below-pairs c.args.seen
-          c.requires c.loop-i.i h,
-    )
+  but-room _ _ _ c.loop-i.i c.requires
+      c.loop-i.invariant.1 h,
+  below-pairs c.args.seen
+      c.requires c.loop-i.i h,
+)
 
 pub loop-i-preserved : goal.loop-i-preserved
 loop-i-preserved c = let h = c.loop-i-test.true in (
-      omega (arith, h),
-      but-turn c.args.gone _ _
-          c.loop-i.i c.requires
-          c.loop-i.invariant.1 h c.carry-next.ensures,
-    )
+  omega (arith, h),
+  but-turn c.args.gone _ _
+      c.loop-i.i c.requires
+      c.loop-i.invariant.1 h c.carry-next.ensures,
+)
 
 pub returns : goal.returns
 returns c = but-end _ _ _ c.loop-i.i c.requires

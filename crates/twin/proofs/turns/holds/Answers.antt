@@ -21,11 +21,11 @@ returns-then-is_pair c = sym (some-hit _ c.args.seen c.loop-j.j c.requires.1 c.l
 
 pub loop-j-preserved : goal.loop-j-preserved
 loop-j-preserved c = let h = c.loop-j-test.true in (
-      omega (arith, h),
-      sym
-          (some-miss _ c.args.seen c.loop-j.j c.requires.1 h
-          c.is_pair.ensures c.if-is_pair.false) ∙ c.loop-j.invariant.1,
-    )
+  omega (arith, h),
+  sym
+      (some-miss _ c.args.seen c.loop-j.j c.requires.1 h
+      c.is_pair.ensures c.if-is_pair.false) ∙ c.loop-j.invariant.1,
+)
 
 pub returns : goal.returns
 returns c = sym

@@ -28,20 +28,20 @@ level_at-requires c = let w = c.weakest-w.ensures.within in
 
 pub returns-then-level_of-level_at : goal.returns-then-level_of-level_at
 returns-then-level_of-level_at c = inr (inl (record {
-      at = c.weakest-w.result;
-      weak = record {
-        full = c.if-seen-lt-PAIRS.false;
-        least = c.weakest-w.ensures;
-      };
-      above = not-above c.args.t.now
-          c.args.i (c.args.i + 1) (begun_at c.args.seen
-          c.weakest-w.result) _ _ _
-          c.rssi_at.ensures c.level_of.ensures
-          c.level_at.ensures c.if-level_of-level_at.true;
-      started = c.no_turn.ensures.1;
-      gone = c.no_turn.ensures.2;
-      seen = c.no_turn.ensures.0;
-    }))
+  at = c.weakest-w.result;
+  weak = record {
+    full = c.if-seen-lt-PAIRS.false;
+    least = c.weakest-w.ensures;
+  };
+  above = not-above c.args.t.now
+      c.args.i (c.args.i + 1) (begun_at c.args.seen
+      c.weakest-w.result) _ _ _
+      c.rssi_at.ensures c.level_of.ensures
+      c.level_at.ensures c.if-level_of-level_at.true;
+  started = c.no_turn.ensures.1;
+  gone = c.no_turn.ensures.2;
+  seen = c.no_turn.ensures.0;
+}))
 
 pub push-requires-2 : goal.push-requires-2
 push-requires-2 c = but-place c.weakest-w.result c.args.seen c.without_start.result c.requires.2

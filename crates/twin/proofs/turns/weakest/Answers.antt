@@ -27,14 +27,14 @@ lower-found-requires c = let s = c.args.seen in
 
 pub loop-j-preserved : goal.loop-j-preserved
 loop-j-preserved c = let h = c.loop-j-test.true in (
-      omega arith,
-      omega (arith, h),
-      least-turn
-          (λ m. level_in c.args.t.now
-          (c.args.i + 1)
-          (begun_at c.args.seen m)) c.loop-j.j
-          c.loop-j.found c.loop-j.invariant.2 c.lower-found.ensures,
-    )
+  omega arith,
+  omega (arith, h),
+  least-turn
+      (λ m. level_in c.args.t.now
+      (c.args.i + 1)
+      (begun_at c.args.seen m)) c.loop-j.j
+      c.loop-j.found c.loop-j.invariant.2 c.lower-found.ensures,
+)
 
 pub returns : goal.returns
 returns c = let e : c.loop-j.j ≡ c.args.seen.count = omega

@@ -8,10 +8,10 @@ returns-then-block-lt-SIZE c = c.blank-book.ensures ∙ book-short c.args.block.
 
 pub loop-i-init : goal.loop-i-init
 loop-i-init c = (
-      omega arith,
-      search rules,
-      c.blank-book.ensures ∙ book-none c.args.block.now,
-    )
+  omega arith,
+  search rules,
+  c.blank-book.ensures ∙ book-none c.args.block.now,
+)
 
 pub key_at-key-requires : goal.key_at-key-requires
 key_at-key-requires c = (omega arith, omega arith)
