@@ -172,11 +172,11 @@ fn put_image(s: &[u8], out: &mut [u8]) -> usize
 // is under 10,698, nothing is written and the answer is 0. Of the block of a sound state that is its image; of any
 // other block it is saved_text, the lines of what stands in its rows.
 pub fn save_image(s: &[u8], out: &mut [u8]) -> usize
-    ensures value { (result ≡ pick (saves s.now (length out.old)) (length (saved_text s.now)) 0)
+    ensures text { (result ≡ pick (saves s.now (length out.old)) (length (saved_text s.now)) 0)
         × (out.new
         ≡ put_if (saves s.now (length out.old)) out.old 0
         (saved_text s.now)) }
-    ensures value_2 { (m : Model) → sound_model m ≡ true → s.now ≡ padded m → core_room ≤ length out.old
+    ensures of_sound { (m : Model) → sound_model m ≡ true → s.now ≡ padded m → core_room ≤ length out.old
         → (result ≡ length (image_text m)) × (out.new ≡ put out.old 0 (image_text m)) }
 {
     if s.len() != State::SIZE {

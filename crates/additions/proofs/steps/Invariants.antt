@@ -8,8 +8,8 @@ use Rattle.additions.proofs.steps.Given as goal
 abbrev pub invariant-loop-at : goal.invariant-loop-at
 invariant-loop-at l =
     (l.at ≤ length l.text) × (length l.line ≡ line_most + 1)
-    × (fed (record { state = l.initial.s; l.line = l.initial.line; course = l.initial.now }) l.text
-    ≡ fed (record { state = l.s; l.line = l.line; course = l.now }) (drop l.at l.text))
+    × (fed (record { state = l.initial.s; line = l.initial.line; course = l.initial.now }) l.text
+    ≡ fed (record { state = l.s; line = l.line; course = l.now }) (drop l.at l.text))
 
 abbrev pub decreases-loop-at : goal.decreases-loop-at
 decreases-loop-at l =

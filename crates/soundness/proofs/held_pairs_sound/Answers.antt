@@ -1,3 +1,5 @@
+use mathlib.Core.Bool.{not}
+use Rattle.std.proofs.Common.{ap}
 use native.Mathlib.Omega.{arith}
 use Prim.Native.Nat.{◌-◌}
 use mathlib.Core.Path.{◌≡◌, refl, sym}
@@ -15,7 +17,7 @@ pair_sound-requires c = (c.requires.0, omega arith)
 
 pub returns-then-not-pair_sound : goal.returns-then-not-pair_sound
 returns-then-not-pair_sound c = pairs-stop c.args.s.now c.loop-i.i c.pair_sound.ensures c.args.c
-    (omega arith) c.if-not-pair_sound.true
+    (omega arith) (ap not c.if-not-pair_sound.true)
 
 pub loop-i-smaller : goal.loop-i-smaller
 loop-i-smaller c = omega arith
@@ -24,7 +26,7 @@ pub loop-i-preserved : goal.loop-i-preserved
 loop-i-preserved c = let l = c.loop-i in (
   omega arith,
   pairs-more c.args.s.now l.i c.pair_sound.ensures l.invariant.1
-      c.if-not-pair_sound.false,
+      (ap not c.if-not-pair_sound.false),
 )
 
 pub returns : goal.returns

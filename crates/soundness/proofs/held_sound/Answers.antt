@@ -1,3 +1,5 @@
+use mathlib.Core.Bool.{not}
+use Rattle.std.proofs.Common.{ap}
 use Rattle.soundness.specs.CodeLaws.{held-long}
 use Rattle.soundness.specs.EarlyLaws.{held-misplaced, held-behind, held-added, held-formed}
 use Rattle.model.specs.Layout.{extra_at}
@@ -24,15 +26,15 @@ zeros_from-requires c = let n = length-take-le extra_at c.args.r.now (omega arit
 pub returns-then-not-zeros_from : goal.returns-then-not-zeros_from
 returns-then-not-zeros_from c = held-behind c.args.place c.args.r.now c.wide-n.result c.wide-h.result c.requires
     c.wide-h.ensures.0 c.wide-n.ensures.0 (omega arith) c.zeros_from.ensures
-    c.if-not-zeros_from.true
+    (ap not c.if-not-zeros_from.true)
 
 pub returns-then-not-added_sound : goal.returns-then-not-added_sound
 returns-then-not-added_sound c = held-added c.args.place c.args.r.now c.wide-n.result c.wide-h.result c.requires
     c.wide-h.ensures.0 c.wide-n.ensures.0 (omega arith) c.added_sound.ensures
-    c.if-not-added_sound.true
+    (ap not c.if-not-added_sound.true)
 
 pub returns : goal.returns
 returns c = held-formed c.args.place c.args.r.now c.wide-n.result c.wide-h.result c.requires
     c.wide-h.ensures.0 c.wide-n.ensures.0 (omega arith) c.if-h-place.false
-    c.zeros_from.ensures c.if-not-zeros_from.false c.added_sound.ensures
-    c.if-not-added_sound.false c.formed.ensures
+    c.zeros_from.ensures (ap not c.if-not-zeros_from.false) c.added_sound.ensures
+    (ap not c.if-not-added_sound.false) c.formed.ensures

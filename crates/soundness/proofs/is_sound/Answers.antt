@@ -1,3 +1,5 @@
+use mathlib.Core.Bool.{not}
+use Rattle.std.proofs.Common.{ap}
 use native.Mathlib.Omega.{arith}
 use mathlib.Core.Path.{sym, ◌∙◌}
 use Rattle.soundness.specs.ThereLaws.{loose-size, loose-few}
@@ -6,7 +8,7 @@ use Rattle.soundness.proofs.is_sound.Goals as goal
 
 pub returns-then-not-is_loose : goal.returns-then-not-is_loose
 returns-then-not-is_loose c = whole-loose c.args.s.now
-    (λ k. omega (arith, c.shared_slice_known-1.given k)) c.is_loose.ensures c.if-not-is_loose.true
+    (λ k. omega (arith, c.shared_slice_known-1.given k)) c.is_loose.ensures (ap not c.if-not-is_loose.true)
 
 pub bounds-s-5224 : goal.bounds-s-5224
 bounds-s-5224 c = let n = loose-size c.args.s.now
@@ -23,4 +25,4 @@ are_others-requires c = let l = sym c.is_loose.ensures ∙ c.if-not-is_loose.fal
 
 pub returns : goal.returns
 returns c = whole-others c.args.s.now (λ k. omega (arith, c.shared_slice_known-1.given k))
-    c.is_loose.ensures c.if-not-is_loose.false c.wide.ensures.0 c.are_others.ensures
+    c.is_loose.ensures (ap not c.if-not-is_loose.false) c.wide.ensures.0 c.are_others.ensures

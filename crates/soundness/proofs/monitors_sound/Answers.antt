@@ -1,3 +1,5 @@
+use mathlib.Core.Bool.{not}
+use Rattle.std.proofs.Common.{ap}
 use mathlib.Core.Bool.{true}
 use Rattle.soundness.specs.Below.{all_below}
 use Prim.Native.Nat.{◌-◌}
@@ -12,7 +14,7 @@ loop-h-init c = (omega arith, refl)
 
 pub returns-then-not-monitor_sound : goal.returns-then-not-monitor_sound
 returns-then-not-monitor_sound c = monitors-stop c.args.s.now c.loop-h.h c.monitor_sound.ensures (omega arith)
-    c.if-not-monitor_sound.true
+    (ap not c.if-not-monitor_sound.true)
 
 pub loop-h-smaller : goal.loop-h-smaller
 loop-h-smaller c = omega arith
@@ -21,7 +23,7 @@ pub loop-h-preserved : goal.loop-h-preserved
 loop-h-preserved c = (
   omega arith,
   monitors-more c.args.s.now
-      c.loop-h.h c.monitor_sound.ensures c.loop-h.invariant.1 c.if-not-monitor_sound.false,
+      c.loop-h.h c.monitor_sound.ensures c.loop-h.invariant.1 (ap not c.if-not-monitor_sound.false),
 )
 
 pub returns : goal.returns

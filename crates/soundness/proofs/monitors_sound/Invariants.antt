@@ -8,7 +8,7 @@ use Rattle.soundness.proofs.monitors_sound.Given as goal
 
 abbrev pub invariant-loop-h : goal.invariant-loop-h
 invariant-loop-h l =
-    (l.h ≤ most_monitors) × (all_below (λ l.h. monitor_test l.h (monitor_row_at l.s l.h)) l.h ≡ true)
+    (l.h ≤ most_monitors) × (all_below (λ k. monitor_test k (monitor_row_at l.s k)) l.h ≡ true)
 
 abbrev pub decreases-loop-h : goal.decreases-loop-h
 decreases-loop-h l =

@@ -1,3 +1,5 @@
+use mathlib.Core.Bool.{not}
+use Rattle.std.proofs.Common.{ap}
 use native.Mathlib.Omega.{arith}
 use Rattle.soundness.specs.CodePairsLaws.{pair-high, pair-unseen, pair-seen}
 use mathlib.Core.Path.{refl}
@@ -10,7 +12,7 @@ returns-then-h-ge-MONITORS c = pair-high c.args.s.now c.requires.0 c.args.i c.wi
 pub returns-then-not-seen_sound : goal.returns-then-not-seen_sound
 returns-then-not-seen_sound c = pair-unseen c.args.s.now c.requires.0 c.args.i c.wide-h.result c.requires.1
     (λ k. omega (arith, c.shared_slice_known-1.given k)) c.wide-h.ensures.0
-    (omega arith) refl refl c.seen_sound.ensures c.if-not-seen_sound.true
+    (omega arith) refl refl c.seen_sound.ensures (ap not c.if-not-seen_sound.true)
 
 pub returns : goal.returns
 unfolding Rattle.soundness.specs.Fields.sifts_at
@@ -18,4 +20,4 @@ returns c = pair-seen c.args.s.now c.requires.0 c.args.i c.wide-h.result c.requi
   arith,
   c.shared_slice_known-1.given k,
 )) c.wide-h.ensures.0 (omega arith) refl refl
-    c.seen_sound.ensures c.if-not-seen_sound.false c.rest_sound.ensures
+    c.seen_sound.ensures (ap not c.if-not-seen_sound.false) c.rest_sound.ensures

@@ -1,3 +1,5 @@
+use mathlib.Core.Bool.{not}
+use Rattle.std.proofs.Common.{ap}
 use native.Mathlib.Omega.{arith}
 use mathlib.Core.Path.{sym}
 use lib.Seq.{length-take-le}
@@ -17,8 +19,8 @@ zeros_from-requires c = let n = length-take-le count_at c.args.s.now (omega arit
 
 pub returns-then-not-zeros_from : goal.returns-then-not-zeros_from
 returns-then-not-zeros_from c = count-free c.args.s.now c.requires c.wide-c.result c.wide-c.ensures.0 (omega arith)
-    c.zeros_from.ensures c.if-not-zeros_from.true
+    c.zeros_from.ensures (ap not c.if-not-zeros_from.true)
 
 pub returns : goal.returns
 returns c = count_held c.args.s.now c.requires c.wide-c.result c.wide-c.ensures.0 (omega arith)
-    c.zeros_from.ensures c.if-not-zeros_from.false c.held_pairs_sound.ensures
+    c.zeros_from.ensures (ap not c.if-not-zeros_from.false) c.held_pairs_sound.ensures

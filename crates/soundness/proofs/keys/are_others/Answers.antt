@@ -1,3 +1,5 @@
+use mathlib.Core.Bool.{not}
+use Rattle.std.proofs.Common.{ap}
 use native.Mathlib.Omega.{arith}
 use Prim.Native.Nat.{◌-◌}
 use mathlib.Core.Path.{◌≡◌, refl, sym}
@@ -13,7 +15,7 @@ loop-i-init c = (omega arith, refl, refl, marked-none _ _)
 
 pub returns-then-not-take_key : goal.returns-then-not-take_key
 returns-then-not-take_key c = others-stop c.args.s.now c.loop-i.i c.take_key.ensures.0 c.args.c
-    (omega arith) c.if-not-take_key.true
+    (omega arith) (ap not c.if-not-take_key.true)
 
 pub loop-i-smaller : goal.loop-i-smaller
 loop-i-smaller c = omega arith
@@ -22,7 +24,7 @@ pub loop-i-preserved : goal.loop-i-preserved
 loop-i-preserved c = let l = c.loop-i in (
   omega arith,
   others-more c.args.s.now l.i c.take_key.ensures.0 l.invariant.1
-      c.if-not-take_key.false,
+      (ap not c.if-not-take_key.false),
   omega arith,
   c.take_key.ensures.1,
 )
