@@ -1,5 +1,3 @@
-use mathlib.Core.Bool.{not}
-use Rattle.std.proofs.Common.{ap}
 use Rattle.std.proofs.Common.{◌≡◌, ◌-◌, length, sym, zero-add, arith, rules}
 use Rattle.visit.specs.Book.{is_free, free_in, nobody}
 use Rattle.visit.specs.BookLaws.{place-hit, place-miss, place_end}
@@ -13,7 +11,7 @@ unfolding free_in is_free
 returns-then-not-v c = let rows = c.args.rows in
     let n : length rows ≡ 64 = search rules in (
       place-hit is_free rows c.loop-i.i _
-          c.loop-i.invariant.1 (omega arith) (ap not c.if-not-v.true),
+          c.loop-i.invariant.1 (omega arith) c.if-not-v.true,
       omega arith,
     )
 
@@ -26,7 +24,7 @@ loop-i-preserved c = let rows = c.args.rows in
     let n : length rows ≡ 64 = search rules in (
       omega arith,
       place-miss is_free rows c.loop-i.i _
-          c.loop-i.invariant.1 (omega arith) (ap not c.if-not-v.false),
+          c.loop-i.invariant.1 (omega arith) c.if-not-v.false,
     )
 
 pub returns : goal.returns

@@ -1,3 +1,4 @@
+use Rattle.std.proofs.lemmas.Bool.{not-true, not-false}
 use borrow.Author.Rules.{rules}
 use native.Mathlib.Omega.{arith}
 use native.Mathlib.Nat.{zero-add}
@@ -19,7 +20,7 @@ returns-then-not-one c = let x = c.args in
     let n : length x.t ≡ 16 = search rules in
     let m : length x.d ≡ 16 = search rules in
     off-stop x.t x.d l.h _ (omega arith) (omega arith)
-    (sym c.join-one.ensures.0 ∙ c.if-not-one.true) l.invariant.1
+    (sym c.join-one.ensures.0 ∙ (not-true _ c.if-not-one.true)) l.invariant.1
 
 pub loop-h-smaller : goal.loop-h-smaller
 loop-h-smaller c = omega arith
@@ -31,7 +32,7 @@ loop-h-preserved c = let x = c.args in
     let m : length x.d ≡ 16 = search rules in (
       omega arith,
       off-step x.t x.d l.h _ (omega arith) (omega arith)
-          (sym c.join-one.ensures.0 ∙ c.if-not-one.false) l.invariant.1,
+          (sym c.join-one.ensures.0 ∙ (not-false _ c.if-not-one.false)) l.invariant.1,
     )
 
 pub returns : goal.returns
