@@ -1,3 +1,4 @@
+use Rattle.std.proofs.lemmas.Bool.{not-true, not-false}
 use Rattle.commands.specs.Replies.{prefix_in}
 use Rattle.twin.specs.MarksLaws.{packet-framed-at}
 use Rattle.twin.specs.TurningTurns.{turn-still, turn-moves, gone-start}
@@ -10,7 +11,7 @@ returns-then-not-turned c = turn-still (prefix_in c.args.head.now)
     c.args.h c.args.seen
     c.args.turned c.requires.4
     c.args.out.now c.args.at
-    (c.if-not-turned.true)
+    (not-true _ c.if-not-turned.true)
 
 pub put_gone-n-requires : goal.put_gone-n-requires
 put_gone-n-requires c = (
@@ -37,5 +38,5 @@ put_event-m-requires c = (
 
 pub returns : goal.returns
 returns c = turn-moves (prefix_in c.args.head.now) c.args.t.now c.args.i c.args.h
-    c.args.seen c.args.turned c.requires.4 (c.if-not-turned.false) c.requires.5
+    c.args.seen c.args.turned c.requires.4 (not-false _ c.if-not-turned.false) c.requires.5
     c.payload_at.ensures c.put_gone-n.ensures c.put_event-m.ensures
