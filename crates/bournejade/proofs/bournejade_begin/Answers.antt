@@ -7,8 +7,7 @@ use Rattle.bournejade.proofs.bournejade_begin.Goals as goal
 
 pub returns : goal.returns
 returns c = let a = c.args in
-    let f = c.put_fresh-answer.ensures in (
-      c.start_number.ensures ∙ ap start_number f.0 ∙ number-settings a.opcode a.prefix.now,
-      f.1
-          ∙ begun-is a.state.now a.opcode a.prefix.now (omega arith),
-    )
+    let f = c.put_fresh-answer.ensures in record {
+      value = c.start_number.ensures ∙ ap start_number f.0 ∙ number-settings a.opcode a.prefix.now;
+      state_after = f.1 ∙ begun-is a.state.now a.opcode a.prefix.now (omega arith);
+    }

@@ -7,4 +7,4 @@ use Rattle.bournejade.proofs.bournejade_restore.Goals as goal
 pub returns : goal.returns
 returns c = let a = c.args in
     let f = c.restore-answer.ensures in
-    (c.load_number.ensures ∙ ap load_number f.0 ∙ number-loaded (is_image_on a.image.now), f.1)
+    record { value = c.load_number.ensures ∙ ap load_number f.0 ∙ number-loaded (is_image_on a.image.now); state_after = f.1 }

@@ -7,12 +7,8 @@ use Rattle.bournejade.proofs.bournejade_write_line.Goals as goal
 
 pub returns : goal.returns
 returns c = let a = c.args in
-    let w = c.write_line-r.ensures in (
-      c.told.ensures.0
-          ∙ ap number_in w.0,
-      (
-        c.told.ensures.1 ∙ ap count_in w.0,
-        w.1
-            ∙ ap (λ (r : Wrote). after_write r a.out.now (text_of a.frame.now)) w.0,
-      ),
-    )
+    let w = c.write_line-r.ensures in record {
+      value = c.told.ensures.0 ∙ ap number_in w.0;
+      wrote_after = c.told.ensures.1 ∙ ap count_in w.0;
+      out_after = w.1 ∙ ap (λ (r : Wrote). after_write r a.out.now (text_of a.frame.now)) w.0;
+    }
