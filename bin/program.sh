@@ -10,7 +10,8 @@ version() {
 
 # Whether the program is there and no source is newer than it.
 built() {
-    [ -x "$program" ] && [ -z "$(find "$root/crates" "$root/crates.txt" -newer "$program" -type f -print -quit)" ]
+    [ -x "$program" ] && [ -z "$(find "$root/crates" "$root/crates.txt" \( -type d -name out -prune \) -o \
+        \( -newer "$program" -type f -print -quit \))" ]
 }
 
 build() { # COMMAND CRATE
@@ -19,19 +20,21 @@ build() { # COMMAND CRATE
         exit 3
     fi
     echo "$1: building; the first time this takes some minutes" >&2
-    rm -f "$root/target/stamp/$2" # a stamp without its program would keep it from being linked
-    if ! (cd "$root" && rt check "$2" 2>&1 | grep '^rt: ' >&2); then
+    rm -f "$program"
+    # `rt run` proves, compiles and links the program and then runs it, here without words and on no input: what that run
+    # ends with says nothing, so the program is looked for.
+    (cd "$root/crates/$2" && rt run </dev/null 2>&1 >/dev/null | grep '^rt: ' | grep -v '^rt: running ' >&2) || true
+    if [ ! -x "$program" ]; then
         echo "$1: the program could not be built" >&2
         exit 3
     fi
-    touch -c "$program"
 }
 
 # Sets $program to the crate's program, for a command.
 find_program() { # COMMAND CRATE
     program=$root/libexec/bournejade/$2
     [ ! -x "$program" ] || return 0
-    program=$root/target/bin/$2
+    program=$root/crates/$2/out/$2
     built || build "$1" "$2"
 }
 

@@ -10,7 +10,7 @@ import os
 import re
 import sys
 
-USE = re.compile(r"^use Rattle·(\w+)(?:·specs)?\.specs\.([\w.\-]+?)(?:\.\{([^}]*)\})?(?: as (\w+))?$", re.M)
+USE = re.compile(r"^use Rattle\.(\w+)\.specs\.([\w.\-]+?)(?:\.\{([^}]*)\})?(?: as (\w+))?$", re.M)
 HEAD = re.compile(r"\s*(?:(?:unfoldable |abbrev )(?:pub )?\S+ ?(?:\{.*)?:|(?:pub )?(?:record|data) \w)")
 LAW = re.compile(r"(?!unfoldable |abbrev |(?:pub )?(?:record|data) )(?:pub )?[^\s(){}:]+(?: \{.*)? :(?: |$)")
 NAME = re.compile(r"\s*(?:unfoldable |abbrev )?(?:pub )?(?:record |data )?(\S+)")
@@ -44,6 +44,13 @@ def imports(text):
     return found
 
 
+def unprojected(text, uses):
+    """The text without the fields that are taken of values, as in `s.lines` and `(f x).lines`; what an alias of a module leads to stays."""
+    kept = lambda m: m.group(1) + (m.group(2) if "@" + m.group(1) in uses else "")
+    text = re.sub(r"(?<![\w.'\-])([\w'\-]+)(\.[\w'\-]+)(?:\.[\w'\-]+)*", kept, text)
+    return re.sub(r"(?<![\w'\-])(?:\.[\w'\-]+)+", "", text)
+
+
 def definitions():
     found = {}
     for path in glob.glob("crates/*/specs/*.antt"):
@@ -66,7 +73,7 @@ def reached(found, roots):
             continue
         seen.add(key)
         lines, uses = found[key]
-        text = re.sub(r"(?<!\w)\.[\w\-]+", "", "\n".join(lines))
+        text = unprojected("\n".join(lines), uses)
         text = re.sub(r"([{;]\s*)[\w\-]+ = ", r"\1", text)
         if re.match(r"\s*(pub )?record", text):
             text = re.sub(r"(\n\s+(?:pub )?)[\w\-]+ :", r"\1:", text)

@@ -1,4 +1,4 @@
-// The library for firmware in C: the calls of document 01 on numbers and octets, for `rt staticlib bournejade`. The
+// The library for firmware in C: the calls of document 01 on numbers and octets, which the crate `bournejade_c` exports. The
 // header is include/bournejade.h. The state is the caller's block of 6,987 octets, lent to each call and changed in
 // place; any octets in it are met. Each call returns 0 or the refusal's number, and gives the counts of octets
 // through the last parameters.
