@@ -13,11 +13,7 @@ overflow_add-wrote c = let a = c.args in
     a.out.now a.i a.kept a.at (omega arith) (omega arith) (omega arith)
     c.octet_at.ensures c.ticks-run.ensures c.octet_at-period.ensures
     c.get16.ensures c.stays-on.ensures c.tell.ensures in
-    omega (
-      arith,
-      n,
-      start.good.1.1.1.0.0,
-    )
+    omega (arith, n)
 
 pub keep_row-requires : goal.keep_row-requires
 keep_row-requires c = let a = c.args in
