@@ -44,7 +44,7 @@ pub loop-h-preserved : goal.loop-h-preserved
 loop-h-preserved c = let a = c.args in
     let l = c.loop-h in
     let t = c.start_at-turn in (
-      omega (arith, c),
+      omega arith,
       t.ensures.0,
       omega (arith, t.ensures.1),
       t.auto.s ∙ l.invariant.3,
@@ -53,7 +53,7 @@ loop-h-preserved c = let a = c.args in
           l.invariant.5,
       λ m w g.
           turns-turn m (packet_of a.payload.now) w.measured g.sender.sent a.acts.now a.under.now
-          a.dev l.h _ _ (omega (arith, c)) g refl refl (l.invariant.6 m w g)
+          a.dev l.h _ _ (omega arith) g refl refl (l.invariant.6 m w g)
           (λ x y z. t.ensures.3 x y g.sender z),
     )
 

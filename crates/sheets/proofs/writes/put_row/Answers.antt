@@ -50,6 +50,6 @@ put_sum-requires c = let a = c.args in
 
 pub returns : goal.returns
 returns c = let a = c.args in
-    row_put_lem a.h a.r a.out.now a.at (omega (arith, c)) c.put_count-a.ensures
+    row_put_lem a.h a.r a.out.now a.at (omega arith) c.put_count-a.ensures
     c.put_count-b.ensures c.put_count-c.ensures
-    c.put_count-d.ensures (omega (arith, c)) c.put_sum.ensures
+    c.put_count-d.ensures (omega arith) c.put_sum.ensures
