@@ -8,7 +8,7 @@ use Rattle.prefixes.proofs.is_laid.Given as goal
 
 abbrev pub invariant-loop-i : goal.invariant-loop-i
 invariant-loop-i l =
-    (l.i ≤ edition_count l.s) × ((l : length l.s ≡ whole_size) → Laid l.s l l.i)
+    (l.i ≤ edition_count l.s) × ((e : length l.s ≡ whole_size) → Laid l.s e l.i)
 
 abbrev pub decreases-loop-i : goal.decreases-loop-i
 decreases-loop-i l =

@@ -34,7 +34,7 @@ number_at-next-requires c = let l = c.loop-i in
 pub returns-then-next-last : goal.returns-then-next-last
 returns-then-next-last c = let l = c.loop-i in
     let k = c.count_of-count.ensures.0 in
-    rises-not c.args.s.now l.new l.i (omega arith) l.invariant c.number_at-next.ensures
+    rises-not c.args.s.now l.last l.i (omega arith) l.invariant c.number_at-next.ensures
     c.if-next-last.true
 
 pub loop-i-smaller : goal.loop-i-smaller
@@ -43,10 +43,10 @@ loop-i-smaller c = omega arith
 pub loop-i-preserved : goal.loop-i-preserved
 loop-i-preserved c = let l = c.loop-i in
     let k = c.count_of-count.ensures.0 in
-    rises-more c.args.s.now l.new l.i (omega arith) l.invariant c.number_at-next.ensures
+    rises-more c.args.s.now l.last l.i (omega arith) l.invariant c.number_at-next.ensures
     c.if-next-last.false
 
 pub returns : goal.returns
 returns c = let l = c.loop-i in
     let k = c.count_of-count.ensures.0 in
-    rises-end c.args.s.now l.new l.i (omega arith) l.invariant
+    rises-end c.args.s.now l.last l.i (omega arith) l.invariant

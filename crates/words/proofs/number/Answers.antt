@@ -20,11 +20,11 @@ pub loop-left-preserved : goal.loop-left-preserved
 loop-left-preserved c = (
   omega arith,
   number-turn
-      c.args.s.now (c.loop-left.false - 1) c.loop-left.false (omega arith)
+      c.args.s.now (c.loop-left.left - 1) c.loop-left.left (omega arith)
       (omega arith) c.loop-left.invariant.1 c.pair-end.ensures,
 )
 
 pub returns : goal.returns
-returns c = let e : c.loop-left.false ≡ 0 = omega arith in
+returns c = let e : c.loop-left.left ≡ 0 = omega arith in
     then c.put-end.ensures
     (same (ap (λ (j : ℕ). number_text (drop j c.args.s.now)) e) c.loop-left.invariant.1)

@@ -26,7 +26,7 @@ returns-then-left-eq0 c = let n = c.loop-i-test.true in
       omega (arith, n, m.1),
       look-stopped
           c.args.t.now c.args.k c.args.n c.loop-i.i
-          c.loop-i.false c.args.last n (c.requires.formed (c.loop-i.i - 1)
+          c.loop-i.left c.args.last n (c.requires.formed (c.loop-i.i - 1)
           (omega (arith, m.1, n))) c.is_tick.ensures c.if-is_tick.true c.if-left-eq0.true
           m.2,
     )
@@ -44,7 +44,7 @@ loop-i-preserved-then-is_tick c = let n = c.loop-i-test.true in
       omega (arith, n, m.1),
       m.2
           ∙ look-tick c.args.t.now c.args.k c.args.n c.loop-i.i
-          c.loop-i.false n m.1 (c.requires.formed (c.loop-i.i - 1)
+          c.loop-i.left n m.1 (c.requires.formed (c.loop-i.i - 1)
           (omega (arith, m.1, n))) c.is_tick.ensures c.if-is_tick.true c.if-left-eq0.false,
     )
 
@@ -59,7 +59,7 @@ loop-i-preserved c = let n = c.loop-i-test.true in
       m.2
           ∙ look-other c.args.t.now
           c.args.k c.args.n
-          c.loop-i.i c.loop-i.false n m.1
+          c.loop-i.i c.loop-i.left n m.1
           (c.requires.formed (c.loop-i.i - 1)
           (omega (arith, m.1, n))) c.is_tick.ensures c.if-is_tick.false,
     )
@@ -70,6 +70,6 @@ returns c = let m = c.loop-i.invariant in (
   m.1,
   sym
       (m.2 ∙ look-end c.args.t.now c.args.k
-      c.args.n c.loop-i.i c.loop-i.false m.0
+      c.args.n c.loop-i.i c.loop-i.left m.0
       (omega (arith, c.loop-i-test.false))),
 )
