@@ -1,10 +1,11 @@
-use Rattle.std.proofs.Common.{◌≡◌, ◌+◌, ◌-◌, ◌*◌, ◌/◌, ◌%◌, eqb, refl, ◌∙◌, ⊎_elim, arith, length-set, ltb-true, eqb-true}
+use Rattle.std.proofs.Common.{◌≡◌, ◌+◌, ◌-◌, ◌*◌, ◌/◌, ◌%◌, eqb, refl, ◌∙◌, arith, length-set, ltb-true, eqb-true}
 use Rattle.laws.specs.TestsLaws.{and_left, and_right}
 use lib.ListN.{get_or-replicate}
 use Rattle.octets.specs.NumbersLaws.{number-of}
 use Rattle.model.specs.Layout.{most_monitors, pair_size, pairs_at}
 use Rattle.packets.specs.DeviceLaws.{row-neither, flag-other, flag-own, flags-below}
 use Rattle.packets.proofs.device.held_in.Goals as goal
+use Rattle.packets.proofs.device.held_in.Goals.{then-key-dev, else-key-dev}
 
 pub loop-i-init : goal.loop-i-init
 loop-i-init c = let a = c.args in (
@@ -26,29 +27,29 @@ pub loop-i-preserved : goal.loop-i-preserved
 loop-i-preserved c = let a = c.args in
     let l = c.loop-i in
     let k = c.key_at-key.result in
-    ⊎_elim
-    (λ w. (
-      omega arith,
-      omega arith,
-      rw w.1 (simp length-set l.invariant.2),
-      λ m p n v t b x.
-          let e : k / 256 ≡ a.dev = eqb-true (k / 256) a.dev (and_left (eqb (k / 256) a.dev) _ w.0.taken) in
-          rw w.1 (flag-own m a.s.now n p a.dev v t l.i (omega arith)
-          (number-of 8 a.s.now (pairs_at + pair_size * l.i) c.key_at-key.ensures (omega arith)) l.r
-          e l.invariant.2 (l.invariant.3 m p n v t b x)),
-    ))
-    (λ w. (
-      omega arith,
-      omega arith,
-      rw w.1 l.invariant.2,
-      λ m p n v t b x h y. rw w.1
-          (flag-other m a.s.now n p a.dev v t l.i (omega arith)
-          (number-of 8 a.s.now (pairs_at + pair_size * l.i) c.key_at-key.ensures (omega arith)) h _
-          (row-neither m a.s.now n p a.dev v t l.i (omega arith)
-          (number-of 8 a.s.now (pairs_at + pair_size * l.i) c.key_at-key.ensures (omega arith))
-          w.0.left) y (l.invariant.3 m p n v t b x h y)),
-    ))
-    c.if-key-dev.branch
+    elim c.if-key-dev.branch [
+      | then-key-dev w ↦ (
+        omega arith,
+        omega arith,
+        rw w.r-is (simp length-set l.invariant.2),
+        λ m p n v t b x.
+            let e : k / 256 ≡ a.dev = eqb-true (k / 256) a.dev (and_left (eqb (k / 256) a.dev) _ w.if-key-dev.true) in
+            rw w.r-is (flag-own m a.s.now n p a.dev v t l.i (omega arith)
+            (number-of 8 a.s.now (pairs_at + pair_size * l.i) c.key_at-key.ensures (omega arith)) l.r
+            e l.invariant.2 (l.invariant.3 m p n v t b x)),
+      )
+      | else-key-dev w ↦ (
+        omega arith,
+        omega arith,
+        rw w.r-is l.invariant.2,
+        λ m p n v t b x h y. rw w.r-is
+            (flag-other m a.s.now n p a.dev v t l.i (omega arith)
+            (number-of 8 a.s.now (pairs_at + pair_size * l.i) c.key_at-key.ensures (omega arith)) h _
+            (row-neither m a.s.now n p a.dev v t l.i (omega arith)
+            (number-of 8 a.s.now (pairs_at + pair_size * l.i) c.key_at-key.ensures (omega arith))
+            w.if-key-dev.false) y (l.invariant.3 m p n v t b x h y)),
+      )
+    ]
 
 pub returns : goal.returns
 returns c = let a = c.args in
