@@ -2,7 +2,7 @@ use Rattle.bournejade.specs.GivesLaws.{stop-end, stop-refused}
 use Rattle.bournejade.proofs.numbers.stopped.Goals as goal
 
 pub returns-in-End : goal.returns-in-End
-returns-in-End c = stop-end _ c.enum_told-1.given.1
+returns-in-End c = stop-end _ c.in-End.is
 
 pub returns-in-Refused : goal.returns-in-Refused
-returns-in-Refused c = stop-refused _ _ _ c.s-1.given.1 c.number_of.ensures
+returns-in-Refused c = stop-refused _ _ _ c.in-Refused.is c.number_of.ensures
