@@ -7,19 +7,19 @@ pub returns-in-Read : goal.returns-in-Read
 unfolding stop_of stop_by
 returns-in-Read c = let a = c.args in
     c.blank.ensures ∙ sym (ap (λ m. stop_by m a.flow.lines a.position (found_in a.text.now))
-    c.enum_told-1.given.1)
+    c.in-Read.is)
 
 pub returns-in-Again : goal.returns-in-Again
 unfolding stop_of stop_by
 returns-in-Again c = let a = c.args in
     c.blank-in-Again.ensures ∙ sym (ap (λ m. stop_by m a.flow.lines a.position (found_in a.text.now))
-    c.enum_told-in-Again-1.given.1)
+    c.in-Again.is)
 
 pub returns-in-Ended : goal.returns-in-Ended
 unfolding stop_of stop_by
 returns-in-Ended c = let a = c.args in
     c.blank-in-Ended.ensures ∙ sym (ap (λ m. stop_by m a.flow.lines a.position (found_in a.text.now))
-    c.enum_told-in-Ended-1.given.1)
+    c.in-Ended.is)
 
 pub returns-in-Stopped : goal.returns-in-Stopped
 unfolding stop_of stop_by
@@ -29,4 +29,4 @@ returns-in-Stopped c = let a = c.args in
     c.found_in.ensures
     ∙ ap (λ n. stop_text a.flow.lines n a.position (found_in a.text.now))
     c.number_of.ensures
-    ∙ sym (ap (λ m. stop_by m a.flow.lines a.position (found_in a.text.now)) c.next-1.given.1)
+    ∙ sym (ap (λ m. stop_by m a.flow.lines a.position (found_in a.text.now)) c.in-Stopped.is)

@@ -19,7 +19,7 @@ returns-in-Is c = rw (
   c.small.ensures,
   le-ltb _ _ c.if-n-lt2.false,
   sym
-      c.read-read.ensures ∙ c.read-1.given.1,
+      c.read-read.ensures ∙ c.in-Is.is,
 )
 
 pub returns-in-Not : goal.returns-in-Not
@@ -27,5 +27,5 @@ unfolding refusal_in number_in Rattle.laws.specs.Tests.pick
 returns-in-Not c = rw (
   le-ltb _ _ c.if-n-lt2.false,
   sym c.read-read.ensures
-      ∙ c.enum_told-1.given.1,
+      ∙ c.in-Not.is,
 )
