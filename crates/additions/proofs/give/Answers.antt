@@ -10,7 +10,7 @@ slice_bounds-row-end c = let t = c.take_text-got in
       arith,
       line-fits c.args.s.now
           c.args.line.now t.result t.ensures.0
-          c.got-1.given.0.0 c.in-Done.is,
+          c.in-Done.n c.in-Done.is,
     )
 
 pub slice_bounds-give_octets-end : goal.slice_bounds-give_octets-end
@@ -19,13 +19,13 @@ slice_bounds-give_octets-end c = let t = c.take_text-got in
       arith,
       line-fits c.args.s.now
           c.args.line.now t.result
-          t.ensures.0 c.got-1.given.0.0 c.in-Done.is,
+          t.ensures.0 c.in-Done.n c.in-Done.is,
     )))
 
 pub returns-in-Done : goal.returns-in-Done
 returns-in-Done c = let a = c.args in
     let t = c.take_text-got in
-    line-given a.s.now a.line.now t.result t.ensures.0 c.got-1.given.0.0 _
+    line-given a.s.now a.line.now t.result t.ensures.0 c.in-Done.n _
     t.new.out _ _ c.in-Done.is t.ensures.1 c.give_octets.ensures
 
 pub returns-in-Refused : goal.returns-in-Refused
