@@ -1,6 +1,6 @@
 // Rows of totals (document 02, T-09 and T-10): a row's totals added with every test of 64 bits, rows joined, and the
-// lent table of sixteen rows, changed in place. A walk by hand is needed of the one function whose signature has the
-// table; the work is done on rows by value.
+// lent table of sixteen rows, changed in place. One function's signature has the table; the work is done on rows by
+// value.
 #![tactic(auto)]
 
 ghost use Rattle.std.specs.Prelude.{◌≡◌, true, ◌&&◌, ◌+◌, ◌+ℤ◌, length, replicate, get_or, map};
