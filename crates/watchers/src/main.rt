@@ -6,7 +6,7 @@
 
 use engine::Loaded;
 use index::{Watch, Whole};
-use outside::{STDERR, STDOUT, Source};
+use outside::{STDERR, STDOUT};
 use refusals::Refusal;
 
 // The exit status where no monitor watches the device.
@@ -46,10 +46,15 @@ fn answer(rt: &HostRuntime, state: Whole, kind: u8, address: [u8; 6]) {
     shell::status(status_of(w));
 }
 
-// The image of an open file, restored and asked.
-fn ask(rt: &HostRuntime, source: &Source, image: &[u8], kind: u8, address: [u8; 6]) {
-    let mut text = [0u8; reports::IMAGE_ROOM];
-    let n = outside::read_full(rt, source, &mut text);
+// The image that was read, restored and asked.
+fn ask(
+    rt: &HostRuntime,
+    image: &[u8],
+    text: [u8; reports::IMAGE_ROOM],
+    n: usize,
+    kind: u8,
+    address: [u8; 6],
+) {
     let restored = reports::load(text, n);
     let answered = restored.answer;
     let state = restored.state;
@@ -61,8 +66,9 @@ fn ask(rt: &HostRuntime, source: &Source, image: &[u8], kind: u8, address: [u8; 
 
 // The image of a name, `-` for standard input.
 fn open(rt: &HostRuntime, image: &[u8], kind: u8, address: [u8; 6]) {
-    if let Some(source) = shell::open(rt, image) {
-        ask(rt, &source, image, kind, address);
+    let mut text = [0u8; reports::IMAGE_ROOM];
+    if let Some(n) = shell::read(rt, image, &mut text) {
+        ask(rt, image, text, n, kind, address);
     }
 }
 

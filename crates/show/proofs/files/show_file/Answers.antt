@@ -3,10 +3,10 @@ use Rattle.show.proofs.files.show_file.Goals as goal
 
 pub slice_bounds-line-end : goal.slice_bounds-line-end
 slice_bounds-line-end c = omega (
-      arith,
-      c.next_line-read.ensures.1 (c.if-not-feed.false),
-      c.next_line-read.ensures.0,
-    )
+  arith,
+  c.next_line-read.ensures.1 (c.if-not-feed.false),
+  c.next_line-read.ensures.0,
+)
 
 pub slice_bounds-given-end : goal.slice_bounds-given-end
 slice_bounds-given-end c = sym (length-take-le _ _
