@@ -11,7 +11,7 @@ mod make;
 mod seen;
 
 use index::Whole;
-use libc::{STDIN_FILENO, STDOUT_FILENO};
+use outside::{STDIN, STDOUT};
 use seen::Tally;
 
 // The tags of the calls, and of a script's end.
@@ -60,12 +60,12 @@ struct Head {
 
 // Writes the line of a script.
 fn show(t: Tally) {
-    io::print_hex(STDOUT_FILENO, t.digest, 14);
-    io::write_all(STDOUT_FILENO, b" ");
-    io::print_decimal(STDOUT_FILENO, t.calls);
-    io::write_all(STDOUT_FILENO, b" ");
-    io::print_decimal(STDOUT_FILENO, t.count);
-    io::write_all(STDOUT_FILENO, b"\n");
+    io::print_hex(STDOUT, t.digest, 14);
+    io::write_all(STDOUT, b" ");
+    io::print_decimal(STDOUT, t.calls);
+    io::write_all(STDOUT, b" ");
+    io::print_decimal(STDOUT, t.count);
+    io::write_all(STDOUT, b"\n");
 }
 
 // A call that is lent this output.
@@ -171,7 +171,7 @@ fn finish(block: &mut [u8; Whole::SIZE], out: &mut [u8], t: Tally) -> Tally {
 // Fills a text from standard input.
 fn fill(text: &mut [u8]) -> bool {
     let n = text.len();
-    io::read_full(STDIN_FILENO, text) == n
+    io::read_full(STDIN, text) == n
 }
 
 // Fills the first n octets of a text, where it has so many; an empty text is not read.

@@ -11,7 +11,7 @@ mod site;
 
 ghost use Rattle.std.specs.Prelude.{◌≤◌};
 
-use libc::{STDERR_FILENO, STDOUT_FILENO};
+use outside::STDERR;
 use texts::words;
 use totals::Row;
 
@@ -25,33 +25,33 @@ pub struct Month {
 
 fn usage() {
     io::write_all(
-        STDERR_FILENO,
+        STDERR,
         b"usage: month [--csv] [IMAGE JOURNAL ..] [--rows FILE ..]\n",
     );
     shell::status(shell::USAGE);
 }
 
 // Writes a word of the command on standard error, behind a mark.
-fn tell(mark: &[u8], at: usize) {
+fn tell(rt: &HostRuntime, mark: &[u8], at: usize) {
     let mut buf = io::buffer();
-    let n = os::arg(at, &mut buf);
-    io::write_all(STDERR_FILENO, mark);
-    io::write_all(STDERR_FILENO, &buf[..n]);
+    let n = outside::word(rt, at, &mut buf);
+    io::write_all(STDERR, mark);
+    io::write_all(STDERR, &buf[..n]);
 }
 
 // A refused join: which site, named by its first and its last word, and which handle.
-fn unjoined(first: usize, last: usize, h: usize) {
-    tell(b"month: a total would pass 64 bits: ", first);
+fn unjoined(rt: &HostRuntime, first: usize, last: usize, h: usize) {
+    tell(rt, b"month: a total would pass 64 bits: ", first);
     if first != last {
-        tell(b" ", last);
+        tell(rt, b" ", last);
     }
-    io::write_all(STDERR_FILENO, b", handle ");
-    io::print_decimal(STDERR_FILENO, h as u64);
-    io::write_all(STDERR_FILENO, b"\n");
+    io::write_all(STDERR, b", handle ");
+    io::print_decimal(STDERR, h as u64);
+    io::write_all(STDERR, b"\n");
 }
 
 // One site's rows joined to those so far.
-fn with_site(all: Month, one: Month, first: usize, last: usize) -> Month {
+fn with_site(rt: &HostRuntime, all: Month, one: Month, first: usize, last: usize) -> Month {
     if !one.goes {
         return one;
     }
@@ -60,7 +60,7 @@ fn with_site(all: Month, one: Month, first: usize, last: usize) -> Month {
     let both = sheets::join(t, d);
     let u = both.rows;
     if both.refused < Row::TABLE {
-        unjoined(first, last, both.refused);
+        unjoined(rt, first, last, both.refused);
         return Month {
             rows: u,
             goes: false,
@@ -75,23 +75,23 @@ fn with_site(all: Month, one: Month, first: usize, last: usize) -> Month {
 }
 
 // The site of an image's name and a journal's, counted.
-fn named(first: usize, second: usize, progress: bool) -> Month {
+fn named(rt: &HostRuntime, first: usize, second: usize, progress: bool) -> Month {
     let mut image = io::buffer();
-    let n = os::arg(first, &mut image);
+    let n = outside::word(rt, first, &mut image);
     let mut name = io::buffer();
-    let k = os::arg(second, &mut name);
-    site::counted(&image[..n], &name[..k], progress)
+    let k = outside::word(rt, second, &mut name);
+    site::counted(rt, &image[..n], &name[..k], progress)
 }
 
 // The site of a file of rows, read back.
-fn listed(at: usize) -> Month {
+fn listed(rt: &HostRuntime, at: usize) -> Month {
     let mut name = io::buffer();
-    let n = os::arg(at, &mut name);
-    site::read_back(&name[..n])
+    let n = outside::word(rt, at, &mut name);
+    site::read_back(rt, &name[..n])
 }
 
 // The sites counted, in order; the first that does not run through ends it.
-fn pairs(first: usize, end: usize, progress: bool) -> Month {
+fn pairs(rt: &HostRuntime, first: usize, end: usize, progress: bool) -> Month {
     let mut all = Month {
         rows: totals::no_rows(),
         goes: true,
@@ -102,8 +102,8 @@ fn pairs(first: usize, end: usize, progress: bool) -> Month {
         if site::ends(all.goes, all.number) {
             return all;
         }
-        let one = named(at, at + 1, progress);
-        let next = with_site(all, one, at, at + 1);
+        let one = named(rt, at, at + 1, progress);
+        let next = with_site(rt, all, one, at, at + 1);
         all = next;
         if end - at < 2 {
             return all;
@@ -114,15 +114,15 @@ fn pairs(first: usize, end: usize, progress: bool) -> Month {
 }
 
 // The files of rows behind them, the same.
-fn files(before: Month, first: usize, end: usize) -> Month {
+fn files(rt: &HostRuntime, before: Month, first: usize, end: usize) -> Month {
     let mut all = before;
     let mut at = first;
     while at < end {
         if site::ends(all.goes, all.number) {
             return all;
         }
-        let one = listed(at);
-        let next = with_site(all, one, at, at);
+        let one = listed(rt, at);
+        let next = with_site(rt, all, one, at, at);
         all = next;
         at += 1;
     }
@@ -145,26 +145,25 @@ fn status_of(goes: bool, number: u8) {
 }
 
 // Whether a refusal's number was written, where there is one.
-fn put_number(number: u8) -> bool {
+fn put_number(rt: &HostRuntime, number: u8) -> bool {
     if number == 0 {
         return true;
     }
     let t = words::said(words::blank(), b"", number as u64);
-    shell::put(STDOUT_FILENO, words::with(t, b"\n"))
+    shell::show(rt, words::with(t, b"\n"))
 }
 
 // What is written of them, and the exit status.
-fn show(all: Month, csv: bool) {
+fn show(rt: &HostRuntime, all: Month, csv: bool) {
     let rows = all.rows;
     let mut good = true;
     if all.goes {
-        good = rows::show(rows, csv);
+        good = rows::show(rt, rows, csv);
     }
     if good {
-        good = put_number(all.number);
+        good = put_number(rt, all.number);
     }
     if !good {
-        os::fail(b"standard output");
         shell::status(shell::FAILED);
         return;
     }
@@ -172,10 +171,10 @@ fn show(all: Month, csv: bool) {
 }
 
 // Where `--rows` stands among the words; their number where it does not.
-fn rows_word(first: usize, words: usize) -> usize {
+fn rows_word(rt: &HostRuntime, first: usize, words: usize) -> usize {
     let mut at = first;
     while at < words {
-        if shell::is(at, b"--rows") {
+        if shell::is(rt, at, b"--rows") {
             return at;
         }
         at += 1;
@@ -184,11 +183,11 @@ fn rows_word(first: usize, words: usize) -> usize {
 }
 
 // How many words are a dash.
-fn dashes(first: usize, words: usize) -> u64 {
+fn dashes(rt: &HostRuntime, first: usize, words: usize) -> u64 {
     let mut count = 0;
     let mut at = first;
     while at < words {
-        if shell::is(at, b"-") {
+        if shell::is(rt, at, b"-") {
             count = std::num::wrapping_add_u64(count, 1);
         }
         at += 1;
@@ -196,40 +195,40 @@ fn dashes(first: usize, words: usize) -> u64 {
     count
 }
 
-fn run(first: usize, words: usize, csv: bool, progress: bool) {
-    let mark = rows_word(first, words);
+fn run(rt: &HostRuntime, first: usize, words: usize, csv: bool, progress: bool) {
+    let mark = rows_word(rt, first, words);
     if !sheets::are_sites(first, mark, words) {
         usage();
         return;
     }
-    if 1 < dashes(first, words) {
+    if 1 < dashes(rt, first, words) {
         usage();
         return;
     }
-    let counted = pairs(first, mark, progress);
+    let counted = pairs(rt, first, mark, progress);
     if mark < words {
-        show(files(counted, mark + 1, words), csv);
+        show(rt, files(rt, counted, mark + 1, words), csv);
         return;
     }
-    show(counted, csv);
+    show(rt, counted, csv);
 }
 
 // The options before the names.
-fn begin(first: usize, words: usize, progress: bool)
+fn begin(rt: &HostRuntime, first: usize, words: usize, progress: bool)
     requires { first ≤ 2 }
 {
-    if shell::is(first, b"--csv") {
-        run(first + 1, words, true, progress);
+    if shell::is(rt, first, b"--csv") {
+        run(rt, first + 1, words, true, progress);
         return;
     }
-    run(first, words, false, progress);
+    run(rt, first, words, false, progress);
 }
 
-fn main() {
-    let words = os::arg_count();
-    if shell::is(1, b"--progress") {
-        begin(2, words, true);
+fn main(rt: HostRuntime) {
+    let words = outside::word_count(&rt);
+    if shell::is(&rt, 1, b"--progress") {
+        begin(&rt, 2, words, true);
         return;
     }
-    begin(1, words, false);
+    begin(&rt, 1, words, false);
 }

@@ -1,5 +1,4 @@
 // Rows written.
-use libc::STDOUT_FILENO;
 use texts::{Text, words};
 use totals::Row;
 
@@ -16,10 +15,10 @@ fn with_sum(t: Text, word: &[u8], sum: i64) -> Text {
 }
 
 // The rows as comma-separated values; whether they were written.
-fn put_text(rows: [Row; Row::TABLE]) -> bool {
+fn put_text(rt: &HostRuntime, rows: [Row; Row::TABLE]) -> bool {
     let mut text = [0u8; sheets::ROOM];
     let n = sheets::write(&mut text, rows);
-    io::write_all(STDOUT_FILENO, &text[..n])
+    outside::put(rt, &text[..n])
 }
 
 // One row of the table; the mean is the pair of the sum and the packets.
@@ -34,14 +33,14 @@ fn row_text(h: usize, r: Row) -> Text {
 }
 
 // Whether they were written.
-pub(super) fn show(rows: [Row; Row::TABLE], csv: bool) -> bool {
+pub(super) fn show(rt: &HostRuntime, rows: [Row; Row::TABLE], csv: bool) -> bool {
     if csv {
-        return put_text(rows);
+        return put_text(rt, rows);
     }
     let mut h = 0;
     while h < Row::TABLE {
         let r = rows[h];
-        if !shell::put(STDOUT_FILENO, row_text(h, r)) {
+        if !shell::show(rt, row_text(h, r)) {
             return false;
         }
         h += 1;

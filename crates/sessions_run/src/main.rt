@@ -10,7 +10,7 @@ ghost use Rattle.std.specs.Prelude.{◌+◌, ◌≤◌, ◌<◌, length};
 
 use engine::{Loaded, Stop};
 use index::Whole;
-use libc::{STDIN_FILENO, STDOUT_FILENO};
+use outside::{STDIN, STDOUT};
 use refusals::Wrote;
 
 // The largest prime below 2^54: the digest is a polynomial's value modulo it.
@@ -134,12 +134,12 @@ fn replay_turns(block: &mut [u8; Whole::SIZE], text: &[u8], out: &mut [u8]) -> T
 }
 
 fn show(digest: u64, count: u64, number: u8) {
-    io::print_hex(STDOUT_FILENO, digest, 14);
-    io::write_all(STDOUT_FILENO, b" ");
-    io::print_decimal(STDOUT_FILENO, count);
-    io::write_all(STDOUT_FILENO, b" ");
-    io::print_decimal(STDOUT_FILENO, number as u64);
-    io::write_all(STDOUT_FILENO, b"\n");
+    io::print_hex(STDOUT, digest, 14);
+    io::write_all(STDOUT, b" ");
+    io::print_decimal(STDOUT, count);
+    io::write_all(STDOUT, b" ");
+    io::print_decimal(STDOUT, number as u64);
+    io::write_all(STDOUT, b"\n");
 }
 
 // Saves the image, and writes the session's line.
@@ -170,8 +170,8 @@ fn session(image: &[u8], journal: &[u8]) {
     match answer {
         Loaded::Accepted => follow(state, journal),
         Loaded::Rejected(x) => {
-            io::print_decimal(STDOUT_FILENO, refusals::number_of(x) as u64);
-            io::write_all(STDOUT_FILENO, b"\n");
+            io::print_decimal(STDOUT, refusals::number_of(x) as u64);
+            io::write_all(STDOUT, b"\n");
         }
     }
 }
@@ -201,7 +201,7 @@ fn number(s: &[u8]) -> usize
 // Fills a text from standard input.
 fn fill(text: &mut [u8]) -> bool {
     let n = text.len();
-    io::read_full(STDIN_FILENO, text) == n
+    io::read_full(STDIN, text) == n
 }
 
 // Fills the first n octets of a text, where it has so many.

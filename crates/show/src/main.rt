@@ -4,24 +4,24 @@
 
 mod files;
 
-use libc::STDERR_FILENO;
+use outside::STDERR;
 
 // The files at most, and options before them.
 const MOST: usize = 65536;
 
 fn usage() {
-    io::write_all(STDERR_FILENO, b"usage: show FILE..\n");
+    io::write_all(STDERR, b"usage: show FILE..\n");
     shell::status(shell::USAGE);
 }
 
 // Whether a word of the command begins as an option does; a dash alone is standard input.
-fn some_option(from: usize, count: usize) -> bool {
+fn some_option(rt: &HostRuntime, from: usize, count: usize) -> bool {
     if MOST < count {
         return true;
     }
     let mut i = from;
     while i < count {
-        if shell::is_option(i) {
+        if shell::is_option(rt, i) {
             return true;
         }
         i += 1;
@@ -30,23 +30,23 @@ fn some_option(from: usize, count: usize) -> bool {
 }
 
 // The place of the first name.
-fn first() -> usize {
-    if shell::is(1, b"--progress") {
+fn first(rt: &HostRuntime) -> usize {
+    if shell::is(rt, 1, b"--progress") {
         return 2;
     }
     1
 }
 
-fn main() {
-    let from = first();
-    let count = os::arg_count();
+fn main(rt: HostRuntime) {
+    let from = first(&rt);
+    let count = outside::word_count(&rt);
     if count <= from {
         usage();
         return;
     }
-    if some_option(from, count) {
+    if some_option(&rt, from, count) {
         usage();
         return;
     }
-    files::show_all(from, count, from == 2);
+    files::show_all(&rt, from, count, from == 2);
 }

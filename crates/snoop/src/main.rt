@@ -6,7 +6,8 @@
 mod journal;
 
 use decimals::Number;
-use libc::{STDERR_FILENO, STDOUT_FILENO};
+use index::Whole;
+use outside::{STDERR, Source};
 
 // What the options ask: words on how far it is, the first tick's time; whether they are good; the place of the first
 // name.
@@ -27,16 +28,16 @@ const MOST: usize = 8;
 
 fn usage() {
     io::write_all(
-        STDERR_FILENO,
+        STDERR,
         b"usage: snoop [--from SECONDS] IMAGE JOURNAL > FILE\n",
     );
     shell::status(shell::USAGE);
 }
 
 // The number in a word of the command.
-fn number_at(at: usize) -> Number {
+fn number_at(rt: &HostRuntime, at: usize) -> Number {
     let mut word = io::buffer();
-    let n = os::arg(at, &mut word);
+    let n = outside::word(rt, at, &mut word);
     decimals::read(&word[..n])
 }
 
@@ -51,11 +52,11 @@ fn bad() -> Asked {
 }
 
 // The first tick's time in the word behind an option.
-fn with_from(progress: bool, at: usize) -> Asked {
+fn with_from(rt: &HostRuntime, progress: bool, at: usize) -> Asked {
     if at > MOST {
         return bad();
     }
-    let read = number_at(at + 1);
+    let read = number_at(rt, at + 1);
     match read {
         Number::Is(n) => Asked {
             progress,
@@ -68,9 +69,9 @@ fn with_from(progress: bool, at: usize) -> Asked {
 }
 
 // The options from a place on.
-fn options_at(progress: bool, at: usize) -> Asked {
-    if shell::is(at, b"--from") {
-        return with_from(progress, at);
+fn options_at(rt: &HostRuntime, progress: bool, at: usize) -> Asked {
+    if shell::is(rt, at, b"--from") {
+        return with_from(rt, progress, at);
     }
     Asked {
         progress,
@@ -81,37 +82,39 @@ fn options_at(progress: bool, at: usize) -> Asked {
 }
 
 // The options before the names.
-fn options() -> Asked {
-    if shell::is(1, b"--progress") {
-        return options_at(true, 2);
+fn options(rt: &HostRuntime) -> Asked {
+    if shell::is(rt, 1, b"--progress") {
+        return options_at(rt, true, 2);
     }
-    options_at(false, 1)
+    options_at(rt, false, 1)
 }
 
-// The journal of a name on a restored image.
-fn follow(image: &[u8], name: &[u8], a: Asked) {
-    let restored = shell::restore(image);
-    if !restored.good {
-        return;
-    }
-    let fd = shell::open(name);
-    if fd < 0 {
-        return;
-    }
+// An open journal on a restored image.
+fn follow_file(rt: &HostRuntime, state: Whole, source: &Source, name: &[u8], a: Asked) {
     let head = captures::file_head();
-    if !io::write_all(STDOUT_FILENO, &head) {
-        os::fail(b"standard output");
+    if !outside::put(rt, &head) {
         shell::status(shell::FAILED);
         return;
     }
-    let state = restored.state;
     let mut block = state.block;
-    journal::write_all(&mut block, fd, name, a.from, a.progress);
+    journal::write_all(rt, &mut block, source, name, a.from, a.progress);
 }
 
-fn main() {
-    let a = options();
-    let names = shell::last_two(a.at);
+// The journal of a name on a restored image.
+fn follow(rt: &HostRuntime, image: &[u8], name: &[u8], a: Asked) {
+    let restored = shell::restore(rt, image);
+    if !restored.good {
+        return;
+    }
+    if let Some(source) = shell::open(rt, name) {
+        let state = restored.state;
+        follow_file(rt, state, &source, name, a);
+    }
+}
+
+fn main(rt: HostRuntime) {
+    let a = options(&rt);
+    let names = shell::last_two(&rt, a.at);
     if !(a.good & names.good) {
         usage();
         return;
@@ -120,5 +123,5 @@ fn main() {
     let n = names.n;
     let journal = names.journal;
     let k = names.k;
-    follow(&image[..n], &journal[..k], a);
+    follow(&rt, &image[..n], &journal[..k], a);
 }

@@ -1,8 +1,9 @@
 // The additions of a file: reads, `additions::feed`, and how they ended.
-use crate::turns::Ending;
+use crate::following::Ending;
 use additions::Course;
 use engine::Stop;
 use index::Whole;
+use outside::Source;
 use refusals::Refusal;
 use takeover::{Flow, Next};
 
@@ -16,14 +17,15 @@ pub struct Given {
 
 // One read, and its octets given.
 fn step(
+    rt: &HostRuntime,
     block: &mut [u8; Whole::SIZE],
     line: &mut [u8; additions::ROOM],
-    fd: i32,
+    source: &Source,
     name: &[u8],
     course: Course,
 ) -> Given {
     let mut text = io::buffer();
-    let got = crate::files::read_some(fd, name, &mut text, 0);
+    let got = crate::files::read_some(rt, source, name, &mut text, 0);
     let n = got.count;
     Given {
         course: additions::feed(block, line, course, &text[..n]),
@@ -44,7 +46,12 @@ fn goes_on(given: Given) -> bool {
 
 // Reads until the file ends or an addition is refused. Nothing says that an input ends, so the reads are counted down
 // from a number that no run uses up.
-fn give_from(block: &mut [u8; Whole::SIZE], fd: i32, name: &[u8]) -> Given {
+fn give_from(
+    rt: &HostRuntime,
+    block: &mut [u8; Whole::SIZE],
+    source: &Source,
+    name: &[u8],
+) -> Given {
     let mut line = [0u8; additions::ROOM];
     let mut given = Given {
         course: additions::begin(),
@@ -54,25 +61,27 @@ fn give_from(block: &mut [u8; Whole::SIZE], fd: i32, name: &[u8]) -> Given {
     let mut turns = u64::MAX;
     while turns > 0 && goes_on(given) {
         let course = given.course;
-        given = step(block, &mut line, fd, name, course);
+        given = step(rt, block, &mut line, source, name, course);
         turns -= 1;
     }
     given
 }
 
-// Gives the additions of a name to a block.
-pub(super) fn give_all(block: &mut [u8; Whole::SIZE], name: &[u8]) -> Given {
-    let fd = crate::files::open(name);
-    if fd < 0 {
-        return Given {
-            course: additions::begin(),
-            works: false,
-            more: false,
-        };
+// A file that cannot be opened.
+fn nothing() -> Given {
+    Given {
+        course: additions::begin(),
+        works: false,
+        more: false,
     }
-    let given = give_from(block, fd, name);
-    libc::close(fd);
-    given
+}
+
+// Gives the additions of a name to a block.
+pub(super) fn give_all(rt: &HostRuntime, block: &mut [u8; Whole::SIZE], name: &[u8]) -> Given {
+    match crate::files::open(rt, name) {
+        Some(source) => give_from(rt, block, &source, name),
+        None => nothing(),
+    }
 }
 
 // The end by a refused addition: no line of the journal was read.

@@ -1,7 +1,7 @@
-// Files and standard output, through the calls of the system.
+// Files and standard output.
 ghost use Rattle.std.specs.Prelude.{◌+◌, ◌≤◌, length};
 
-use libc::{STDIN_FILENO, STDOUT_FILENO};
+use outside::Source;
 
 // What was read: how many octets, and whether no read failed.
 #[derive(Clone, Copy)]
@@ -10,51 +10,48 @@ pub struct Got {
     pub works: bool,
 }
 
-// Writes to standard output, or says on standard error why it cannot.
-pub(super) fn put(text: &[u8]) -> bool {
-    let done = io::write_all(STDOUT_FILENO, text);
-    if !done {
-        os::fail(b"standard output");
-    }
-    done
-}
-
-// Writes the first n octets of a text.
-pub(super) fn put_first(text: &[u8], n: usize) -> bool {
+// Writes the first n octets of a text to standard output, or says on standard error why it cannot.
+pub(super) fn put_first(rt: &HostRuntime, text: &[u8], n: usize) -> bool {
     if text.len() < n {
         return false;
     }
-    put(&text[..n])
+    outside::put(rt, &text[..n])
 }
 
 // One read behind the octets that are held.
-pub(super) fn read_some(fd: i32, name: &[u8], text: &mut [u8], held: usize) -> Got
+pub(super) fn read_some(
+    rt: &HostRuntime,
+    source: &Source,
+    name: &[u8],
+    text: &mut [u8],
+    held: usize,
+) -> Got
     requires { held ≤ length text.old }
     ensures { held + result.count ≤ length text.old }
 {
-    let got = libc::read(fd, &mut text[held..]);
-    if got < 0 {
-        os::fail(name);
-        return Got {
-            count: 0,
-            works: false,
-        };
-    }
-    let n = io::count(got, &text[held..]);
-    Got {
-        count: n,
-        works: true,
+    match outside::read(rt, source, &mut text[held..]) {
+        Ok(n) => Got {
+            count: n,
+            works: true,
+        },
+        Err(e) => {
+            outside::fail(rt, name, e);
+            Got {
+                count: 0,
+                works: false,
+            }
+        }
     }
 }
 
 // Reads until the input ends or the text is full.
-pub(super) fn read_all(fd: i32, name: &[u8], text: &mut [u8]) -> Got
+pub(super) fn read_all(rt: &HostRuntime, source: &Source, name: &[u8], text: &mut [u8]) -> Got
     ensures { result.count ≤ length text.old }
 {
     let most = text.len();
     let mut held = 0;
     while held < most {
-        let got = read_some(fd, name, text, held);
+        let got = read_some(rt, source, name, text, held);
         if !got.works {
             return Got {
                 count: 0,
@@ -75,14 +72,10 @@ pub(super) fn read_all(fd: i32, name: &[u8], text: &mut [u8]) -> Got
     }
 }
 
-// Opens a file for reading only, standard input for `-`; below 0 where it cannot, and the reason is on standard error.
-pub(super) fn open(name: &[u8]) -> i32 {
+// Opens a file for reading only, standard input for `-`; none where it cannot, and the reason is on standard error.
+pub(super) fn open(rt: &HostRuntime, name: &[u8]) -> Option<Source> {
     if reports::is_dash(name) {
-        return STDIN_FILENO;
+        return Some(outside::standard_input());
     }
-    let fd = os::open_read(name);
-    if fd < 0 {
-        os::fail(name);
-    }
-    fd
+    outside::open(rt, name)
 }

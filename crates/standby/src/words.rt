@@ -1,9 +1,9 @@
 // Standard error.
-use libc::STDERR_FILENO;
+use outside::STDERR;
 use texts::Text;
 
 pub(super) fn say(text: &[u8]) {
-    io::write_all(STDERR_FILENO, text);
+    io::write_all(STDERR, text);
 }
 
 // Says a text.

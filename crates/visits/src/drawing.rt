@@ -1,5 +1,4 @@
 // What a picture's parts are written with.
-use libc::STDOUT_FILENO;
 use stays::Clock;
 use texts::{Text, words};
 
@@ -20,9 +19,10 @@ pub struct Scene {
     pub clock: Clock,
 }
 
-// Where the next lane is, and whether all was written.
+// What it is written by, where the next lane is, and whether all was written.
 #[derive(Clone, Copy)]
 pub struct Pen {
+    pub rt: HostRuntime,
     pub y: u64,
     pub good: bool,
 }
@@ -33,8 +33,9 @@ pub(super) fn put(pen: Pen, t: Text) -> Pen {
         return pen;
     }
     Pen {
+        rt: pen.rt,
         y: pen.y,
-        good: shell::put(STDOUT_FILENO, t),
+        good: shell::show(&pen.rt, t),
     }
 }
 
@@ -44,8 +45,9 @@ pub(super) fn say(pen: Pen, text: &[u8]) -> Pen {
         return pen;
     }
     Pen {
+        rt: pen.rt,
         y: pen.y,
-        good: io::write_all(STDOUT_FILENO, text),
+        good: outside::put(&pen.rt, text),
     }
 }
 

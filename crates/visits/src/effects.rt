@@ -17,9 +17,10 @@ pub struct Run {
     pub goes: bool,
 }
 
-// How the rows are written.
+// What the rows are written by, and how.
 #[derive(Clone, Copy)]
 pub struct Form {
+    pub rt: HostRuntime,
     pub style: u8,
     pub clock: Clock,
 }
@@ -40,7 +41,7 @@ fn closed(
     let mut goes = run.goes;
     if change.closed {
         let clock = form.clock;
-        goes = rows::show(form.style, clock, kept, rows, v, frame, tick, how);
+        goes = rows::show(&form.rt, form.style, clock, kept, rows, v, frame, tick, how);
         rows = std::num::wrapping_add_u64(rows, 1);
     }
     Run {

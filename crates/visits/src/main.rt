@@ -11,7 +11,8 @@ mod legend;
 mod picture;
 mod rows;
 
-use libc::STDERR_FILENO;
+use index::Whole;
+use outside::{STDERR, Source};
 use stays::Clock;
 
 // What the options ask: words on how far it is, how rows are written, the clock; whether they are good; the place of
@@ -30,16 +31,16 @@ const MOST: usize = 8;
 
 fn usage() {
     io::write_all(
-        STDERR_FILENO,
+        STDERR,
         b"usage: visits [--csv|--json|--svg] [--from TIME] IMAGE JOURNAL\n",
     );
     shell::status(shell::USAGE);
 }
 
 // The clock in a word of the command.
-fn clock_at(at: usize) -> Clock {
+fn clock_at(rt: &HostRuntime, at: usize) -> Clock {
     let mut word = io::buffer();
-    let n = os::arg(at, &mut word);
+    let n = outside::word(rt, at, &mut word);
     stays::clock_of(&word[..n])
 }
 
@@ -58,11 +59,11 @@ fn bad() -> Asked {
 }
 
 // The clock in the word behind an option.
-fn with_clock(progress: bool, style: u8, at: usize) -> Asked {
+fn with_clock(rt: &HostRuntime, progress: bool, style: u8, at: usize) -> Asked {
     if at > MOST {
         return bad();
     }
-    let clock = clock_at(at + 1);
+    let clock = clock_at(rt, at + 1);
     Asked {
         progress,
         style,
@@ -73,9 +74,9 @@ fn with_clock(progress: bool, style: u8, at: usize) -> Asked {
 }
 
 // The clock's option, where it stands at a place.
-fn clocked(progress: bool, style: u8, at: usize) -> Asked {
-    if shell::is(at, b"--from") {
-        return with_clock(progress, style, at);
+fn clocked(rt: &HostRuntime, progress: bool, style: u8, at: usize) -> Asked {
+    if shell::is(rt, at, b"--from") {
+        return with_clock(rt, progress, style, at);
     }
     Asked {
         progress,
@@ -90,49 +91,52 @@ fn clocked(progress: bool, style: u8, at: usize) -> Asked {
 }
 
 // How rows are written, and the options behind.
-fn styled(progress: bool, at: usize) -> Asked {
+fn styled(rt: &HostRuntime, progress: bool, at: usize) -> Asked {
     if at > MOST {
         return bad();
     }
-    if shell::is(at, b"--csv") {
-        return clocked(progress, stays::CSV, at + 1);
+    if shell::is(rt, at, b"--csv") {
+        return clocked(rt, progress, stays::CSV, at + 1);
     }
-    if shell::is(at, b"--json") {
-        return clocked(progress, stays::JSON, at + 1);
+    if shell::is(rt, at, b"--json") {
+        return clocked(rt, progress, stays::JSON, at + 1);
     }
-    if shell::is(at, b"--svg") {
-        return clocked(progress, rows::SVG, at + 1);
+    if shell::is(rt, at, b"--svg") {
+        return clocked(rt, progress, rows::SVG, at + 1);
     }
-    clocked(progress, stays::TABLE, at)
+    clocked(rt, progress, stays::TABLE, at)
 }
 
 // The options before the names.
-fn options() -> Asked {
-    if shell::is(1, b"--progress") {
-        return styled(true, 2);
+fn options(rt: &HostRuntime) -> Asked {
+    if shell::is(rt, 1, b"--progress") {
+        return styled(rt, true, 2);
     }
-    styled(false, 1)
+    styled(rt, false, 1)
+}
+
+// An open journal on a restored image.
+fn follow_file(rt: &HostRuntime, state: Whole, source: &Source, name: &[u8], a: Asked) {
+    let clock = a.clock;
+    let mut block = state.block;
+    journal::follow_all(rt, &mut block, source, name, a.style, clock, a.progress);
 }
 
 // The journal of a name on a restored image.
-fn follow(image: &[u8], name: &[u8], a: Asked) {
-    let restored = shell::restore(image);
+fn follow(rt: &HostRuntime, image: &[u8], name: &[u8], a: Asked) {
+    let restored = shell::restore(rt, image);
     if !restored.good {
         return;
     }
-    let fd = shell::open(name);
-    if fd < 0 {
-        return;
+    if let Some(source) = shell::open(rt, name) {
+        let state = restored.state;
+        follow_file(rt, state, &source, name, a);
     }
-    let state = restored.state;
-    let clock = a.clock;
-    let mut block = state.block;
-    journal::follow_all(&mut block, fd, name, a.style, clock, a.progress);
 }
 
-fn main() {
-    let a = options();
-    let names = shell::last_two(a.at);
+fn main(rt: HostRuntime) {
+    let a = options(&rt);
+    let names = shell::last_two(&rt, a.at);
     if !(a.good & names.good) {
         usage();
         return;
@@ -141,5 +145,5 @@ fn main() {
     let n = names.n;
     let journal = names.journal;
     let k = names.k;
-    follow(&image[..n], &journal[..k], a);
+    follow(&rt, &image[..n], &journal[..k], a);
 }

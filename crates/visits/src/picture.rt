@@ -62,6 +62,7 @@ fn lane(pen: Pen, scene: Scene, block: &[u8], device: u64, handle: u64) -> Pen {
         i += 1;
     }
     Pen {
+        rt: now.rt,
         y: drawing::sum(now.y, high),
         good: now.good,
     }
@@ -152,7 +153,7 @@ fn high(block: &[u8], n: usize) -> u64 {
 }
 
 // The picture of so many rows, those that are kept, up to a tick; whether it was written.
-pub(super) fn draw(block: &[u8], rows: u64, tick: u32, clock: Clock) -> bool {
+pub(super) fn draw(rt: &HostRuntime, block: &[u8], rows: u64, tick: u32, clock: Clock) -> bool {
     let kept = kept_of(rows);
     let scene = Scene {
         kept,
@@ -162,6 +163,7 @@ pub(super) fn draw(block: &[u8], rows: u64, tick: u32, clock: Clock) -> bool {
     };
     let bottom = drawing::sum(drawing::TOP, high(block, kept));
     let pen = Pen {
+        rt: *rt,
         y: bottom,
         good: true,
     };
@@ -169,6 +171,7 @@ pub(super) fn draw(block: &[u8], rows: u64, tick: u32, clock: Clock) -> bool {
     let b = legend::title(a, scene, firsts(block, kept, false, 1));
     let c = legend::foot(axis::axis(legend::ends(legend::monitors(b)), scene), scene);
     let lanes = Pen {
+        rt: *rt,
         y: drawing::TOP,
         good: c.good,
     };

@@ -1,46 +1,51 @@
 // Rows written to standard output, with what stands around them.
 use crate::effects::Form;
 use crate::picture;
-use libc::STDOUT_FILENO;
 use stays::{Clock, Row};
 use visit::Visit;
 
 // A picture, beside the ways to write a row.
 pub const SVG: u8 = 3;
 
-// Whether it was written; where it was not, why and the status are told.
+// Whether it was written; where it was not, the status is told.
 fn wrote(good: bool) -> bool {
     if !good {
-        os::fail(b"standard output");
         shell::status(shell::FAILED);
     }
     good
 }
 
-fn put(words: &[u8]) -> bool {
-    wrote(io::write_all(STDOUT_FILENO, words))
+fn put(rt: &HostRuntime, words: &[u8]) -> bool {
+    wrote(outside::put(rt, words))
 }
 
 // The table's first line.
-fn heads() -> bool {
-    if !put(b"DEVICE             TYPE    MONITOR  FROM FRAME  FROM           ") {
+fn heads(rt: &HostRuntime) -> bool {
+    if !put(
+        rt,
+        b"DEVICE             TYPE    MONITOR  FROM FRAME  FROM           ",
+    ) {
         return false;
     }
-    put(b"TO FRAME    TO             ENDED        PACKETS     MEAN RSSI\n")
+    put(
+        rt,
+        b"TO FRAME    TO             ENDED        PACKETS     MEAN RSSI\n",
+    )
 }
 
 // What stands before the rows.
-pub(super) fn open(style: u8) -> bool {
+pub(super) fn open(rt: &HostRuntime, style: u8) -> bool {
     if style == stays::TABLE {
-        return heads();
+        return heads(rt);
     }
     if style == stays::CSV {
         return put(
+            rt,
             b"device,type,monitor,start_frame,start,stop_frame,stop,ended,packets,mean_rssi\n",
         );
     }
     if style == stays::JSON {
-        return put(b"[");
+        return put(rt, b"[");
     }
     true
 }
@@ -48,30 +53,31 @@ pub(super) fn open(style: u8) -> bool {
 // What stands behind them: the picture, where one is drawn.
 pub(super) fn close(form: Form, kept: &[u8; bars::SIZE], count: u64, tick: u32) -> bool {
     if form.style == SVG {
-        return wrote(picture::draw(kept, count, tick, form.clock));
+        return wrote(picture::draw(&form.rt, kept, count, tick, form.clock));
     }
     if form.style != stays::JSON {
         return true;
     }
     if count == 0 {
-        return put(b"]\n");
+        return put(&form.rt, b"]\n");
     }
-    put(b"\n]\n")
+    put(&form.rt, b"\n]\n")
 }
 
 // What stands between two.
-fn between(style: u8, count: u64) -> bool {
+fn between(rt: &HostRuntime, style: u8, count: u64) -> bool {
     if style != stays::JSON {
         return true;
     }
     if count == 0 {
-        return put(b"\n");
+        return put(rt, b"\n");
     }
-    put(b",\n")
+    put(rt, b",\n")
 }
 
 // A visit's row, behind so many others: written, or kept for a picture.
 pub(super) fn show(
+    rt: &HostRuntime,
     style: u8,
     clock: Clock,
     kept: &mut [u8; bars::SIZE],
@@ -91,8 +97,8 @@ pub(super) fn show(
         bars::keep(kept, count, row);
         return true;
     }
-    if !between(style, count) {
+    if !between(rt, style, count) {
         return false;
     }
-    wrote(shell::put(STDOUT_FILENO, stays::written(style, clock, row)))
+    wrote(shell::show(rt, stays::written(style, clock, row)))
 }

@@ -6,27 +6,24 @@
 
 use engine::Loaded;
 use index::{Watch, Whole};
-use libc::{STDERR_FILENO, STDOUT_FILENO};
+use outside::{STDERR, STDOUT};
 use refusals::Refusal;
 
 // The exit status where no monitor watches the device.
 const NOBODY: u8 = 1;
 
 fn usage() {
-    io::write_all(
-        STDERR_FILENO,
-        b"usage: watchers IMAGE ADDRESS [public|random]\n",
-    );
+    io::write_all(STDERR, b"usage: watchers IMAGE ADDRESS [public|random]\n");
     shell::status(shell::USAGE);
 }
 
 // A refused image: the refusal's number, and the message behind the file's name.
 fn refuse(image: &[u8], x: Refusal) {
     let n = refusals::number_of(x);
-    io::print_decimal(STDOUT_FILENO, n as u64);
-    io::write_all(STDOUT_FILENO, b"\n");
-    io::write_all(STDERR_FILENO, image);
-    shell::put(STDERR_FILENO, reports::refused(x));
+    io::print_decimal(STDOUT, n as u64);
+    io::write_all(STDOUT, b"\n");
+    io::write_all(STDERR, image);
+    shell::put(STDERR, reports::refused(x));
     shell::status(shell::REFUSED);
 }
 
@@ -39,41 +36,44 @@ fn status_of(w: Watch) -> u8 {
 }
 
 // Asks the restored state.
-fn answer(state: Whole, kind: u8, address: [u8; 6]) {
+fn answer(rt: &HostRuntime, state: Whole, kind: u8, address: [u8; 6]) {
     let block = state.block;
     let w = index::ask(&block, kind, &address);
-    if !shell::put(STDOUT_FILENO, desk::sentence(w)) {
-        os::fail(b"standard output");
+    if !shell::show(rt, desk::sentence(w)) {
         shell::status(shell::FAILED);
         return;
     }
     shell::status(status_of(w));
 }
 
-// The image of an open file, restored and asked.
-fn ask(fd: i32, image: &[u8], kind: u8, address: [u8; 6]) {
-    let mut text = [0u8; reports::IMAGE_ROOM];
-    let n = io::read_full(fd, &mut text);
-    libc::close(fd);
+// The image that was read, restored and asked.
+fn ask(
+    rt: &HostRuntime,
+    image: &[u8],
+    text: [u8; reports::IMAGE_ROOM],
+    n: usize,
+    kind: u8,
+    address: [u8; 6],
+) {
     let restored = reports::load(text, n);
     let answered = restored.answer;
     let state = restored.state;
     match answered {
-        Loaded::Accepted => answer(state, kind, address),
+        Loaded::Accepted => answer(rt, state, kind, address),
         Loaded::Rejected(x) => refuse(image, x),
     }
 }
 
 // The image of a name, `-` for standard input.
-fn open(image: &[u8], kind: u8, address: [u8; 6]) {
-    let fd = shell::open(image);
-    if fd >= 0 {
-        ask(fd, image, kind, address);
+fn open(rt: &HostRuntime, image: &[u8], kind: u8, address: [u8; 6]) {
+    let mut text = [0u8; reports::IMAGE_ROOM];
+    if let Some(n) = shell::read(rt, image, &mut text) {
+        ask(rt, image, text, n, kind, address);
     }
 }
 
 // The image, the address and the type's number.
-fn with_all(image: &[u8], word: &[u8], kind: u8) {
+fn with_all(rt: &HostRuntime, image: &[u8], word: &[u8], kind: u8) {
     let read = desk::address_of(word);
     let octets = read.octets;
     if !read.good {
@@ -84,38 +84,40 @@ fn with_all(image: &[u8], word: &[u8], kind: u8) {
         usage();
         return;
     }
-    open(image, kind, octets);
+    open(rt, image, kind, octets);
+}
+
+// The address read.
+fn with_image(rt: &HostRuntime, image: &[u8], kind: u8) {
+    let mut word = io::buffer();
+    let k = outside::word(rt, 2, &mut word);
+    with_all(rt, image, &word[..k], kind);
 }
 
 // The image and the address read.
-fn with_type(kind: u8) {
+fn with_type(rt: &HostRuntime, kind: u8) {
     let mut image = io::buffer();
-    let n = os::arg(1, &mut image);
-    if os::errno() != 0 {
-        os::fail(b"the image's name");
-        shell::status(shell::FAILED);
-        return;
+    match outside::word_of(rt, 1, &mut image, b"the image's name") {
+        Some(n) => with_image(rt, &image[..n], kind),
+        None => shell::status(shell::FAILED),
     }
-    let mut word = io::buffer();
-    let k = os::arg(2, &mut word);
-    with_all(&image[..n], &word[..k], kind);
 }
 
 // The type read.
-fn named() {
+fn named(rt: &HostRuntime) {
     let mut word = io::buffer();
-    let n = os::arg(3, &mut word);
-    with_type(desk::type_of(&word[..n]));
+    let n = outside::word(rt, 3, &mut word);
+    with_type(rt, desk::type_of(&word[..n]));
 }
 
-fn main() {
-    let words = os::arg_count();
+fn main(rt: HostRuntime) {
+    let words = outside::word_count(&rt);
     if words == 3 {
-        with_type(0);
+        with_type(&rt, 0);
         return;
     }
     if words == 4 {
-        named();
+        named(&rt);
         return;
     }
     usage();
