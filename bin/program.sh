@@ -23,7 +23,7 @@ build() { # COMMAND CRATE
     rm -f "$program"
     # `rt run` proves, compiles and links the program and then runs it, here without words and on no input: what that run
     # ends with says nothing, so the program is looked for.
-    (cd "$root/crates/$2" && rt run </dev/null 2>&1 >/dev/null | grep '^rt: ' | grep -v '^rt: running ' >&2) || true
+    (cd "$root/crates/$2" && rt run </dev/null 2>&1 >/dev/null | grep -E '^rt: |: error: ' | grep -v '^rt: running ' >&2) || true
     if [ ! -x "$program" ]; then
         echo "$1: the program could not be built" >&2
         exit 3
