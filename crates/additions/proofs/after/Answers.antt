@@ -1,4 +1,4 @@
-use Rattle.engine.specs.declared.Stop.the-variants.{End}
+use Rattle.engine.specs.declared.Stop.TheVariants.{End}
 use mathlib.Core.Path.{sym, ap, ◌∙◌}
 use Rattle.additions.specs.Pieces.{course_after}
 use Rattle.additions.proofs.after.Goals as goal
