@@ -73,6 +73,7 @@ module _ (R : Radio) where
   -- A stop said at a tick is of a pair held that ends at it.
   pub stop-of : (l : Mons R) (ps : List (Pair R)) (x : Event R) → In x (stops_by l ps)
       → (q : Pair R) × In q ps × (at_tick R (find l q.0) q ≡ none) × (x ≡ stop_of q)
+  stop-of l [] x i = elim i [ ]
   stop-of l (q ∷ ps) x i =
       at (at_tick R (find l q.0) q) refl (in-append x (ended (at_tick R (find l q.0) q) q) (stops_by l ps) i)
       (λ j. let r = stop-of l ps x j in (r.0, inr r.1, r.2, r.3))
@@ -88,6 +89,7 @@ module _ (R : Radio) where
 
   pub of-stop : (l : Mons R) (ps : List (Pair R)) (q : Pair R) → In q ps → at_tick R (find l q.0) q ≡ none
       → In (stop_of q) (stops_by l ps)
+  of-stop l [] q x'' e = elim x'' [ ]
   of-stop l (r ∷ ps) q (inl w) e =
       in_left (stop_of q) (ended (at_tick R (find l r.0) r) r) (stops_by l ps) (rw (← w, e) (inl refl))
   of-stop l (r ∷ ps) q (inr i) e =
@@ -112,6 +114,7 @@ module _ (R : Radio) where
       go false w = refl
 
   first-first : (k : ℕ) (ps : List (Pair R)) (x : Pair R) → In x (first_of k ps) → First R k ps x
+  first-first k [] x i = elim i [ ]
   first-first k (q ∷ ps) x i = go (eqb q.3 k) refl i (λ j. first-first k ps x j)
     where
       go : (b : Bool) → eqb q.3 k ≡ b → In x (cond b (q ∷ []) (first_of k ps))
@@ -122,6 +125,7 @@ module _ (R : Radio) where
       go false t w ih = inr (t, ih w)
 
   first_found : (k : ℕ) (ps : List (Pair R)) (x : Pair R) → First R k ps x → In x (first_of k ps)
+  first_found k [] x x3 = elim x3 [ ]
   first_found k (q ∷ ps) x (inl w) = rw w.0 (inl w.1)
   first_found k (q ∷ ps) x (inr w) = rw w.0 (first_found k ps x w.1)
 

@@ -30,6 +30,7 @@ module _ {A : Type 0} where
 
   numbered-above : (i : ℕ) (l : List A) (x : ℕ × A) → In x (numbered i l) → i < x.0
   unfolding numbered
+  numbered-above i [] x x3 = elim x3 [ ]
   numbered-above i (a ∷ l) x (inl e) = let q : x.0 ≡ suc i = ap (λ (y : ℕ × A). y.0) e in omega arith
   numbered-above i (a ∷ l) x (inr h) = let q = numbered-above (suc i) l x h in omega (arith, q)
 

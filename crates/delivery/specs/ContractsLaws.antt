@@ -27,7 +27,7 @@ use Rattle.editions.specs.Editions.{is_image_on}
 pub begin-says : (κs : Lfts 2) (s s' : MutBor (List ℕ)) (p p' : Bor (List ℕ)) (o o' r : ℕ)
     → begin-reads.Learnt κs (s, (o, (p, tt))) r (s', (o', (p', tt)))
     → (r ≡ pick (sound_settings o p.now) 0 9) × (s'.now ≡ begin o p.now)
-begin-says κs s s' p p' o o' r e = (e.0, e.1.0)
+begin-says κs s s' p p' o o' r e = (e.0, e.1)
 
 -- a frame, as octets and as its line; a save
 pub submit-keeps : (κs : Lfts 4) (s o s' o' : MutBor (List ℕ)) (f f' : Bor (List ℕ)) (n n' : MutBor ℕ) (r : ℕ)
@@ -51,18 +51,18 @@ pub add-edition-keeps : (κs : Lfts 2) (s s' : MutBor (List ℕ)) (p p' : Bor (L
     → add-edition-reads.Learnt κs (s, (n, (p, tt))) r (s', (n', (p', tt)))
     → Kept s.now (added (record { edition = record { from = n; prefix = p.now }; fits = f; octets = o }) s'.now
     r)
-add-edition-keeps κs s s' p p' n n' r f o e = (e.0, e.1.0)
+add-edition-keeps κs s s' p p' n n' r f o e = (e.0, e.1)
 
 -- what a standby calls
 pub add-edition-says : (κs : Lfts 2) (s s' : MutBor (List ℕ)) (p p' : Bor (List ℕ)) (n n' r : ℕ)
     → add-edition-reads.Learnt κs (s, (n, (p, tt))) r (s', (n', (p', tt)))
     → Adds s.now (record { from = n; prefix = p.now }) s'.now r
-add-edition-says κs s s' p p' n n' r e = (e.0, e.1.0)
+add-edition-says κs s s' p p' n n' r e = (e.0, e.1)
 
 pub restore-says : (κs : Lfts 2) (s s' : MutBor (List ℕ)) (t t' : Bor (List ℕ)) (r : ℕ)
     → restore-reads.Learnt κs (s, (t, tt)) r (s', (t', tt))
     → (r ≡ pick (is_image_on t.now) 0 10) × (s'.now ≡ block_in (is_image_on t.now) t.now)
-restore-says κs s s' t t' r e = (e.0, e.1.0)
+restore-says κs s s' t t' r e = (e.0, e.1)
 
 pub replay-says : (κs : Lfts 5) (s o s' o' : MutBor (List ℕ)) (j j' : Bor (List ℕ)) (m n m' n' : MutBor ℕ) (r : ℕ)
     → replay-reads.Learnt κs (s, (j, (o, (m, (n, tt))))) r (s', (j', (o', (m', (n', tt)))))
