@@ -1,7 +1,7 @@
 -- Every refusal number that a call gives is one of document 01's (Refusal numbers), so that the case which a call
 -- answers has that very number. Assumes nothing.
 use Rattle.std.specs.Prelude.{ℕ, suc, ◌+◌, ◌-◌, ◌≡◌, refl, Bool, true, false, cond, List, [], ◌∷◌, eqb, length}
-use Rattle.std.proofs.Common.{sym, ap, ◌∙◌, eqb-true}
+use Rattle.std.proofs.Common.{◌∙◌, eqb-true}
 use Rattle.std.proofs.Math.Option.{Option, none, some}
 use Rattle.laws.specs.Tests.{pick}
 use Rattle.refusals.specs.Numbers.{number}
