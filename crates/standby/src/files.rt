@@ -10,12 +10,17 @@ pub struct Got {
     pub works: bool,
 }
 
-// Writes the first n octets of a text to standard output, or says on standard error why it cannot.
+// Writes to standard output, or says on standard error why it cannot.
+pub(super) fn put(rt: &HostRuntime, text: &[u8]) -> bool {
+    outside::put(rt, text)
+}
+
+// Writes the first n octets of a text.
 pub(super) fn put_first(rt: &HostRuntime, text: &[u8], n: usize) -> bool {
     if text.len() < n {
         return false;
     }
-    outside::put(rt, &text[..n])
+    put(rt, &text[..n])
 }
 
 // One read behind the octets that are held.

@@ -5,5 +5,5 @@ use Rattle.monthly.proofs.rows.put_text.Goals as goal
 pub slice_bounds-text-end : goal.slice_bounds-text-end
 slice_bounds-text-end c = again-low _ _ c.write-n.ensures
 
-pub slice_bounds-write_all-end : goal.slice_bounds-write_all-end
-slice_bounds-write_all-end c = sym (length-take-le _ _ (again-low _ _ c.write-n.ensures))
+pub slice_bounds-put-end : goal.slice_bounds-put-end
+slice_bounds-put-end c = sym (length-take-le _ _ (again-low _ _ c.write-n.ensures))
