@@ -18,7 +18,7 @@ use Rattle.steps.specs.FactsLaws.{up-to}
 use Rattle.blocks.specs.RowsLaws.{octets-cons}
 use Rattle.images.specs.TextsLaws.{cut-texts}
 use Rattle.editions.specs.Editions.{Edition, sound_edition, edition_row, edition_in}
-use Rattle.editions.specs.ImagesLaws.{editions-in}
+use Rattle.editions.proofs.ImagesLaws.{editions-in}
 use Rattle.wholes.specs.Engine.{add_whole}
 use Rattle.additions.specs.Additions.{is_addition, add_octets, add_line, next, Added, go_on, add_lines, add_text}
 

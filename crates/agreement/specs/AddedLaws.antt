@@ -17,16 +17,16 @@ use Rattle.model.specs.Block.{model_of}
 use Rattle.model.specs.Layout.{most_prefix}
 use Rattle.editions.specs.Editions.{Edition, Gateway, fresh_on, last_from, most_editions, sound_gateway}
 use Rattle.editions.specs.Engine.{Addition}
-use Rattle.editions.specs.FactsLaws.{Accepted, Parts, parts-of, with}
+use Rattle.editions.proofs.FactsLaws.{Accepted, Parts, parts-of, with}
 use Rattle.wholes.specs.Layout.{editions_at, whole_size}
 use Rattle.wholes.specs.Index.{index_block}
 use Rattle.wholes.specs.Whole.{held_whole, sound_whole, whole}
 use Rattle.wholes.specs.Engine.{begin, blank_on}
-use Rattle.wholes.specs.LaidLaws.{core-whole, held_whole_lem, sound-whole, state-index, whole-good, whole-held, whole_length}
+use Rattle.wholes.proofs.LaidLaws.{core-whole, held_whole_lem, sound-whole, state-index, whole-good, whole-held, whole_length}
 use Rattle.prefixes.specs.More.{with_one}
 use Rattle.prefixes.specs.MoreLaws.{pushed-laid}
 use Rattle.failover.specs.Grows.{with-sound}
-use Rattle.failover.specs.Proved.{fresh-gateway}
+use Rattle.failover.proofs.Proved.{fresh-gateway}
 use Rattle.twins.specs.Twin.{begin_twin, fresh_twin, most_kept, with_edition}
 use Rattle.twin.specs.Table.{table_size}
 use Rattle.twin.specs.Block.{frames_in, fresh_in, head_in, kept_at, kept_count, rows_run, sound_block, table_in, twin_of, twin_size}

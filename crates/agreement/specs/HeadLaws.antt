@@ -18,14 +18,14 @@ use Rattle.blocks.specs.FactsLaws.{sound-facts}
 use Rattle.blocks.specs.BlockLaws.{length-head, padded-length}
 use Rattle.blocks.specs.LaidLaws.{empty-padded}
 use Rattle.editions.specs.Editions.{Gateway, fresh_on, sound_gateway}
-use Rattle.editions.specs.FactsLaws.{Parts, parts-of}
+use Rattle.editions.proofs.FactsLaws.{Parts, parts-of}
 use Rattle.editions.specs.Block.{edition_block}
 use Rattle.wholes.specs.Layout.{editions_at, index_size}
 use Rattle.wholes.specs.Index.{index_block}
 use Rattle.wholes.specs.Whole.{laid_with, sound_whole, whole}
-use Rattle.wholes.specs.LaidLaws.{core-whole, sound-whole, state-index}
+use Rattle.wholes.proofs.LaidLaws.{core-whole, sound-whole, state-index}
 use Rattle.index.specs.BegunLaws.{none-index}
-use Rattle.failover.specs.Proved.{fresh-gateway}
+use Rattle.failover.proofs.Proved.{fresh-gateway}
 use Rattle.twin.specs.TableLaws.{drop-take-by}
 use Rattle.twin.specs.Block.{fresh_in}
 

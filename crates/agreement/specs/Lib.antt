@@ -3,5 +3,3 @@
 pub mod Claim
 pub mod HeadLaws
 pub mod AddedLaws
-pub mod CallsLaws
-pub mod Proved

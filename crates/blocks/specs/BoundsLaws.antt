@@ -9,11 +9,11 @@ use Rattle.laws.specs.LoopsLaws.{every-at}
 use Rattle.octets.specs.Little.{is_octet}
 use Rattle.rule.specs.Base.{All}
 use Rattle.rule.specs.Engine.{find}
-use Rattle.rule.specs.FindsLaws.{find-all}
+use Rattle.rule.proofs.FindsLaws.{find-all}
 use Rattle.model.specs.Types.{Model, Monitor, Pair}
 use Rattle.model.specs.Level.{sum_in_range}
 use Rattle.model.specs.Monitors.{run_of, sifts, windowed}
-use Rattle.model.specs.AcceptedLaws.{Accepted, accepted, accepts-run-most}
+use Rattle.model.proofs.AcceptedLaws.{Accepted, accepted, accepts-run-most}
 use Rattle.model.specs.Image.{head_row, monitor_row, pair_row, pair_in}
 use Rattle.model.specs.Sound.{sound_window, sound_latest, sound_empty, sound_pair}
 use Rattle.blocks.specs.RowsLaws.{head_row-octets, monitor_row-octets, pair_row-octets, pair_in-row}

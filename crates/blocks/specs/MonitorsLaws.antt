@@ -11,10 +11,10 @@ use Rattle.laws.specs.Rows.{row, rows}
 use Rattle.octets.specs.Little.{is_octet}
 use Rattle.rule.specs.Base.{All}
 use Rattle.rule.specs.Engine.{find, insert, remove}
-use Rattle.rule.specs.FindsLaws.{find-all, find-above, find-insert-same, find-insert-other, find-remove-same}
-use Rattle.rule.specs.FindsLaws.{find-remove-other, all_insert, all_remove}
+use Rattle.rule.proofs.FindsLaws.{find-all, find-above, find-insert-same, find-insert-other, find-remove-same}
+use Rattle.rule.proofs.FindsLaws.{find-remove-other, all_insert, all_remove}
 use Rattle.model.specs.Types.{Monitor}
-use Rattle.model.specs.AcceptedLaws.{Accepted, accepted}
+use Rattle.model.proofs.AcceptedLaws.{Accepted, accepted}
 use Rattle.model.specs.Monitors.{accepts, allowed, no_key, no_option, options, parameters, parameters_of, peer_type, sampled_sifting, two_devices}
 use Rattle.model.specs.Sound.{sound_extra}
 use Rattle.model.specs.Image.{monitor_row, extra_in, monitor_from, monitor_in}

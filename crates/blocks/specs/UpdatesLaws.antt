@@ -9,7 +9,7 @@ use Rattle.laws.specs.RowsLaws.{put_whole}
 use Rattle.octets.specs.Little.{little, octets_of}
 use Rattle.rule.specs.Base.{All}
 use Rattle.rule.specs.Engine.{find, insert, remove}
-use Rattle.rule.specs.FindsLaws.{all_insert, all_remove}
+use Rattle.rule.proofs.FindsLaws.{all_insert, all_remove}
 use Rattle.model.specs.Types.{Model, Monitor, Pair, with_lists, with_filter, moved}
 use Rattle.model.specs.Image.{head_row}
 use Rattle.model.specs.Block.{pad_to, monitor_block, pair_block, padded, advanced}

@@ -5,7 +5,7 @@
 use Rattle.std.specs.Prelude.{ℕ, List, [], ◌∷◌, map}
 use Rattle.sessions.specs.Machine.{Line}
 use Rattle.model.specs.Frames.{Body}
-use Rattle.model.specs.Radio.{radio, core}
+use Rattle.model.proofs.Radio.{radio, core}
 use Rattle.editions.specs.Editions.{Edition, prefix_for, fresh_on}
 use Rattle.editions.specs.Engine.{gateways, Addition}
 use Rattle.failover.specs.Grows.{growing}

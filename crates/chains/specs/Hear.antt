@@ -4,7 +4,7 @@
 use Rattle.std.specs.Prelude.{ℕ, zero, suc, ◌+◌, Bool, ◌&&◌, List, [], ◌∷◌, ◌++◌, leb, eqb, length, take, drop, get_or}
 use Rattle.laws.specs.Tests.{sames}
 use Rattle.laws.specs.Loops.{when}
-use Rattle.model.specs.Radio.{radio}
+use Rattle.model.proofs.Radio.{radio}
 use Rattle.chains.specs.Told.{Event}
 
 -- The parameters of an HCI event are those of a start or a stop: code 0xFF, the length, the prefix, 0x02, and last 1

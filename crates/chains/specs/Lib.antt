@@ -6,12 +6,4 @@ pub mod Chain
 pub mod Told
 pub mod Hear
 pub mod Failovers
-pub mod NumbersLaws
-pub mod WholeLaws
 pub mod CoreLaws
-pub mod AnswersLaws
-pub mod Turns
-pub mod HearsLaws
-pub mod ReadsLaws
-pub mod Proof
-pub mod RowsLaws

@@ -11,11 +11,11 @@ use Rattle.lines.specs.Frame.{is_frame, is_line}
 use Rattle.lines.specs.FrameLaws.{is-line-exactly}
 use Rattle.lines.specs.TextsLaws as texts
 use Rattle.advert.specs.Cost.{match_cost}
-use Rattle.advert.specs.CostMostLaws as cost
+use Rattle.advert.proofs.CostMostLaws as cost
 use Rattle.totals.specs.declared.Row.{Row}
 use Rattle.totals.specs.Table.{empty, row_fits, row_sum}
 use Rattle.totals.specs.Join as join
-use Rattle.totals.specs.JoinLaws as join-laws
+use Rattle.totals.proofs.JoinLaws as join-laws
 use Rattle.totals.specs.Join.{join_of}
 use Rattle.sessions.specs.Session.{image}
 use Rattle.sessions.specs.Saved.{replay_lines}
@@ -27,8 +27,8 @@ use Rattle.model.specs.Edges.{edges}
 use Rattle.model.specs.InFull.{told_right}
 use Rattle.editions.specs.Editions.{Gateway, sound_gateway, fresh_on, image_on, read_on}
 use Rattle.editions.specs.Engine.{gateways}
-use Rattle.editions.specs.ImagesLaws as images
-use Rattle.editions.specs.ExactlyLaws as exact
+use Rattle.editions.proofs.ImagesLaws as images
+use Rattle.editions.proofs.ExactlyLaws as exact
 use Rattle.editions.specs.InFull.{in_full_on}
 use Rattle.editions.specs.Rows.{addition_rows}
 use Rattle.wholes.specs.Whole.{sound_whole}
@@ -36,7 +36,7 @@ use Rattle.wholes.specs.Engine.{engine, begin}
 use Rattle.bournejade.specs.Gives.{Gave}
 use Rattle.failover.specs.Claim.{Demand3}
 use Rattle.failover.specs.Grows.{growing}
-use Rattle.failover.specs.Proved as proved
+use Rattle.failover.proofs.Proved as proved
 use Rattle.edges.specs.Edges.{example_with_edition}
 use Rattle.edges.specs.EdgesLaws.{engine-edges}
 use Rattle.edges.specs.InFullLaws.{engine-in-full}
@@ -44,12 +44,12 @@ use Rattle.edges.specs.Additions.{holds_in}
 use Rattle.edges.specs.AdditionsLaws.{engine-additions}
 use Rattle.delivery.specs.Added.{growing_blocks, DeliveredOn, delivered-on}
 use Rattle.delivery.specs.Firmware.{Step, Seen, heard_in, accepted_in, TakenOver}
-use Rattle.delivery.specs.LinkedLaws as linked
+use Rattle.delivery.proofs.LinkedLaws as linked
 use Rattle.chains.specs.Chain as chain
 use Rattle.chains.specs.Failovers.{Failovers}
-use Rattle.chains.specs.Proof as chained
+use Rattle.chains.proofs.ProofLaws as chained
 use Rattle.testdays.specs.Days as days
-use Rattle.testdays.specs.Proof as tested
+use Rattle.testdays.proofs.ProofLaws as tested
 use Rattle.months.specs.Counting.{no_rows}
 use Rattle.month.specs.Outcomes.{at}
 use Rattle.cuts.specs.Cut.{CutLaw}
@@ -60,7 +60,7 @@ use Rattle.twins.specs.Claim.{tells}
 use Rattle.twins.specs.First.{began_on, whole_by}
 use Rattle.twin.specs.Calls.{begin_block}
 use Rattle.agreement.specs.Claim.{block_by}
-use Rattle.agreement.specs.Proved as agreement
+use Rattle.agreement.proofs.Proved as agreement
 
 -- DEMAND 2. Lines read back to what was written: the lines of frames are exactly the texts of frames, and of each
 -- octets there is one text.

@@ -12,10 +12,10 @@ use Rattle.laws.specs.Tests.{pick}
 use Rattle.laws.specs.TestsLaws.{pick_true, pick-false, cases-le}
 use Rattle.laws.specs.RowsLaws.{get_d-row}
 use Rattle.rule.specs.Engine.{find, first_or, slot, insert, insert_at}
-use Rattle.rule.specs.FindsLaws.{slot-some}
+use Rattle.rule.proofs.FindsLaws.{slot-some}
 use Rattle.model.specs.Types.{Model, Monitor, with_lists}
 use Rattle.model.specs.Image.{monitor_row}
-use Rattle.model.specs.AcceptedLaws.{Accepted, accepted}
+use Rattle.model.proofs.AcceptedLaws.{Accepted, accepted}
 use Rattle.model.specs.Commands.{present, handle_or, new_handle, added}
 use Rattle.model.specs.Block.{pad_to, monitor_place, padded}
 use Rattle.blocks.specs.Facts.{SoundModel}

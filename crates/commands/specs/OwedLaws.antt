@@ -11,7 +11,7 @@ use borrow.Author.Tests.{eqb-true, eq-eqb, ltb-true, ltb-false}
 use Rattle.laws.specs.Tests.{pick}
 use Rattle.laws.specs.TestsLaws.{both}
 use Rattle.model.specs.Monitors.{fault_of, monitor_of, type_in, accepts, invalid, full, unknown}
-use Rattle.model.specs.AcceptedLaws.{Accepted, accepted, pick-none}
+use Rattle.model.proofs.AcceptedLaws.{Accepted, accepted, pick-none}
 use Rattle.model.specs.Commands.{table, params_in, sub_of}
 use Rattle.statuses.specs.Statuses.{adds_by, type_by, add_of, cancel_of}
 use Rattle.statuses.specs.SecondLaws.{type-said, type-least, type-five, type-last}

@@ -17,7 +17,7 @@ use Rattle.model.specs.Monitors.{matches}
 use Rattle.model.specs.Watch.{is_pair, holds, packet_move, start_of, start_pair, start_like, starts_below, starts_of, start_told, begins, turns, with_since_good, with_kept, with_latest, gathered}
 use Rattle.model.specs.Layout.{most_monitors}
 use Rattle.marks.specs.Marks.{opens, allowed, keeps, mark, mark_of}
-use Rattle.marks.specs.MarksLaws.{mark-opens, mark-keeps}
+use Rattle.marks.proofs.MarksLaws.{mark-opens, mark-keeps}
 use Rattle.packets.specs.Changes.{starts, freshened, collected, strengthened, counted, recalled, changed}
 use Rattle.packets.specs.ChangesLaws.{some-append, or-none, move-changed, start-told}
 use Rattle.months.specs.Counts.{of_handle, causes}

@@ -18,9 +18,9 @@ use Rattle.model.specs.Watch.{is_pair, holds, is_reason}
 use Rattle.model.specs.Layout.{count_at, most_monitors, most_pairs, pair_size, pairs_at}
 use Rattle.blocks.specs.FactsLaws.{sound-facts}
 use Rattle.blocks.specs.Bounds.{Fits}
-use Rattle.marks.specs.FieldsLaws.{Clamped}
+use Rattle.marks.proofs.FieldsLaws.{Clamped}
 use Rattle.marks.specs.Marks.{mark, marks, marks_at}
-use Rattle.marks.specs.MarksLaws.{marks-padded, get_d-marks}
+use Rattle.marks.proofs.MarksLaws.{marks-padded, get_d-marks}
 use Rattle.packets.specs.Changes.{reason_by}
 use Rattle.packets.specs.ChangesLaws.{wants-reason}
 use Rattle.packets.specs.Keys.{device_number}

@@ -17,10 +17,10 @@ use Rattle.rule.specs.BaseLaws.{all_append}
 use Rattle.rule.specs.Engine.{find}
 use Rattle.model.specs.Types.{Monitor, Packet, Pair, device_of}
 use Rattle.model.specs.Level.{level, d_bm}
-use Rattle.model.specs.LevelsLaws.{below-levels}
+use Rattle.model.proofs.LevelsLaws.{below-levels}
 use Rattle.model.specs.Watch.{is_pair, holds, smaller, least, keeps, without, has_room, fits, stays_for, turns, start_like}
 use Rattle.model.specs.Layout.{most_pairs}
-use Rattle.steps.specs.DropsLaws.{keeps-level, without_all}
+use Rattle.steps.proofs.DropsLaws.{keeps-level, without_all}
 use Rattle.marks.specs.Marks.{opens, mark}
 use Rattle.packets.specs.Changes.{starts, started, after}
 use Rattle.packets.specs.ChangesLaws.{some-append, or-none, turn-after}

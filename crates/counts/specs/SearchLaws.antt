@@ -19,7 +19,7 @@ use Rattle.model.specs.Layout.{most_monitors, pair_size, pairs_at, rssi_at}
 use Rattle.blocks.specs.Bounds.{Fits}
 use Rattle.packets.specs.Changes.{reason_by}
 use Rattle.marks.specs.Marks.{matched, keeps, mark, marks}
-use Rattle.marks.specs.MarksLaws.{get_d-marks}
+use Rattle.marks.proofs.MarksLaws.{get_d-marks}
 use Rattle.packets.specs.Keys.{device_number}
 use Rattle.packets.specs.KeysLaws.{same_true, same_false, key-pairs}
 use Rattle.packets.specs.Writes.{no_pair}

@@ -35,7 +35,7 @@ use Rattle.ticks.specs.Row.{closes_at, windowed_by}
 use Rattle.ticks.specs.Pairs.{filtering_in}
 use Rattle.ticks.specs.PairsLaws.{interval_of, sampling_of}
 use Rattle.model.specs.Sound.{sound_model}
-use Rattle.marks.specs.FieldsLaws.{Clamped}
+use Rattle.marks.proofs.FieldsLaws.{Clamped}
 use Rattle.packets.specs.KeysLaws.{little-pairs}
 use Rattle.ticks.specs.BlockLaws.{interval-is, sampling-is, filtering-is}
 use Rattle.packets.specs.AlikeLaws.{field_is, event-is}

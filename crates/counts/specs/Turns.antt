@@ -26,7 +26,7 @@ use Rattle.model.specs.Frames.{packet, packet_of, scan_of}
 use Rattle.model.specs.Watch.{holds, packet_move, is_reason}
 use Rattle.model.specs.Layout.{most_monitors, most_pairs}
 use Rattle.marks.specs.Marks.{matched, opens, tells, allowed, keeps, mark, marks}
-use Rattle.marks.specs.MarksLaws.{get_d-marks, mark-keeps}
+use Rattle.marks.proofs.MarksLaws.{get_d-marks, mark-keeps}
 use Rattle.packets.specs.Changes.{reason_by}
 use Rattle.packets.specs.ChangesLaws.{wants-reason}
 use Rattle.counts.specs.Given.{Given}

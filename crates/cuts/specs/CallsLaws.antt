@@ -17,15 +17,15 @@ use Rattle.steps.specs.ExecutedLaws.{position-suc}
 use Rattle.editions.specs.Editions.{Gateway, with_prefix, prefix_for, sound_gateway, act_on}
 use Rattle.editions.specs.Engine.{gateways}
 use Rattle.wholes.specs.Whole.{whole, held_whole, sound_whole}
-use Rattle.wholes.specs.LaidLaws.{core-whole, core-good, sound-whole, whole-good, whole-held}
+use Rattle.wholes.proofs.LaidLaws.{core-whole, core-good, sound-whole, whole-good, whole-held}
 use Rattle.wholes.specs.Engine.{engine}
-use Rattle.failover.specs.LaidLaws.{onto}
+use Rattle.failover.proofs.LaidLaws.{onto}
 use Rattle.failover.specs.Grows.{Besides, besides}
-use Rattle.failover.specs.BlocksLaws.{answer-blocks, given-sound}
+use Rattle.failover.proofs.BlocksLaws.{answer-blocks, given-sound}
 use Rattle.months.specs.Month.{adds_of}
 use Rattle.months.specs.Counted.{lent_with}
 use Rattle.months.specs.Counting.{no_rows}
-use Rattle.months.specs.Claims.{Acts, answer-acts}
+use Rattle.months.proofs.Claims.{Acts, answer-acts}
 use Rattle.month.specs.Outcomes.{outcome, adds_in, at}
 use Rattle.cuts.specs.JournalLaws.{Goes}
 use Rattle.cuts.specs.Cut.{CutLaw}

@@ -11,7 +11,7 @@ use Rattle.totals.specs.declared.Row.{Row}
 use Rattle.totals.specs.Two.{every_two, map_two}
 use Rattle.totals.specs.Table.{table_rows, row_fits, row_sum}
 use Rattle.totals.specs.Join.{join_of}
-use Rattle.totals.specs.JoinLaws.{join-fits}
+use Rattle.totals.proofs.JoinLaws.{join-fits}
 use Rattle.sessions.specs.Machine.{Machine, text, Outcome, refused, done}
 use Rattle.sessions.specs.Session.{Entry, entries, answer}
 use Rattle.sessions.specs.Saved.{Replayed, resume, with_answer, replay_lines}
@@ -20,10 +20,10 @@ use Rattle.model.specs.Frames.{Body}
 use Rattle.blocks.specs.FactsLaws.{sound-facts}
 use Rattle.failover.specs.Demand3.{replay_adds as adds_entries, ran_in}
 use Rattle.months.specs.Month.{month}
-use Rattle.months.specs.MonthLaws.{length-month, month-cut}
+use Rattle.months.proofs.MonthLaws.{length-month, month-cut}
 use Rattle.months.specs.Counted.{Tallied}
 use Rattle.months.specs.Counting.{no_rows}
-use Rattle.months.specs.Claims.{empty-tables}
+use Rattle.months.proofs.Claims.{empty-tables}
 use Rattle.cuts.specs.BoundsLaws.{AllIn, none_in, fits_in_lem}
 use Rattle.cuts.specs.JournalLaws.{Goes, with, frames_in, counts_all, reaches}
 use Rattle.cuts.specs.Cut.{later, CutLaw, counts_lines}

@@ -5,7 +5,7 @@ use Rattle.std.proofs.Common.{sym, ◌∙◌}
 use Rattle.totals.specs.declared.Row.{Row}
 use Rattle.totals.specs.Table.{empty, row_fits, row_sum}
 use Rattle.totals.specs.Join.{join_of}
-use Rattle.totals.specs.JoinLaws.{join-fits, join-comm, sum-empty}
+use Rattle.totals.proofs.JoinLaws.{join-fits, join-comm, sum-empty}
 
 -- the empty row changes nothing, on either side: the only sum along the way is the row itself
 pub join-empty : (a : Row) → row_fits a empty ≡ true → join_of a empty ≡ a

@@ -19,14 +19,14 @@ use Rattle.model.specs.Types.{Model}
 use Rattle.model.specs.Frames.{Body}
 use Rattle.model.specs.Sound.{sound_model}
 use Rattle.failover.specs.Demand3.{replay_adds as adds_entries, ran_in}
-use Rattle.failover.specs.Proof.{AsCalls, as-calls}
+use Rattle.failover.proofs.ProofLaws.{AsCalls, as-calls}
 use Rattle.months.specs.Month.{next, adds_of, month, after_all}
-use Rattle.months.specs.MonthLaws.{month-more}
+use Rattle.months.proofs.MonthLaws.{month-more}
 use Rattle.months.specs.TablesLaws.{tables-assoc}
 use Rattle.months.specs.Counted.{Tallied, tally}
-use Rattle.months.specs.CountedLaws.{answer-same, adds_read}
+use Rattle.months.proofs.CountedLaws.{answer-same, adds_read}
 use Rattle.months.specs.Counting.{counting, at}
-use Rattle.months.specs.Claims.{bodies, rows-after, month-empty, length-counted, act-next, Acts, answer-acts}
+use Rattle.months.proofs.Claims.{bodies, rows-after, month-empty, length-counted, act-next, Acts, answer-acts}
 use Rattle.cuts.specs.BoundsLaws.{AllIn, sums-in, adds-in, next_fits}
 
 -- What is asked of an engine and of document 01's state in its states: it is sound where they are, and an executed

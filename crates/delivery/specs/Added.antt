@@ -7,27 +7,27 @@ use Rattle.std.proofs.Math.Path.{refl, ap}
 use Rattle.std.proofs.Common.{sym, ◌∙◌, subst, arith}
 use Rattle.sessions.specs.Machine.{Line, Outcome, refused, done, Executes, last_number}
 use Rattle.sessions.specs.Session.{Entry, refuse_if, state_after, after}
-use Rattle.sessions.specs.RunsLaws.{run_sound}
+use Rattle.sessions.proofs.RunsLaws.{run_sound}
 use Rattle.sessions.specs.Additions.{Growing, Act, call, adds, reply_to, after_act, walk_on, ran_by, trace_on, accepted_one, added_by, added_on, SavedAmong, TakenOver}
-use Rattle.sessions.specs.GivenLaws.{fronted, taken-over}
+use Rattle.sessions.proofs.GivenLaws.{fronted, taken-over}
 use Rattle.rule.specs.Radio.{Frame}
 use Rattle.rule.specs.Claim.{ByHistory}
 use Rattle.model.specs.Types.{Model, fresh}
 use Rattle.model.specs.Frames.{Body}
 use Rattle.model.specs.Sound.{sound_settings}
 use Rattle.model.specs.Block.{model_of}
-use Rattle.model.specs.Radio.{radio, core}
+use Rattle.model.proofs.Radio.{radio, core}
 use Rattle.editions.specs.Editions.{Edition, Gateway, sound_gateway, act_on, add_edition, image_on, fresh_on}
 use Rattle.editions.specs.Engine.{gateways, Addition}
 use Rattle.wholes.specs.Whole.{held_whole, whole, sound_whole}
-use Rattle.wholes.specs.LaidLaws.{held_whole_lem, core-whole, sound-whole, whole-good, whole-held}
+use Rattle.wholes.proofs.LaidLaws.{held_whole_lem, core-whole, sound-whole, whole-good, whole-held}
 use Rattle.wholes.specs.Engine.{engine, act_whole, add_whole, on_wholes, begin}
 use Rattle.failover.specs.Grows.{went, growing}
 use Rattle.failover.specs.Demand3.{pairs_in}
 use Rattle.failover.specs.Claim.{past_on}
-use Rattle.failover.specs.Proved.{demand3, fresh-gateway, grown-sound, laws as record_laws}
-use Rattle.failover.specs.LaidLaws.{onto}
-use Rattle.failover.specs.BlocksLaws.{begin-blocks, call-blocks, ran-blocks, add-blocks, after-blocks, encode-blocks}
+use Rattle.failover.proofs.Proved.{demand3, fresh-gateway, grown-sound, laws as record_laws}
+use Rattle.failover.proofs.LaidLaws.{onto}
+use Rattle.failover.proofs.BlocksLaws.{begin-blocks, call-blocks, ran-blocks, add-blocks, after-blocks, encode-blocks}
 use Rattle.turns.specs.BlocksLaws.{laws, Left, left}
 
 -- an addition that a block accepted is one that its state accepted

@@ -17,7 +17,7 @@ use Rattle.sessions.specs.Saved.{cut}
 use Rattle.model.specs.Frames.{Body, read}
 use Rattle.model.specs.Block.{model_of}
 use Rattle.wholes.specs.Engine.{engine, add_whole, block_in}
-use Rattle.model.specs.Radio.{radio, core}
+use Rattle.model.proofs.Radio.{radio, core}
 use Rattle.replays.specs.Into.{replay_while, replay_into}
 use Rattle.bournejade.specs.Gives.{number_of, Gave, ReplayGave}
 use Rattle.failover.specs.Demand3.{pairs_in}

@@ -5,12 +5,3 @@ pub mod Given
 pub mod GivenLaws
 pub mod Added
 pub mod Firmware
-pub mod TimelyLaws
-pub mod ShownLaws
-pub mod ThroughLaws
-pub mod SeenLaws
-pub mod RecordsLaws
-pub mod LinkedLaws
-pub mod PlainlyLaws
-pub mod DeliveryLaws
-pub mod ContractsLaws

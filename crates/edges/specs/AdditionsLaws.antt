@@ -14,15 +14,15 @@ use Rattle.model.specs.Sound.{sound_settings, octets_up_to}
 use Rattle.editions.specs.Editions.{Edition, Gateway, sound_gateway, add_edition, image_on}
 use Rattle.editions.specs.Engine.{Addition}
 use Rattle.editions.specs.Rows.{Given, frame, add, Example, asks, additions, t12numbers, t12frames, t12between, t12limits, addition_rows}
-use Rattle.editions.specs.RowsLaws.{outcome, answered_by, reached_by, begun, holds, rows-hold}
+use Rattle.editions.proofs.RowsLaws.{outcome, answered_by, reached_by, begun, holds, rows-hold}
 use Rattle.wholes.specs.Whole.{whole, sound_whole}
-use Rattle.wholes.specs.LaidLaws.{sound-whole}
-use Rattle.wholes.specs.RestoresLaws.{engine-restores}
+use Rattle.wholes.proofs.LaidLaws.{sound-whole}
+use Rattle.wholes.proofs.RestoresLaws.{engine-restores}
 use Rattle.wholes.specs.Engine.{engine}
-use Rattle.failover.specs.LaidLaws.{onto}
+use Rattle.failover.proofs.LaidLaws.{onto}
 use Rattle.failover.specs.Grows.{growing}
-use Rattle.failover.specs.Proved.{fresh-gateway}
-use Rattle.failover.specs.BlocksLaws.{answer-blocks, given-sound, add-blocks, after-blocks, encode-blocks, begin-blocks}
+use Rattle.failover.proofs.Proved.{fresh-gateway}
+use Rattle.failover.proofs.BlocksLaws.{answer-blocks, given-sound, add-blocks, after-blocks, encode-blocks, begin-blocks}
 use Rattle.edges.specs.Additions.{outcome_in, answered_in, reached_in, rows_begin, holds_in}
 
 -- the block that is restored from a block's image, and the replies of a row from there on, saved and restored after

@@ -8,7 +8,7 @@ use Rattle.lines.specs.Hex.{text_of}
 use Rattle.lines.specs.TextsLaws.{length-text}
 use Rattle.sessions.specs.Machine.{Outcome, refused, done, octets, answer_room}
 use Rattle.sessions.specs.Session.{Call, give, answer, state_after, walk, after, reply}
-use Rattle.sessions.specs.HistoryLaws.{walk-induction}
+use Rattle.sessions.proofs.HistoryLaws.{walk-induction}
 use Rattle.model.specs.Types.{Model, fresh}
 use Rattle.model.specs.Sound.{sound_model, sound_settings, octets_up_to}
 use Rattle.model.specs.Image.{head_row, records, image_text}
@@ -17,21 +17,21 @@ use Rattle.model.specs.Rows.{Example, Reply, reply_of, same, imaged, answered, r
 use Rattle.model.specs.Requests.{equal_added, equal_start, equal_low, equal_good, t06sizes, t06events, t06texts, t06straddle, t06off, t06window, t06start, t03sizes, t05full, t05two, t05first, t05kept, requests}
 use Rattle.model.specs.Second.{t13options, t13keys, t13types, t13sampling, t13order, t13peer, t13others, t13unheard, t13directed, t13window, t13twice, t13off, t13none, t13kept, seconds}
 use Rattle.model.specs.Edges.{p2good, p2low, p3, p4sixty, p4image, p4minus, p4plus, p5, p6, p7, p8, read_prefix, forms, p9, p10, edges}
-use Rattle.model.specs.EdgesLaws.{edges-hold}
+use Rattle.model.proofs.EdgesLaws.{edges-hold}
 use Rattle.model.specs.InFull.{told_right, in_full}
 use Rattle.model.specs.Rows.{all_right}
-use Rattle.steps.specs.KeepsLaws.{fresh-sound}
+use Rattle.steps.proofs.KeepsLaws.{fresh-sound}
 use Rattle.steps.specs.ExecutedLaws.{prefix-stays}
 use Rattle.blocks.specs.RowsLaws.{length-head_row}
 use Rattle.editions.specs.Editions.{sound_gateway, image_on}
 use Rattle.wholes.specs.Whole.{whole}
 use Rattle.wholes.specs.Engine.{engine, begin}
-use Rattle.failover.specs.LaidLaws.{onto}
-use Rattle.failover.specs.Proof.{laws}
+use Rattle.failover.proofs.LaidLaws.{onto}
+use Rattle.failover.proofs.ProofLaws.{laws}
 use Rattle.failover.specs.Alone.{line_only}
 use Rattle.failover.specs.Alone.{alone}
-use Rattle.failover.specs.AloneLaws.{alone-fresh, alone-sound, alone-answer, alone-after, alone-left, alone-image}
-use Rattle.failover.specs.BlocksLaws.{answer-blocks, given-blocks, encode-blocks, begin-blocks}
+use Rattle.failover.proofs.AloneLaws.{alone-fresh, alone-sound, alone-answer, alone-after, alone-left, alone-image}
+use Rattle.failover.proofs.BlocksLaws.{answer-blocks, given-blocks, encode-blocks, begin-blocks}
 use Rattle.edges.specs.Edges.{lined, example_with_edition}
 
 -- the same replies

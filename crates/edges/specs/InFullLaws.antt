@@ -14,17 +14,17 @@ use Rattle.model.specs.Types.{fresh}
 use Rattle.model.specs.Sound.{sound_settings, octets_up_to}
 use Rattle.model.specs.Quoted.{codes}
 use Rattle.model.specs.InFull.{FullExample, opcode_in_full, prefix_in_full, ticks_text, answer_lines, ran_through, saves, pictured, replayed, told_right}
-use Rattle.steps.specs.KeepsLaws.{fresh-sound}
+use Rattle.steps.proofs.KeepsLaws.{fresh-sound}
 use Rattle.editions.specs.Editions.{Gateway, sound_gateway, fresh_on, image_on, held_on, is_image_on, read_on}
 use Rattle.editions.specs.Engine.{gateways}
 use Rattle.editions.specs.InFull.{in_full_on}
-use Rattle.editions.specs.InFullLaws.{in-full-on}
+use Rattle.editions.proofs.InFullLaws.{in-full-on}
 use Rattle.wholes.specs.Whole.{whole}
 use Rattle.wholes.specs.Engine.{engine, begin, whole_of, decode}
-use Rattle.failover.specs.LaidLaws.{on_replayed, replay-sound}
-use Rattle.failover.specs.Proved.{laws}
-use Rattle.failover.specs.AloneLaws.{alone-fresh, alone-sound}
-use Rattle.failover.specs.BlocksLaws.{replay-blocks, encode-blocks, begin-blocks}
+use Rattle.failover.proofs.LaidLaws.{on_replayed, replay-sound}
+use Rattle.failover.proofs.Proved.{laws}
+use Rattle.failover.proofs.AloneLaws.{alone-fresh, alone-sound}
+use Rattle.failover.proofs.BlocksLaws.{replay-blocks, encode-blocks, begin-blocks}
 
 in-range : sound_settings opcode_in_full prefix_in_full ≡ true
 unfolding sound_settings octets_up_to every

@@ -2,15 +2,9 @@
 -- over records, `Block` their octets behind the index of a block; the rest are laws and rows. Demand 3 with additions
 -- is in the crate failover.
 pub mod Editions
-pub mod FactsLaws
 pub mod Engine
-pub mod ImagesLaws
-pub mod ExactlyLaws
 pub mod Rows
-pub mod RowsLaws
 pub mod Table
 pub mod TableLaws
 pub mod Block
-pub mod BlockLaws
 pub mod InFull
-pub mod InFullLaws

@@ -13,9 +13,9 @@ use Rattle.model.specs.Sound.{sound_model}
 use Rattle.model.specs.Block.{model_of, padded, sound}
 use Rattle.model.specs.Engine.{engine as cores, models, act_block, on_blocks, decode}
 use Rattle.blocks.specs.BlockLaws.{held-padded, sound-padded}
-use Rattle.failover.specs.LaidLaws as laid
-use Rattle.failover.specs.LaidLaws.{Lays, onto}
-use Rattle.failover.specs.Proof.{laws}
+use Rattle.failover.proofs.LaidLaws as laid
+use Rattle.failover.proofs.LaidLaws.{Lays, onto}
+use Rattle.failover.proofs.ProofLaws.{laws}
 
 does : (s : List ℕ) (b : Body) → act_block s b ≡ onto padded (act (model_of s) b)
 unfolding act_block on_blocks onto

@@ -9,9 +9,9 @@ use Rattle.std.proofs.Math.ListN.{length}
 use Rattle.sessions.specs.Machine.{Machine, Outcome, refused, done, text}
 use Rattle.sessions.specs.Session.{answer}
 use Rattle.sessions.specs.Saved.{cut}
-use Rattle.sessions.specs.RefusalsLaws.{answer-unsound}
+use Rattle.sessions.proofs.RefusalsLaws.{answer-unsound}
 use Rattle.replays.specs.Into.{Reached, nothing_read, reach, line_from, lines_while, replay_while}
-use Rattle.replays.specs.PiecesLaws.{stays}
+use Rattle.replays.proofs.PiecesLaws.{stays}
 
 -- what was reached: the state, the octets written, the characters read; not stopped, or stopped by a refusal
 unfoldable pub going : {S : Type 0} → S → List ℕ → ℕ → Reached S

@@ -10,8 +10,8 @@ use Rattle.laws.specs.Loops.{every, keep}
 use Rattle.rule.specs.Radio.{add, cancel, packet, tick, other}
 use Rattle.rule.specs.Engine.{find, slot, insert_at, remove, State, step, move}
 use Rattle.rule.specs.Engine
-use Rattle.rule.specs.ProjectTurns.{each-view}
-use Rattle.rule.specs.ShowsLaws.{Shows}
+use Rattle.rule.proofs.ProjectTurns.{each-view}
+use Rattle.rule.proofs.ShowsLaws.{Shows}
 use Rattle.model.specs.Types.{Model, Monitor, Packet, Pair, with_lists, with_filter, moved}
 use Rattle.model.specs.Frames.{Body, Typed, command, packet as packet_frame, tick as tick_frame, bad, typed}
 use Rattle.model.specs.Monitors.{accepts, fault_of, monitor_of, invalid, full}
@@ -20,7 +20,7 @@ use Rattle.model.specs.Watch
 use Rattle.model.specs.Step.{step_typed}
 use Rattle.sessions.specs.Machine.{last_number}
 use Rattle.model.specs.Sound.{sound_model, sound_pair, sound_settings, sound_monitors, apart}
-use Rattle.model.specs.Radio.{radio, core, core_typed, core_command}
+use Rattle.model.proofs.Radio.{radio, core, core_typed, core_command}
 use Rattle.failover.specs.View.{view_pair}
 use Rattle.failover.specs.View.{view}
 use Rattle.failover.specs.ViewLaws.{each-some, map_each, packet-view, all-turns-view, tick-view, remove-none, cancel-view, keep_live}

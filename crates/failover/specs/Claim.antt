@@ -9,7 +9,7 @@ use Rattle.sessions.specs.Session.{Entry, answer}
 use Rattle.sessions.specs.Saved.{cut}
 use Rattle.sessions.specs.Additions.{Act, walk_on, trace_on, Step, line, again, lines_in, added_in, replay_on, frames_on, journal_on, SavedAmong, TakenOver}
 use Rattle.model.specs.Frames.{Body, read}
-use Rattle.model.specs.Radio.{radio, core}
+use Rattle.model.proofs.Radio.{radio, core}
 use Rattle.failover.specs.Demand3.{replay_adds, pairs_in}
 use Rattle.editions.specs.Editions.{Gateway, fresh_on, add_edition, image_on}
 use Rattle.editions.specs.Engine.{gateways}

@@ -17,7 +17,7 @@ use Rattle.sessions.specs.Past.{past}
 use Rattle.model.specs.Types.{Model, fresh}
 use Rattle.model.specs.Image.{image_text, held_in}
 use Rattle.model.specs.Engine.{models}
-use Rattle.model.specs.Radio.{radio, core}
+use Rattle.model.proofs.Radio.{radio, core}
 use Rattle.failover.specs.View.{view_pair}
 
 -- What a line adds to the past by its outcome, and what follows: an executed frame, nothing where it is seen; replay

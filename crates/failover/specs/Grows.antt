@@ -14,11 +14,11 @@ use Rattle.model.specs.Step.{act}
 use Rattle.model.specs.Sound.{sound_model}
 use Rattle.steps.specs.FactsLaws.{up-to-holds}
 use Rattle.steps.specs.ExecutedLaws.{position-suc, prefix-stays}
-use Rattle.steps.specs.KeepsLaws.{keeps}
+use Rattle.steps.proofs.KeepsLaws.{keeps}
 use Rattle.failover.specs.ReadLaws.{body-octets}
 use Rattle.editions.specs.Editions.{Edition, Gateway, with_prefix, prefix_for, sound_edition, sound_editions, sound_gateway, beside, act_on, last_from, add_edition, most_editions}
 use Rattle.editions.specs.Engine.{gateways, Addition}
-use Rattle.editions.specs.FactsLaws.{prefix-above, prefix-fits, prefixed-sound, more-sound, Parts, parts-of, parts-sound, Accepted, with, accepts, Added, added}
+use Rattle.editions.proofs.FactsLaws.{prefix-above, prefix-fits, prefixed-sound, more-sound, Parts, parts-of, parts-sound, Accepted, with, accepts, Added, added}
 
 -- a frame that is done is done by the core, and leaves the editions
 pub record Besides (es : List Edition) (o : Outcome Model) (t : Gateway) (w : List ℕ) : Type 0 where

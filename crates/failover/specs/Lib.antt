@@ -7,14 +7,7 @@ pub mod ViewLaws
 pub mod AgreeLaws
 pub mod ReadLaws
 pub mod Demand3
-pub mod Proof
 pub mod Grows
 pub mod Claim
-pub mod Proved
 pub mod Plainly
-pub mod PlainlyLaws
-pub mod LaidLaws
 pub mod Alone
-pub mod AloneLaws
-pub mod BlocksLaws
-pub mod AwaitsLaws

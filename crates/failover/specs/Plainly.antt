@@ -6,7 +6,7 @@ use Rattle.rule.specs.Claim.{ByHistory}
 use Rattle.sessions.specs.Session.{Call, walk}
 use Rattle.sessions.specs.Saved.{SavedAfter, Failover, replay}
 use Rattle.sessions.specs.Past.{past}
-use Rattle.model.specs.Radio.{radio, core}
+use Rattle.model.proofs.Radio.{radio, core}
 use Rattle.editions.specs.Editions.{Gateway, fresh_on, image_on}
 use Rattle.editions.specs.Engine.{gateways}
 use Rattle.failover.specs.Demand3.{past_replayed, pairs_in}

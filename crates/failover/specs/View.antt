@@ -5,7 +5,7 @@ use Rattle.std.specs.Prelude.{map}
 use Rattle.rule.specs.Engine.{State, Pair as CorePair}
 use Rattle.model.specs.Types.{Model, Pair, watched}
 use Rattle.model.specs.Level.{level}
-use Rattle.model.specs.Radio.{radio}
+use Rattle.model.proofs.Radio.{radio}
 
 -- a pair as the core holds it
 unfoldable pub view_pair : Pair → CorePair radio

@@ -12,17 +12,17 @@ use Rattle.rule.specs.BaseLaws.{none≢some}
 use Rattle.rule.specs.Radio.{cancel, other}
 use Rattle.rule.specs.Engine.{find, remove, Pair as CorePair, move, held, begins, started, turns}
 use Rattle.rule.specs.Engine
-use Rattle.rule.specs.ProjectTurns.{over}
+use Rattle.rule.proofs.ProjectTurns.{over}
 use Rattle.model.specs.Types.{Model, Monitor, Packet, Pair, watched, device_of}
 use Rattle.model.specs.Level.{level}
-use Rattle.model.specs.LevelsLaws.{below-levels}
+use Rattle.model.proofs.LevelsLaws.{below-levels}
 use Rattle.model.specs.Monitors.{allows, matches, good, sifts, run_of, windowed}
 use Rattle.model.specs.Commands.{of_other}
 use Rattle.model.specs.Watch
-use Rattle.steps.specs.DropsLaws.{keeps-level}
+use Rattle.steps.proofs.DropsLaws.{keeps-level}
 use Rattle.steps.specs.StartsLaws.{turn-none, turn-pick}
 use Rattle.model.specs.Sound.{sound_pair, sound_of}
-use Rattle.model.specs.Radio.{radio}
+use Rattle.model.proofs.Radio.{radio}
 use Rattle.model.specs.Layout.{most_pairs}
 use Rattle.failover.specs.View.{view_pair}
 

@@ -10,12 +10,12 @@ use Rattle.rule.specs.BaseLaws.{both, all_in, in_all, pigeon}
 use Rattle.rule.specs.BaseLaws.{in_map, map-in, ordered-snoc}
 use Rattle.rule.specs.Radio.{Radio, Frame, packet, most_pairs}
 use Rattle.rule.specs.Rule.{live_after, Pairs, Room, WouldStart, IsStart, JustBefore, Above, Deeds, Latest, Sooner, kept}
-use Rattle.rule.specs.ReadingLaws.{kept-now}
+use Rattle.rule.proofs.ReadingLaws.{kept-now}
 use Rattle.rule.specs.Engine.{find, Mons, Pair, key, keys, held, begins, started, turns, least, fits, room_for}
 use Rattle.rule.specs.Engine.{new_pair}
-use Rattle.rule.specs.DropsLaws.{least-le, least-is}
-use Rattle.rule.specs.DropsLaws.{room-ordered}
-use Rattle.rule.specs.MovesTurns.{held_in_lem, in_held, Begins, turns-once, turns-in, Begun}
+use Rattle.rule.proofs.DropsLaws.{least-le, least-is}
+use Rattle.rule.proofs.DropsLaws.{room-ordered}
+use Rattle.rule.proofs.MovesTurns.{held_in_lem, in_held, Begins, turns-once, turns-in, Begun}
 use Rattle.history.specs.LiveLaws.{known, known-alive}
 
 module _ (R : Radio) where

@@ -9,11 +9,11 @@ use Rattle.rule.specs.BaseLaws.{in-each, each_in, each-distinct, in_map, map-in,
 use Rattle.rule.specs.Radio.{Radio, Frame, add, cancel, packet, tick, other, most_monitors}
 use Rattle.rule.specs.Rule.{older, live_after, JustBefore, StartAt, DisplacedAt, DoneAt, UnderWatch, LatestStart, InOrder}
 use Rattle.rule.specs.Rule.{ticks_since_good, kept, last_of, last_rssi, Deed, starts, displaces, Deeds}
-use Rattle.rule.specs.ReadingLaws.{kept-now, turn-stays}
+use Rattle.rule.proofs.ReadingLaws.{kept-now, turn-stays}
 use Rattle.rule.specs.Engine.{find, Mons, Pair, key, keys, at_packet, move, turns, run}
-use Rattle.rule.specs.FindsLaws.{find-all}
-use Rattle.rule.specs.MovesTurns.{move-key, turns-in, begun-in, Begun}
-use Rattle.rule.specs.FitsLaws.{Stored, run_fits}
+use Rattle.rule.proofs.FindsLaws.{find-all}
+use Rattle.rule.proofs.MovesTurns.{move-key, turns-in, begun-in, Begun}
+use Rattle.rule.proofs.FitsLaws.{Stored, run_fits}
 use Rattle.history.specs.RunsLaws.{norun-nil}
 use Rattle.history.specs.LiveLaws.{known, known-alive, mons-are}
 use Rattle.history.specs.OldLaws.{Watch, Earlier, earlier-was, earlier-moves, moved-earlier}

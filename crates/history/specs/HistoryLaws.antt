@@ -7,7 +7,7 @@ use Rattle.rule.specs.Radio.{Radio, Frame}
 use Rattle.rule.specs.Rule.{InOrder}
 use Rattle.rule.specs.Engine.{Pair, key, run}
 use Rattle.rule.specs.Claim.{Counted, ByHistory}
-use Rattle.rule.specs.FitsLaws.{run_fits}
+use Rattle.rule.proofs.FitsLaws.{run_fits}
 use Rattle.history.specs.OldLaws.{Watch}
 use Rattle.history.specs.HeldLaws.{holds_agree}
 use Rattle.history.specs.CasesLaws.{under-watch}

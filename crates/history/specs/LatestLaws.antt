@@ -5,7 +5,7 @@ use Rattle.std.proofs.Common.{arith, sym, ap, ◌∙◌, subst, inl, inr}
 use Rattle.rule.specs.Radio.{Radio, Frame, add, cancel, packet, tick, other}
 use Rattle.rule.specs.Rule.{Live, live_since, last_rssi, match_for, rssi_of, live_after, NoRun, StartAt, DisplacedAt, UnderWatch, LatestStart, InOrder}
 use Rattle.rule.specs.Rule.{Pairs, Deeds, DoneAt, Latest, Sooner, Displaces, kept}
-use Rattle.rule.specs.ReadingLaws.{watched-idle}
+use Rattle.rule.proofs.ReadingLaws.{watched-idle}
 use Rattle.rule.specs.Engine.{Pair, key}
 use Rattle.history.specs.RunsLaws.{norun-tail}
 use Rattle.history.specs.OldLaws.{Watch, life-inv}

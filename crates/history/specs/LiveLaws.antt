@@ -7,10 +7,10 @@ use Rattle.std.proofs.Math.Option.{Option, none, some}
 use Rattle.rule.specs.BaseLaws.{both, none≢some}
 use Rattle.rule.specs.Radio.{Radio, Frame, add, cancel, packet, tick, other, most_monitors}
 use Rattle.rule.specs.Rule.{Live, not_live, live_since, is_live, older, lowest, live_by, live_after}
-use Rattle.rule.specs.ReadingLaws.{lowest-is}
+use Rattle.rule.proofs.ReadingLaws.{lowest-is}
 use Rattle.rule.specs.Engine.{find, slot, insert, insert_at, remove, Mons, mons_after, run}
-use Rattle.rule.specs.FindsLaws.{find-insert-same, find-insert-other, find-remove-same, find-remove-other}
-use Rattle.rule.specs.FindsLaws.{slot-some, lowest-slot}
+use Rattle.rule.proofs.FindsLaws.{find-insert-same, find-insert-other, find-remove-same, find-remove-other}
+use Rattle.rule.proofs.FindsLaws.{slot-some, lowest-slot}
 
 module _ (R : Radio) where
   -- What is stored of a life.

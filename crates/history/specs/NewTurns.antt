@@ -11,9 +11,9 @@ use Rattle.rule.specs.Radio.{Radio, Frame, packet, most_pairs}
 use Rattle.rule.specs.Rule.{Pairs, WouldStart, JustBefore, Displaces, Deeds, Latest, Sooner, kept}
 use Rattle.rule.specs.Engine.{find, Mons, Pair, key, keys, begins, started, turns, least, drop_first, room_for}
 use Rattle.rule.specs.Engine.{new_pair}
-use Rattle.rule.specs.DropsLaws.{First, least-le, least-is, first-in, first-keeps, first_of, drop-in, drop-or, first-gone}
-use Rattle.rule.specs.DropsLaws.{first-before, room_in_lem}
-use Rattle.rule.specs.MovesTurns.{Begins, begins-tells, tells-begins, turns-once, begun-in}
+use Rattle.rule.proofs.DropsLaws.{First, least-le, least-is, first-in, first-keeps, first_of, drop-in, drop-or, first-gone}
+use Rattle.rule.proofs.DropsLaws.{first-before, room_in_lem}
+use Rattle.rule.proofs.MovesTurns.{Begins, begins-tells, tells-begins, turns-once, begun-in}
 use Rattle.history.specs.LatestLaws.{not-both}
 use Rattle.history.specs.GroundTurns.{Agrees, Ground, room_of, of_room, turn_level, turn-first, turn-sorted, place, room_fits, wants-of, wants-begins}
 use Rattle.history.specs.GroundTurns.{Ranks, takes-begins, begins-takes}

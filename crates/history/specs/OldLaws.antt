@@ -8,7 +8,7 @@ use Rattle.rule.specs.BaseLaws.{both, and-true, none≢some, some_inj}
 use Rattle.rule.specs.Radio.{Radio, Frame, add, cancel, packet, tick, other}
 use Rattle.rule.specs.Rule.{Live, not_live, live_since, is_live, older, lowest, live_by, live_after, NoRun, StartAt, DisplacedAt}
 use Rattle.rule.specs.Rule.{ticks_since_good, match_for, rssi_of, last_rssi}
-use Rattle.rule.specs.ReadingLaws.{lowest-is}
+use Rattle.rule.proofs.ReadingLaws.{lowest-is}
 use Rattle.rule.specs.Engine.{find, Mons, Pair, refreshes, at_packet, at_tick, move}
 use Rattle.history.specs.RunsLaws.{next, norun-silent, norun-tail, norun-cons}
 use Rattle.history.specs.LiveLaws.{known, not_live≢live_since}

@@ -8,9 +8,9 @@ use Rattle.rule.specs.BaseLaws.{in_all, in_map, ordered-each, ordered-snoc}
 use Rattle.rule.specs.Radio.{Radio, Frame, add, cancel, packet, tick, other, most_monitors}
 use Rattle.rule.specs.Rule.{StartAt, UnderWatch, InOrder}
 use Rattle.rule.specs.Engine.{find, Pair, key, move, begins, started, turns, run, new_pair, room_for}
-use Rattle.rule.specs.DropsLaws.{room_in_lem, room-ordered}
-use Rattle.rule.specs.MovesTurns.{move-key, begins-tells, Begun, turns-in}
-use Rattle.rule.specs.FitsLaws.{run_fits}
+use Rattle.rule.proofs.DropsLaws.{room_in_lem, room-ordered}
+use Rattle.rule.proofs.MovesTurns.{move-key, begins-tells, Begun, turns-in}
+use Rattle.rule.proofs.FitsLaws.{run_fits}
 use Rattle.history.specs.LiveLaws.{mons-are}
 use Rattle.history.specs.LatestLaws.{PairOrder, old-old, old-new, new-new}
 use Rattle.history.specs.HeldLaws.{Holds, run-stored, base-agree, begun-start, holds-one, holds-none}

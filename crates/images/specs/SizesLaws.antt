@@ -15,7 +15,7 @@ use Rattle.lines.specs.TextsLaws.{length-text}
 use Rattle.sessions.specs.Machine.{core_room}
 use Rattle.model.specs.Types.{Model, Monitor, Pair}
 use Rattle.model.specs.Sound.{sound_model}
-use Rattle.model.specs.AcceptedLaws.{accepted}
+use Rattle.model.proofs.AcceptedLaws.{accepted}
 use Rattle.model.specs.Image.{head_row, monitor_row, extra_text, monitor_text, pair_row, end_row, records, image_text}
 use Rattle.blocks.specs.RowsLaws.{length-head_row, length-monitor_row, length-pair_row}
 use Rattle.rule.specs.Base.{All}

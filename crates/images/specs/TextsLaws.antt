@@ -11,7 +11,7 @@ use Rattle.lines.specs.HexLaws.{not_lf}
 use Rattle.lines.specs.TextsLaws.{hex-no-lf, read-written}
 use Rattle.sessions.specs.Machine.{NoLF, OneLine}
 use Rattle.sessions.specs.Saved.{cut}
-use Rattle.sessions.specs.CutsLaws.{AllLines, cut-lines}
+use Rattle.sessions.proofs.CutsLaws.{AllLines, cut-lines}
 
 -- whether every element of a list is an octet
 abbrev pub octets : List ℕ → Bool

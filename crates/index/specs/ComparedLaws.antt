@@ -28,8 +28,8 @@ use Rattle.model.specs.Layout.{most_pairs, pair_size, pairs_size}
 use Rattle.wholes.specs.Layout.{entries_size, entry_size, mask_at}
 use Rattle.wholes.specs.Index.{IndexEntry, bit_of, noted, noted_all, with_handle, index_of, entry_row, entry_table}
 use Rattle.wholes.specs.Sizes.{Seven, Fitting}
-use Rattle.wholes.specs.SizesLaws.{Known, index-fits, index-length, length-entry_rows, length-entry_table}
-use Rattle.wholes.specs.WatchedLaws.{mask-holds}
+use Rattle.wholes.proofs.SizesLaws.{Known, index-fits, index-length, length-entry_rows, length-entry_table}
+use Rattle.wholes.proofs.WatchedLaws.{mask-holds}
 use Rattle.index.specs.Table.{Tabled, with_entry}
 use Rattle.index.specs.TableLaws.{value_same, table-rows}
 use Rattle.index.specs.BuiltTurns.{index-snoc, pair-next, more}

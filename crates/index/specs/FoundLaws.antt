@@ -20,7 +20,7 @@ use Rattle.model.specs.Layout.{most_pairs}
 use Rattle.wholes.specs.Layout.{device_size, entry_size, entries_size, mask_at}
 use Rattle.wholes.specs.Index.{IndexEntry, entry_row, noted, with_handle, bit_of, mask_in}
 use Rattle.wholes.specs.Sizes.{Seven, Fitting}
-use Rattle.wholes.specs.SizesLaws.{length-entry_row}
+use Rattle.wholes.proofs.SizesLaws.{length-entry_row}
 use Rattle.index.specs.Table.{place_in, Tabled, with_entry, with_bit}
 use Rattle.index.specs.TableLaws.{value-test, table-rows}
 

@@ -17,7 +17,7 @@ use Rattle.model.specs.Layout.{count_at, most_pairs, pair_size, pairs_at, pairs_
 use Rattle.wholes.specs.Layout.{entries_size, entry_count_at, index_at, index_size, whole_size}
 use Rattle.wholes.specs.Index.{IndexEntry, entry_table, index_block, index_of, noted}
 use Rattle.wholes.specs.Sizes.{Seven}
-use Rattle.wholes.specs.SizesLaws.{length-entry_table}
+use Rattle.wholes.proofs.SizesLaws.{length-entry_table}
 use Rattle.index.specs.Table.{Tabled}
 use Rattle.index.specs.Seen.{words, Kept}
 use Rattle.index.specs.WrittenLaws.{mid-put}

@@ -15,7 +15,7 @@ use Rattle.octets.specs.NumbersLaws.{number-of, at-is, at-over}
 use Rattle.model.specs.Types.{device}
 use Rattle.blocks.specs.RowsLaws.{octets-cons}
 use Rattle.wholes.specs.Sizes.{Seven}
-use Rattle.wholes.specs.LaidLaws.{rows-front}
+use Rattle.wholes.proofs.LaidLaws.{rows-front}
 
 -- a number of eight octets, read from its own part
 pub key-read : (t : List ℕ) (at n : ℕ) {v : ℕ} → n ≡ 8 → at + 8 ≤ length t → v ≡ number_at 8 (take n (drop at t)) 0

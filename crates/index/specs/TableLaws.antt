@@ -21,7 +21,7 @@ use Rattle.model.specs.Layout.{most_pairs}
 use Rattle.wholes.specs.Layout.{entry_size, entries_size}
 use Rattle.wholes.specs.Index.{IndexEntry, entry_row, entry_table}
 use Rattle.wholes.specs.Sizes.{Fitting}
-use Rattle.wholes.specs.SizesLaws.{length-entry_row}
+use Rattle.wholes.proofs.SizesLaws.{length-entry_row}
 use Rattle.index.specs.Table.{place_in, Tabled}
 
 -- octets of one length that make one number are the same

@@ -18,7 +18,7 @@ use Rattle.model.specs.Layout.{most_pairs}
 use Rattle.wholes.specs.Layout.{entry_size}
 use Rattle.wholes.specs.Index.{IndexEntry, bit_of, noted, entry_row}
 use Rattle.wholes.specs.Sizes.{Seven, Fitting}
-use Rattle.wholes.specs.SizesLaws.{length-entry_row, noted-fits}
+use Rattle.wholes.proofs.SizesLaws.{length-entry_row, noted-fits}
 use Rattle.wholes.specs.Watched.{has_bit, mask_of}
 use Rattle.index.specs.Table.{place_in, with_entry, with_bit}
 use Rattle.index.specs.FoundLaws.{entry-test, new, old}

@@ -22,16 +22,16 @@ use Rattle.blocks.specs.FactsLaws.{sound-facts}
 use Rattle.blocks.specs.BoundsLaws.{pairs-fit}
 use Rattle.blocks.specs.BlockLaws.{padded-length}
 use Rattle.editions.specs.Editions.{Gateway, sound_gateway}
-use Rattle.editions.specs.FactsLaws.{parts-of}
+use Rattle.editions.proofs.FactsLaws.{parts-of}
 use Rattle.editions.specs.Block.{edition_block}
 use Rattle.wholes.specs.Layout.{device_size, mask_at, entries_size, entry_count_at, entry_size, index_at}
 use Rattle.wholes.specs.Index.{IndexEntry, entry_row, entry_table, index_block, index_of, mask_for, mask_in, handles_of}
 use Rattle.wholes.specs.Whole.{held_whole, laid_with, whole, sound_whole}
 use Rattle.wholes.specs.Sizes.{Fitting}
-use Rattle.wholes.specs.SizesLaws.{all_known, index-fits, index-length, length-entry_table}
-use Rattle.wholes.specs.LaidLaws.{rows-front, whole-good, whole-held}
+use Rattle.wholes.proofs.SizesLaws.{all_known, index-fits, index-length, length-entry_table}
+use Rattle.wholes.proofs.LaidLaws.{rows-front, whole-good, whole-held}
 use Rattle.wholes.specs.Watched.{mask_of}
-use Rattle.wholes.specs.WatchedLaws.{from, handles-held}
+use Rattle.wholes.proofs.WatchedLaws.{from, handles-held}
 use Rattle.index.specs.declared.Watch.{Watch}
 use Rattle.index.specs.Asked.{watch_of}
 use Rattle.index.specs.Table.{Tabled}

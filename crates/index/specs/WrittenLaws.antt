@@ -28,7 +28,7 @@ use Rattle.model.specs.Layout.{most_monitors, most_pairs}
 use Rattle.wholes.specs.Layout.{device_size, entry_size, entries_size, mask_at}
 use Rattle.wholes.specs.Index.{IndexEntry, entry_row, entry_table, bit_of}
 use Rattle.wholes.specs.Sizes.{Seven, Fitting}
-use Rattle.wholes.specs.SizesLaws.{length-entry_row, length-entry_rows}
+use Rattle.wholes.proofs.SizesLaws.{length-entry_row, length-entry_rows}
 use Rattle.index.specs.Table.{Tabled, with_entry, with_bit}
 
 -- the bit of a handle, by a shift

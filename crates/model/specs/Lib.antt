@@ -4,10 +4,8 @@ pub mod Types
 pub mod Level
 pub mod SignedLaws
 pub mod Levels
-pub mod LevelsLaws
 pub mod Frames
 pub mod Monitors
-pub mod AcceptedLaws
 pub mod Commands
 pub mod Watch
 pub mod Events
@@ -16,13 +14,10 @@ pub mod Sound
 pub mod Image
 pub mod Block
 pub mod Engine
-pub mod Radio
 pub mod Quoted
 pub mod InFull
-pub mod LengthsLaws
 pub mod Rows
 pub mod Requests
 pub mod Second
 pub mod Computed
 pub mod Edges
-pub mod EdgesLaws

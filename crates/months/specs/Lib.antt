@@ -1,10 +1,6 @@
 pub mod Counts
 pub mod Month
-pub mod MonthLaws
 pub mod Tables
 pub mod TablesLaws
 pub mod Counted
-pub mod CountedLaws
 pub mod Counting
-pub mod Claims
-pub mod EdgesLaws

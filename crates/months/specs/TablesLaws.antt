@@ -5,7 +5,7 @@ use Rattle.laws.specs.Loops.{up_to}
 use Rattle.totals.specs.declared.Row.{Row}
 use Rattle.totals.specs.Two.{every_two, map_two}
 use Rattle.totals.specs.Table.{row_sum}
-use Rattle.totals.specs.JoinLaws.{sum-assoc}
+use Rattle.totals.proofs.JoinLaws.{sum-assoc}
 use Rattle.months.specs.Tables.{table_of}
 
 pub length-table : (f : ℕ → Row) (n : ℕ) → length (table_of f n) ≡ n

@@ -18,7 +18,7 @@ use Rattle.blocks.specs.FieldsLaws.{key_of, times_of, place-split}
 use Rattle.blocks.specs.PlacesLaws.{pair_in-place}
 use Rattle.blocks.specs.BlockLaws.{row-pairs}
 use Rattle.marks.specs.Fields.{Framed, framed}
-use Rattle.marks.specs.FieldsLaws.{facts-framed}
+use Rattle.marks.proofs.FieldsLaws.{facts-framed}
 use Rattle.marks.specs.Marks.{tells, sifted}
 use Rattle.packets.specs.Alike.{alike_in, reason_at, reason_in}
 use Rattle.packets.specs.Changes.{alike_to, reason_by}
@@ -72,7 +72,7 @@ module _ (m : Model) (s : List ℕ) (i : ℕ) (w : AtPair m s i) where
       ap (λ (l : List ℕ). take (length q.adv) l) (sym (drop-drop data_at at s))
       ∙ sym (take-take (length q.adv) 31 (drop data_at (drop at s)) n)
       ∙ ap (λ (l : List ℕ). take (length q.adv) l)
-      (sym (Rattle.marks.specs.MonitorsLaws.drop-take data_at 31 (drop at s))
+      (sym (Rattle.marks.proofs.MonitorsLaws.drop-take data_at 31 (drop at s))
       ∙ ap (λ (l : List ℕ). drop data_at l) row_is)
       ∙ ap (λ (k : ℕ). take k (drop data_at r)) (sym length-is ∙ field_is length_at (omega arith))
       ∙ ap (λ (p : Pair). p.adv) (pair_in-place q f)

@@ -25,7 +25,7 @@ use Rattle.events.specs.Octets.{event_octets, report_octets, event_fits, report_
 use Rattle.events.specs.OctetsLaws.{length-event, length-report}
 use Rattle.events.specs.OctetsLaws.{event-opens, event-pair, report-device}
 use Rattle.marks.specs.Fields.{Framed, framed, scan_at}
-use Rattle.marks.specs.FieldsLaws.{Clamped, facts-framed, scan-at-some}
+use Rattle.marks.proofs.FieldsLaws.{Clamped, facts-framed, scan-at-some}
 use Rattle.packets.specs.Reports.{reports_fit}
 use Rattle.packets.specs.Writes.{no_pair, PutAt}
 use Rattle.packets.specs.WritesLaws.{part-row}

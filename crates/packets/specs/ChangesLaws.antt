@@ -13,7 +13,7 @@ use Rattle.model.specs.Watch.{with_kept, counts, duplicate, refreshed, remembere
 use Rattle.model.specs.Watch.{fits, goes_for, stays_for, start_like, start_pair, start_of, stop_of, turn, turn_answer, reason_for, is_reason, allows_by, start_told}
 use Rattle.steps.specs.StartsLaws.{turn-none, turn-pick}
 use Rattle.marks.specs.Marks.{refreshes, takes, opens, tells, sifted, allowed, keeps, instant, mark_of, mark}
-use Rattle.marks.specs.MarksLaws.{mark-refreshes, mark-takes, mark-opens, mark-tells, mark-sifted, mark-allowed, mark-keeps}
+use Rattle.marks.proofs.MarksLaws.{mark-refreshes, mark-takes, mark-opens, mark-tells, mark-sifted, mark-allowed, mark-keeps}
 use Rattle.packets.specs.Changes.{freshened, collected, strengthened, counted, recalled, changed, started, starts, after, start_events, alike_to, reason_by}
 
 -- a test of some element, over two lists

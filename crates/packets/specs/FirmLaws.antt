@@ -13,14 +13,14 @@ use Rattle.rule.specs.BaseLaws.{all_append}
 use Rattle.rule.specs.Engine.{find}
 use Rattle.model.specs.Types.{Monitor, Packet, Pair, device_of, watched}
 use Rattle.model.specs.Level.{level, d_bm}
-use Rattle.model.specs.LevelsLaws.{below-levels}
+use Rattle.model.proofs.LevelsLaws.{below-levels}
 use Rattle.model.specs.Monitors.{matches, strong}
 use Rattle.model.specs.Watch.{is_pair, holds, least, keeps, without, has_room, fits, stays_for, start_like, turn, turns, packet_move, with_since_good, with_kept, with_latest, gathered}
-use Rattle.steps.specs.MovesLaws.{packet-key}
-use Rattle.steps.specs.DropsLaws.{keeps-level, stays_all}
+use Rattle.steps.proofs.MovesLaws.{packet-key}
+use Rattle.steps.proofs.DropsLaws.{keeps-level, stays_all}
 use Rattle.steps.specs.ListsLaws.{all-weaken}
 use Rattle.marks.specs.Marks.{refreshes, takes, opens, sifted, allowed, keeps as keeps_by, mark}
-use Rattle.marks.specs.MarksLaws.{mark-opens, mark-keeps}
+use Rattle.marks.proofs.MarksLaws.{mark-opens, mark-keeps}
 use Rattle.packets.specs.Changes.{freshened, collected, strengthened, counted, recalled, changed, started, starts, after}
 use Rattle.packets.specs.ChangesLaws.{some-append, or-none, move-changed, turn-after}
 use Rattle.packets.specs.Firm.{Firm}

@@ -18,10 +18,10 @@ use Rattle.blocks.specs.Block.{Measured}
 use Rattle.blocks.specs.UpdatesLaws.{measured-pairs}
 use Rattle.steps.specs.Typed.{Sent}
 use Rattle.steps.specs.TypedLaws.{pick-both}
-use Rattle.steps.specs.DropsLaws.{stays-fewer, stays_all}
+use Rattle.steps.proofs.DropsLaws.{stays-fewer, stays_all}
 use Rattle.marks.specs.Marks.{flag, opens, sifted, allowed, mark}
 use Rattle.marks.specs.Asked.{spared}
-use Rattle.marks.specs.AskedLaws.{spared-cases, spared-opened}
+use Rattle.marks.proofs.AskedLaws.{spared-cases, spared-opened}
 use Rattle.packets.specs.Changes.{started, starts, after, start_events}
 use Rattle.packets.specs.ChangesLaws.{some-append, turn-after, answer-told, start-told}
 use Rattle.packets.specs.WritesLaws.{fits-start}

@@ -9,7 +9,7 @@ use Rattle.rule.specs.Base.{All}
 use Rattle.rule.specs.Engine.{find}
 use Rattle.model.specs.Types.{Model, Monitor, Packet, Pair, device_of}
 use Rattle.model.specs.Level.{level, d_bm}
-use Rattle.model.specs.LevelsLaws.{below-levels}
+use Rattle.model.proofs.LevelsLaws.{below-levels}
 use Rattle.model.specs.Monitors.{matches, strong}
 use Rattle.model.specs.Watch.{with_kept, gathered, holds, least, has_room, fits, begins, turn, turns, packet_move}
 use Rattle.steps.specs.TypedLaws.{pick-both}

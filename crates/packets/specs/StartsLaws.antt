@@ -18,12 +18,12 @@ use Rattle.rule.specs.BaseLaws.{all_append}
 use Rattle.model.specs.Types.{Model, Packet, Pair, device_of, with_lists}
 use Rattle.model.specs.Watch.{holds, least, first_keeping, without, has_room, fits, goes_for, stays_for, start_like}
 use Rattle.model.specs.Level.{level}
-use Rattle.model.specs.LevelsLaws.{below-levels}
+use Rattle.model.proofs.LevelsLaws.{below-levels}
 use Rattle.model.specs.Events.{event, start_event, stop_event}
 use Rattle.model.specs.Block.{padded}
 use Rattle.blocks.specs.Bounds.{Fits}
 use Rattle.blocks.specs.UpdatesLaws.{measured-pairs}
-use Rattle.steps.specs.DropsLaws.{without_all}
+use Rattle.steps.proofs.DropsLaws.{without_all}
 use Rattle.marks.specs.Marks.{opens}
 use Rattle.packets.specs.Changes.{started, starts, after, start_events}
 use Rattle.packets.specs.Keys.{device_number}

@@ -5,9 +5,9 @@ use Rattle.laws.specs.Tests.{pick}
 use Rattle.laws.specs.TestsLaws.{cases-le}
 use Rattle.model.specs.Types.{Pair}
 use Rattle.model.specs.Level.{level, d_bm}
-use Rattle.model.specs.LevelsLaws.{below-levels}
+use Rattle.model.proofs.LevelsLaws.{below-levels}
 use Rattle.model.specs.Watch.{smaller, least, first_keeping, without}
-use Rattle.steps.specs.DropsLaws.{keeps-level}
+use Rattle.steps.proofs.DropsLaws.{keeps-level}
 use Rattle.packets.specs.Writes.{no_pair}
 use Rattle.packets.specs.Weakest.{level_at, weakest_below}
 

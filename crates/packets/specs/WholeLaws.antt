@@ -27,7 +27,7 @@ use Rattle.steps.specs.Stepped.{Stepped, Within}
 use Rattle.steps.specs.SteppedLaws.{rest_put, rest-further}
 use Rattle.marks.specs.Marks.{flag}
 use Rattle.marks.specs.Asked.{marks_for}
-use Rattle.marks.specs.AskedLaws.{spared-padded, spared-held}
+use Rattle.marks.proofs.AskedLaws.{spared-padded, spared-held}
 use Rattle.packets.specs.KeysLaws.{payload-device, pair-true}
 use Rattle.packets.specs.Device.{Sender, NoneFrom}
 use Rattle.packets.specs.DeviceLaws.{flags-all}
@@ -43,7 +43,7 @@ use Rattle.packets.specs.HandlesLaws.{turns-measured}
 use Rattle.packets.specs.Reports.{held_told, starts_told}
 use Rattle.packets.specs.ReportsLaws.{turns_of, reported-off, reported-on}
 use Rattle.marks.specs.Fields.{Framed}
-use Rattle.marks.specs.FieldsLaws.{Clamped, packet-framed}
+use Rattle.marks.proofs.FieldsLaws.{Clamped, packet-framed}
 use Rattle.model.specs.Layout.{block_size, count_at, filter_at, most_monitors, most_pairs}
 use Rattle.packets.specs.Whole.{Acts, Begun, after_moves, after_starts}
 

@@ -8,7 +8,7 @@ use Rattle.octets.specs.LittleLaws.{length-octets, octets-mod}
 use Rattle.model.specs.Types.{Model, Packet}
 use Rattle.model.specs.Level.{add_rssi}
 use Rattle.model.specs.Levels.{extended}
-use Rattle.model.specs.LevelsLaws.{add-extended}
+use Rattle.model.proofs.LevelsLaws.{add-extended}
 use Rattle.model.specs.Frames.{packet_of}
 use Rattle.model.specs.Block.{padded}
 use Rattle.blocks.specs.Fields.{latest_of, window_of}

@@ -4,14 +4,3 @@ pub mod Pair
 pub mod Past
 pub mod Says
 pub mod ListsLaws
-pub mod PairsLaws
-pub mod TicksLaws
-pub mod MonitorsLaws
-pub mod CommandsLaws
-pub mod DeedsLaws
-pub mod DoneLaws
-pub mod WatchingLaws
-pub mod WeakLaws
-pub mod MovesLaws
-pub mod AgreesLaws
-pub mod AnswersLaws

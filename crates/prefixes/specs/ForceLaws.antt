@@ -22,13 +22,13 @@ use Rattle.model.specs.Sound.{sound_model}
 use Rattle.blocks.specs.FactsLaws.{sound-facts}
 use Rattle.blocks.specs.BlockLaws.{padded-length}
 use Rattle.editions.specs.Editions.{Edition, Gateway, with_prefix, in_force, prefix_for, sound_editions, most_editions}
-use Rattle.editions.specs.FactsLaws.{prefix-fits}
+use Rattle.editions.proofs.FactsLaws.{prefix-fits}
 use Rattle.editions.specs.Block.{edition_size, edition_block}
-use Rattle.editions.specs.BlockLaws.{editions-in}
+use Rattle.editions.proofs.BlockLaws.{editions-in}
 use Rattle.steps.specs.FactsLaws.{up-to}
 use Rattle.wholes.specs.Layout.{editions_at, index_size, whole_size}
 use Rattle.wholes.specs.Whole.{laid_with}
-use Rattle.wholes.specs.LaidLaws.{laid-length, laid-editions}
+use Rattle.wholes.proofs.LaidLaws.{laid-length, laid-editions}
 use Rattle.wholes.specs.Heads.{prefix_size, prefix_row}
 use Rattle.wholes.specs.HeadsLaws.{length-prefix_row, head-written}
 use Rattle.prefixes.specs.Held.{listed, edition_count, edition_at}

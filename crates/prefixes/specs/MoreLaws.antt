@@ -23,13 +23,13 @@ use Rattle.steps.specs.FactsLaws.{up-to}
 use Rattle.blocks.specs.BlockLaws.{padded-length}
 use Rattle.blocks.specs.RowsLaws.{length-pad_to}
 use Rattle.editions.specs.Editions.{Edition, Gateway, last_from, sound_edition, sound_editions, edition_row, most_editions}
-use Rattle.editions.specs.FactsLaws.{kept_of_lem}
+use Rattle.editions.proofs.FactsLaws.{kept_of_lem}
 use Rattle.editions.specs.Block.{edition_size, edition_count_at, edition_block, editions_of}
-use Rattle.editions.specs.BlockLaws.{editions-in}
+use Rattle.editions.proofs.BlockLaws.{editions-in}
 use Rattle.editions.specs.Table.{table_of}
 use Rattle.wholes.specs.Layout.{editions_at, editions_count_at, index_size, whole_size}
 use Rattle.wholes.specs.Whole.{laid_with}
-use Rattle.wholes.specs.LaidLaws.{laid-editions}
+use Rattle.wholes.proofs.LaidLaws.{laid-editions}
 use Rattle.prefixes.specs.Held.{listed, edition_count, edition_at}
 use Rattle.prefixes.specs.HeldLaws.{listed-count, listed-take, listed-all}
 use Rattle.prefixes.specs.ForceLaws.{zeros-behind}

@@ -14,7 +14,7 @@ use Rattle.laws.specs.PutLaws.{put_of, put-left}
 use Rattle.laws.specs.Loops.{each, up_to}
 use Rattle.laws.specs.LoopsLaws.{every-nil}
 use Rattle.octets.specs.Little.{is_octet}
-use Rattle.model.specs.AcceptedLaws.{accepted}
+use Rattle.model.proofs.AcceptedLaws.{accepted}
 use Rattle.images.specs.FitsLaws.{MonitorFits, sound-fits, extra-most, monitor-octets}
 use Rattle.laws.specs.Rows.{flat}
 use Rattle.laws.specs.RowsLaws.{put_whole}

@@ -16,7 +16,7 @@ use Rattle.octets.specs.Little.{octets_of}
 use Rattle.lines.specs.Hex.{text_of}
 use Rattle.rule.specs.Base.{All}
 use Rattle.rule.specs.Engine.{find}
-use Rattle.rule.specs.FindsLaws.{find-above}
+use Rattle.rule.proofs.FindsLaws.{find-above}
 use Rattle.sessions.specs.Machine.{core_room}
 use Rattle.model.specs.Types.{Model, Monitor, Pair}
 use Rattle.model.specs.Sound.{sound_model}
@@ -90,7 +90,7 @@ place-some : (h : ℕ) (n : Monitor) → SoundMonitor n
 unfolding monitor_text line_of record_of
 place-some h n f =
     let r : List ℕ = monitor_place h (some n) in
-    let k : length n.condition ≤ most_condition = (Rattle.model.specs.AcceptedLaws.accepted n f.accept).short in
+    let k : length n.condition ≤ most_condition = (Rattle.model.proofs.AcceptedLaws.accepted n f.accept).short in
     let a : added_in r ≡ extra_row n.extra = place-added h n f in
     let o : get_or r extra_at 0 ≡ get_or (extra_row n.extra) 0 0 =
     sym (added-at r 0 (omega arith)) ∙ ap (λ (x : List ℕ). get_or x 0 0) a in

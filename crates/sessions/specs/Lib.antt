@@ -8,13 +8,3 @@ pub mod Session
 pub mod Saved
 pub mod Additions
 pub mod Past
-pub mod CutsLaws
-pub mod RefusalsLaws
-pub mod RunsLaws
-pub mod ReplayLaws
-pub mod WovenLaws
-pub mod GivenLaws
-pub mod PlainLaws
-pub mod HistoryLaws
-pub mod CornersLaws
-pub mod ToyLaws

@@ -30,12 +30,12 @@ use Rattle.restore.specs.Rows.{Row}
 use Rattle.model.specs.Types.{Model, Pair}
 use Rattle.model.specs.Sound.{apart, sound_model}
 use Rattle.editions.specs.Editions.{Gateway, sound_gateway, image_on, held_on, is_image_on, records_on}
-use Rattle.editions.specs.ImagesLaws.{held-image}
-use Rattle.editions.specs.ExactlyLaws.{image-most-on}
+use Rattle.editions.proofs.ImagesLaws.{held-image}
+use Rattle.editions.proofs.ExactlyLaws.{image-most-on}
 use Rattle.wholes.specs.Layout.{index_at, index_size, whole_size}
 use Rattle.wholes.specs.Index.{index_block}
 use Rattle.wholes.specs.Whole.{held_whole, laid_with, whole, sound_whole}
-use Rattle.wholes.specs.LaidLaws.{sound-both, unsound-core, unsound-prefixes, core-holds, core-good, index_is, sound-size, sound-whole, whole-good, whole-held}
+use Rattle.wholes.proofs.LaidLaws.{sound-both, unsound-core, unsound-prefixes, core-holds, core-good, index_is, sound-size, sound-whole, whole-good, whole-held}
 use Rattle.wholes.specs.Engine.{block_in}
 use Rattle.index.specs.Once.{is_low, once}
 use Rattle.index.specs.Renewed.{is_indexed, indexed_once, renewed}

@@ -42,9 +42,9 @@ use Rattle.restore.specs.Rows.{Row}
 use Rattle.restore.specs.SpreadLaws.{behind-name, name-of}
 use Rattle.restore.specs.FillLaws.{records-rows, records-stored}
 use Rattle.editions.specs.Editions.{Edition, Gateway, sound_edition, sound_editions, sound_gateway, edition_row, records_on, image_on, most_editions}
-use Rattle.editions.specs.FactsLaws.{Kept, kept_of_lem, Parts, parts-of}
+use Rattle.editions.proofs.FactsLaws.{Kept, kept_of_lem, Parts, parts-of}
 use Rattle.editions.specs.Block.{edition_size, edition_count_at, editions_size, edition_block}
-use Rattle.editions.specs.BlockLaws.{length-edition_block}
+use Rattle.editions.proofs.BlockLaws.{length-edition_block}
 use Rattle.editions.specs.Table.{table_of}
 use Rattle.prefixes.specs.ForceLaws.{zeros-behind}
 use Rattle.prefixes.specs.Laid.{placed}
@@ -53,7 +53,7 @@ use Rattle.prefixes.specs.MoreLaws.{more-row, rows_long}
 use Rattle.wholes.specs.Layout.{editions_at, editions_count_at, index_at, index_size, whole_size}
 use Rattle.wholes.specs.Index.{index_block}
 use Rattle.wholes.specs.Whole.{laid_with, whole}
-use Rattle.wholes.specs.LaidLaws.{laid-length, laid-held, state-index}
+use Rattle.wholes.proofs.LaidLaws.{laid-length, laid-held, state-index}
 use Rattle.index.specs.Renewed.{renewed}
 use Rattle.snapshots.specs.Stored.{stored_on, stored_edition, stored_all_on}
 

@@ -40,15 +40,15 @@ use Rattle.save.specs.Passed.{lost, passed}
 use Rattle.save.specs.PassedLaws.{none_passed, passed-more, passed-rest, passed-lost}
 use Rattle.save.specs.ImageLaws.{head-image, rest-image}
 use Rattle.editions.specs.Editions.{Edition, Gateway, sound_edition, sound_editions, sound_gateway, edition_row, edition_in, records_on, image_on, most_editions}
-use Rattle.editions.specs.FactsLaws.{Kept, kept_of_lem, Parts, parts-of}
+use Rattle.editions.proofs.FactsLaws.{Kept, kept_of_lem, Parts, parts-of}
 use Rattle.editions.specs.Block.{edition_size, edition_line, edition_block, editions_of}
-use Rattle.editions.specs.BlockLaws.{editions-in}
+use Rattle.editions.proofs.BlockLaws.{editions-in}
 use Rattle.editions.specs.Table.{table_of, places_of}
 use Rattle.editions.specs.TableLaws.{rows-table}
 use Rattle.wholes.specs.Layout.{editions_at, whole_size}
 use Rattle.wholes.specs.Index.{index_block}
 use Rattle.wholes.specs.Whole.{whole}
-use Rattle.wholes.specs.LaidLaws.{whole-core, whole_length, state-index, laid-editions}
+use Rattle.wholes.proofs.LaidLaws.{whole-core, whole_length, state-index, laid-editions}
 use Rattle.prefixes.specs.LaidLaws.{row_fits_lem}
 use Rattle.prefixes.specs.Held.{listed, edition_count, row_in, edition_at}
 use Rattle.prefixes.specs.HeldLaws.{listed-count, listed-take, listed-all, count_most, prefix-short}

@@ -21,7 +21,7 @@ use Rattle.octets.specs.NumbersLaws.{number-of}
 use Rattle.parts.specs.Parts.{is_zero}
 use Rattle.model.specs.Types.{ticks_of}
 use Rattle.model.specs.Level.{raised, in_range, sum_in_range}
-use Rattle.model.specs.LevelsLaws.{sum-levels}
+use Rattle.model.proofs.LevelsLaws.{sum-levels}
 use Rattle.model.specs.Image.{monitor_in}
 use Rattle.model.specs.Monitors.{accepts, allowed, settings_good}
 use Rattle.advert.specs.Condition.{form_of, form_status}

@@ -17,7 +17,7 @@ use Rattle.laws.specs.LoopsLaws.{every-at, every_take, every_drop}
 use Rattle.octets.specs.Little.{is_octet}
 use Rattle.parts.specs.Parts.{is_zero}
 use Rattle.model.specs.Types.{Monitor}
-use Rattle.model.specs.AcceptedLaws.{Accepted, accepted}
+use Rattle.model.proofs.AcceptedLaws.{Accepted, accepted}
 use Rattle.model.specs.Monitors.{accepts}
 use Rattle.model.specs.Image.{monitor_row, extra_in, monitor_from, monitor_in}
 use Rattle.model.specs.Sound.{sound_extra}

@@ -12,7 +12,7 @@ use Rattle.laws.specs.Loops.{every}
 use Rattle.octets.specs.Little.{is_octet}
 use Rattle.model.specs.Types.{Monitor, Pair}
 use Rattle.model.specs.Level.{in_range, sum_in_range}
-use Rattle.model.specs.LevelsLaws.{Summed, summed-of, summed-holds}
+use Rattle.model.proofs.LevelsLaws.{Summed, summed-of, summed-holds}
 use Rattle.model.specs.Monitors.{accepts, sifts, windowed}
 use Rattle.model.specs.Sound.{octets_up_to, sound_settings, sound_extra, sound_monitor, sound_window, sound_latest, sound_empty, sound_fields}
 use Rattle.model.specs.Layout.{most_data, most_prefix}

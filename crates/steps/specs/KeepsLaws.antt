@@ -20,11 +20,8 @@ use Rattle.model.specs.Step.{step_typed, answer_typed, refusal_typed, act_typed,
 use Rattle.model.specs.Sound.{sound_settings, sound_model}
 use Rattle.steps.specs.ListsLaws.{all-weaken}
 use Rattle.steps.specs.FactsLaws.{Gathers, gathers-of}
-use Rattle.steps.specs.WholeLaws.{Kept, Held, Pairs, Monitors, Sound, sound-of, sound-holds}
+use Rattle.steps.specs.WholeLaws.{Kept, Held, Pairs, Monitors, Sound}
 use Rattle.steps.specs.TypedLaws.{Formed, typed-formed}
-use Rattle.steps.specs.MovesLaws.{by-test}
-use Rattle.steps.specs.Turns.{pairs-later, tick-pairs, packet-pairs}
-use Rattle.steps.specs.OrdersLaws.{Commanded, commanded-keeps}
 use Rattle.steps.specs.ExecutedLaws.{Executed, executed, Same, commanded-same}
 
 -- a state with the settings and the position of a sound one, and lists that are sound one frame later
@@ -39,51 +36,3 @@ moved-sound m n s h same on ms ps =
       monitors = ms;
       pairs = subst (λ k. Pairs (k + 1) n.mons n.pairs) (sym same.position) ps;
     }
-
--- one step, by kinds
-pub step-sound : (m : Model) (f : Typed) → Sound m → m.position < 4294967295 → Formed f → refusal_typed m f ≡ 0
-    → Sound (step_typed m f)
-unfolding step_typed with_lists refusal_typed
-step-sound m (command o l) s h t e =
-    let c : Commanded m (commanded m l) = commanded-keeps m s l t.octets in
-    moved-sound m (commanded m l) s h (commanded-same m l) c.filter-most c.lists.monitors
-    (pairs-later m.position (m.position + 1) (commanded m l).mons (commanded m l).pairs (omega arith)
-    c.lists.pairs)
-step-sound m (packet p) s h t e =
-    let same : Same m (with_lists m m.mons (packet_pairs m p)) =
-    record { position = refl; opcode = refl; prefix = refl } in
-    moved-sound m (with_lists m m.mons (packet_pairs m p)) s h same s.filter-most s.monitors
-    (packet-pairs m p s.monitors t h s.pairs)
-step-sound m tick s h t e =
-    let same : Same m (with_lists m m.mons (tick_pairs m)) =
-    record { position = refl; opcode = refl; prefix = refl } in
-    moved-sound m (with_lists m m.mons (tick_pairs m)) s h same s.filter-most s.monitors
-    (pairs-later m.position (m.position + 1) m.mons (tick_pairs m) (omega arith) (tick-pairs m s.pairs))
-step-sound m bad s h t e = absurd (omega arith)
-
--- An executed frame leaves a sound state sound.
-pub keeps : (m n : Model) (b : Body) (wrote : List ℕ) → sound_model m ≡ true → m.position < last_number
-    → every is_octet b.payload ≡ true → act m b ≡ done n wrote → sound_model n ≡ true
-unfolding last_number
-keeps m n b wrote s h o e =
-    let x : Executed m (typed b) n wrote = executed m n b wrote e in
-    let t : Sound (step_typed m (typed b)) = step-sound m (typed b) (sound-of m s) h (typed-formed b o) x.passes in
-    sound-holds n (subst Sound x.state t)
-
--- "A fresh state: position 0, filter off (000), no monitors", with settings in range
-pub fresh-sound : (opcode : ℕ) (prefix : List ℕ) → sound_settings opcode prefix ≡ true
-    → sound_model (fresh opcode prefix) ≡ true
-unfolding fresh
-fresh-sound opcode prefix e =
-    sound-holds (fresh opcode prefix) (record {
-      position-most = omega arith;
-      filter-most = omega arith;
-      settings = e;
-      monitors = record { rising = tt; rows = tt };
-      pairs = record { room = omega arith; once = tt; held = tt };
-    })
-
--- "the blank state: fresh, opcode 0xFC00, empty prefix"
-pub blank-sound : sound_model blank ≡ true
-unfolding blank sound_settings Rattle.model.specs.Sound.octets_up_to every
-blank-sound = fresh-sound 64512 [] refl

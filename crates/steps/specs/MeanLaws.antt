@@ -8,7 +8,7 @@ use Rattle.std.specs.Int.Signed.{mag}
 use Rattle.laws.specs.TestsLaws.{cases-le}
 use Rattle.model.specs.Level.{level, d_bm, raised, signed, wrapped, floor_of, sum_in_range, add_rssi, mean}
 use Rattle.model.specs.SignedLaws.{sub-up, sub-down, sub_same, sub-le, sub-lt, sub-add, sub-times, neg-sub}
-use Rattle.model.specs.LevelsLaws.{Summed, summed-of}
+use Rattle.model.proofs.LevelsLaws.{Summed, summed-of}
 use Rattle.steps.specs.SumsLaws.{raised-add}
 
 -- one packet more: the stored sum is the sum of the RSSI values

@@ -8,12 +8,12 @@ use Rattle.laws.specs.Loops.{every}
 use Rattle.octets.specs.Little.{octets_of, is_octet}
 use Rattle.octets.specs.LittleLaws.{length-octets, octets-octets}
 use Rattle.rule.specs.Engine.{slot}
-use Rattle.rule.specs.FindsLaws.{slot-some, Lowest}
+use Rattle.rule.proofs.FindsLaws.{slot-some, Lowest}
 use Rattle.model.specs.Types.{Model, Monitor, Packet, Pair, scan_text}
 use Rattle.model.specs.Level.{signed, floor_of, mean, in_range}
-use Rattle.model.specs.LevelsLaws.{wrapped-below}
+use Rattle.model.proofs.LevelsLaws.{wrapped-below}
 use Rattle.advert.specs.Condition.{form_of, form_status}
-use Rattle.advert.specs.Laws.{status-below}
+use Rattle.advert.proofs.Laws.{status-below}
 use Rattle.model.specs.Monitors.{allowed, parameters, settings_good, condition_fault, fault_of, monitor_of}
 use Rattle.model.specs.Commands.{adds_monitor, table, params_in, present, sub_of, read_status, add_status, cancel_status, enable_status}
 use Rattle.model.specs.Commands.{status, handle_or, new_handle, features, success, failure, returned}

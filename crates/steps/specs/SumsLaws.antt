@@ -4,7 +4,7 @@ use Rattle.std.specs.Prelude.{ℕ, ◌+◌, ◌<◌, ◌≡◌, true}
 use Rattle.std.proofs.Common.{arith}
 use Rattle.model.specs.Level.{level, raised, in_range, add_rssi}
 use Rattle.model.specs.Levels.{extended}
-use Rattle.model.specs.LevelsLaws.{Summed, range-of, add-extended}
+use Rattle.model.proofs.LevelsLaws.{Summed, range-of, add-extended}
 
 -- the sum rises by the RSSI, and is not carried over
 pub raised-add : (sum packets o : ℕ) → packets < 4294967295 → Summed sum packets

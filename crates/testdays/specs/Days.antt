@@ -9,7 +9,7 @@ use Rattle.rule.specs.Base.{In}
 use Rattle.sessions.specs.Machine.{Line, text}
 use Rattle.sessions.specs.Saved.{cut}
 use Rattle.model.specs.Frames.{Body, read}
-use Rattle.model.specs.Radio.{radio, core}
+use Rattle.model.proofs.Radio.{radio, core}
 use Rattle.editions.specs.Editions.{Edition, prefix_for, is_image_on}
 use Rattle.wholes.specs.Engine.{block_in}
 use Rattle.chains.specs.Chain.{Image}

@@ -17,7 +17,7 @@ use Rattle.laws.specs.RowsLaws.{get_d-row}
 use Rattle.rule.specs.Base.{All, map_some as move_each}
 use Rattle.rule.specs.BaseLaws.{each-length}
 use Rattle.rule.specs.Engine.{find}
-use Rattle.rule.specs.FindsLaws.{find-all}
+use Rattle.rule.proofs.FindsLaws.{find-all}
 use Rattle.sessions.specs.Machine.{last_number}
 use Rattle.model.specs.Types.{Model, Monitor, Pair, with_lists, moved}
 use Rattle.model.specs.Monitors.{filtering, parameters}
@@ -28,8 +28,8 @@ use Rattle.model.specs.Step.{step_typed, answer_typed, refusal_typed}
 use Rattle.model.specs.Sound.{sound_model}
 use Rattle.model.specs.Block.{pad_to, pair_block, padded, monitor_place, advanced}
 use Rattle.steps.specs.Stepped.{Stepped}
-use Rattle.steps.specs.KeepsLaws.{step-sound}
-use Rattle.steps.specs.WholeLaws.{sound-of, sound-holds}
+use Rattle.steps.proofs.KeepsLaws.{step-sound}
+use Rattle.steps.proofs.WholeLaws.{sound-of, sound-holds}
 use Rattle.blocks.specs.Facts.{SoundMonitor, SoundModel}
 use Rattle.blocks.specs.FactsLaws.{sound-facts}
 use Rattle.blocks.specs.MonitorsLaws.{monitor_in-some}

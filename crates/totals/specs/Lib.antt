@@ -5,6 +5,5 @@ pub mod TwoLaws
 pub mod Table
 pub mod TableLaws
 pub mod Join
-pub mod JoinLaws
 pub mod Gains
 pub mod GainsLaws

@@ -14,7 +14,7 @@ use Rattle.std.proofs.Math.ListN.{length, take, take-append-drop}
 use Rattle.laws.specs.Tests.{pick}
 use Rattle.sessions.specs.Machine.{Machine, NoLF}
 use Rattle.sessions.specs.Saved.{replay_lines, replay, cut, cut_from, Enough}
-use Rattle.replays.specs.PiecesLaws.{cut-clear}
+use Rattle.replays.proofs.PiecesLaws.{cut-clear}
 use Rattle.turns.specs.EventsLaws.{drop-part}
 use Rattle.turns.specs.WholesLaws.{Tells}
 use Rattle.turns.specs.SplitLaws.{ahead}

@@ -9,8 +9,8 @@ use Rattle.model.specs.Block.{model_of}
 use Rattle.editions.specs.Editions.{Gateway, sound_gateway, act_on}
 use Rattle.editions.specs.Engine.{gateways}
 use Rattle.wholes.specs.Whole.{held_whole, whole, sound_whole}
-use Rattle.wholes.specs.LaidLaws.{held_whole_lem, core-whole, sound-whole, whole-good, whole-held}
-use Rattle.wholes.specs.RestoresLaws.{engine-restores}
+use Rattle.wholes.proofs.LaidLaws.{held_whole_lem, core-whole, sound-whole, whole-good, whole-held}
+use Rattle.wholes.proofs.RestoresLaws.{engine-restores}
 use Rattle.wholes.specs.Engine.{engine, act_whole, on_wholes}
 use Rattle.failover.specs.ReadLaws.{fits, reads, one_line}
 use Rattle.failover.specs.Grows.{Went, went}

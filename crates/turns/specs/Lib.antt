@@ -11,7 +11,6 @@ pub mod SwapLaws
 pub mod Takeover
 pub mod MovesTurns
 pub mod Ends
-pub mod EndsLaws
 pub mod PartedLaws
 pub mod StandsTurns
 pub mod ArrivesLaws

@@ -9,9 +9,9 @@ use Rattle.laws.specs.Rows.{flat}
 use Rattle.laws.specs.RowsLaws.{flat_append}
 use Rattle.sessions.specs.Machine.{NoLF, OneLine}
 use Rattle.sessions.specs.Saved.{cut, cut_from}
-use Rattle.sessions.specs.CutsLaws.{AllLines, cut-lines}
-use Rattle.replays.specs.PiecesLaws.{rest, rest-clear, cut-append, flat-cut, drop-lines}
-use Rattle.replays.specs.GoesOnLaws.{all_lines, cut-behind}
+use Rattle.sessions.proofs.CutsLaws.{AllLines, cut-lines}
+use Rattle.replays.proofs.PiecesLaws.{rest, rest-clear, cut-append, flat-cut, drop-lines}
+use Rattle.replays.proofs.GoesOnLaws.{all_lines, cut-behind}
 
 flat-flatten : (ls : List (List ℕ)) → flat ls ≡ flatten ls
 unfolding flat flatten

@@ -20,9 +20,9 @@ use Rattle.sessions.specs.Machine.{Machine, Outcome, refused, done, text, answer
 use Rattle.sessions.specs.Session.{answer}
 use Rattle.sessions.specs.Saved.{Replayed, with_answer, resume, replay_lines, Enough}
 use Rattle.replays.specs.Into.{Reached, nothing_read, reach, line_from, lines_while}
-use Rattle.replays.specs.PiecesLaws.{stays, line-goes}
-use Rattle.replays.specs.WholeLaws.{answer-room}
-use Rattle.replays.specs.GoesOnLaws.{lent-free}
+use Rattle.replays.proofs.PiecesLaws.{stays, line-goes}
+use Rattle.replays.proofs.WholeLaws.{answer-room}
+use Rattle.replays.proofs.GoesOnLaws.{lent-free}
 use Rattle.turns.specs.EventsLaws.{Whole}
 use Rattle.turns.specs.WholesLaws.{Tells}
 

@@ -131,7 +131,7 @@ module _ (M : Machine) (𝓣 : Tells M) (after : ℕ) (numbered : Bool) (room ca
     taken = p.taken ∙ zero-add (length (flat p.before))
 
     -- what is left, before the rest
-    cut-rest : cut (left ++ v) ≡ p.left ++ cut (Rattle.replays.specs.PiecesLaws.rest t ++ v)
+    cut-rest : cut (left ++ v) ≡ p.left ++ cut (Rattle.replays.proofs.PiecesLaws.rest t ++ v)
     cut-rest = ap (λ (n : ℕ). cut (drop n t ++ v)) taken ∙ cut_left t p.before p.left p.split v
 
     turn-whole : (lent : ℕ → ℕ) → Enough lent
@@ -139,15 +139,15 @@ module _ (M : Machine) (𝓣 : Tells M) (after : ℕ) (numbered : Bool) (room ca
     unfolding replay nothing_read
     turn-whole lent big =
         ap (replay_lines M lent x.state) (cut-whole t p.before p.left p.split v
-        ∙ sym (append_assoc p.before p.left (cut (Rattle.replays.specs.PiecesLaws.rest t ++ v)))
-        ∙ ap (λ (ls : List (List ℕ)). ls ++ cut (Rattle.replays.specs.PiecesLaws.rest t ++ v)) (sym p.split))
-        ∙ p.whole_run (cut (Rattle.replays.specs.PiecesLaws.rest t ++ v)) lent big
+        ∙ sym (append_assoc p.before p.left (cut (Rattle.replays.proofs.PiecesLaws.rest t ++ v)))
+        ∙ ap (λ (ls : List (List ℕ)). ls ++ cut (Rattle.replays.proofs.PiecesLaws.rest t ++ v)) (sym p.split))
+        ∙ p.whole_run (cut (Rattle.replays.proofs.PiecesLaws.rest t ++ v)) lent big
         ∙ ap (λ (ls : List (List ℕ)). ahead p.gave (replay_lines M lent end.state ls)) (sym cut-rest)
 
     turn_lines : length (cut (t ++ v)) ≡ length (cut (take end.taken t)) + length (cut (left ++ v))
     turn_lines =
         ap length (cut-whole t p.before p.left p.split v)
-        ∙ length-append p.before (p.left ++ cut (Rattle.replays.specs.PiecesLaws.rest t ++ v))
+        ∙ length-append p.before (p.left ++ cut (Rattle.replays.proofs.PiecesLaws.rest t ++ v))
         ∙ ap (λ (ls : List (List ℕ)). length p.before + length ls) (sym cut-rest)
         ∙ ap (λ (ls : List (List ℕ)). length ls + length (cut (left ++ v)))
         (sym (ap (λ (n : ℕ). cut (take n t)) taken ∙ cut-before t p.before p.left p.split))
@@ -179,7 +179,7 @@ module _ (M : Machine) (𝓣 : Tells M) (after : ℕ) (numbered : Bool) (room ca
     turn-halts k e lent big =
         let r : (end.stop ≡ some k) × (k ≡ 3 → ⊥) = stop-of (goes (M.pos end.state)) end.stop k e in
         ap (replay_lines M lent end.state) cut-rest
-        ∙ p.halts k r.0 r.1 (cut (Rattle.replays.specs.PiecesLaws.rest t ++ v)) lent big
+        ∙ p.halts k r.0 r.1 (cut (Rattle.replays.proofs.PiecesLaws.rest t ++ v)) lent big
 
     turn-over : next ≡ ended → ⊥
     unfolding follows

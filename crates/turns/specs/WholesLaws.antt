@@ -19,7 +19,7 @@ use Rattle.rule.specs.Base.{All}
 use Rattle.rule.specs.Engine.{find}
 use Rattle.sessions.specs.Machine.{Machine, Laws, Line, Executes, Outcome, refused, done, text, answer_room, last_number}
 use Rattle.sessions.specs.Session.{answer, judge, refuse_if}
-use Rattle.sessions.specs.RefusalsLaws.{answer-unsound, answer-short, answer-judge}
+use Rattle.sessions.proofs.RefusalsLaws.{answer-unsound, answer-short, answer-judge}
 use Rattle.model.specs.Types.{Model, Monitor, Packet, Pair}
 use Rattle.lines.specs.Hex.{is_text, octets_in}
 use Rattle.lines.specs.TextsLaws.{length-is-text}
@@ -36,16 +36,17 @@ use Rattle.model.specs.Block.{model_of}
 use Rattle.wholes.specs.Engine.{engine}
 use Rattle.steps.specs.ListsLaws.{all-weaken}
 use Rattle.steps.specs.FactsLaws.{fields-of}
-use Rattle.steps.specs.WholeLaws.{Held, Sound, sound-of}
+use Rattle.steps.specs.WholeLaws.{Held, Sound}
+use Rattle.steps.proofs.WholeLaws.{sound-of}
 use Rattle.steps.specs.Typed.{Sent}
 use Rattle.steps.specs.TypedLaws.{Formed, typed-formed}
 use Rattle.steps.specs.ExecutedLaws.{Executed, executed}
-use Rattle.steps.specs.NamedTurns.{Named, held-named, named-moved, turns-named, stop-named, starts-named}
+use Rattle.steps.proofs.NamedTurns.{Named, held-named, named-moved, turns-named, stop-named, starts-named}
 use Rattle.failover.specs.ReadLaws.{body-octets}
-use Rattle.wholes.specs.LaidLaws.{whole-good}
+use Rattle.wholes.proofs.LaidLaws.{whole-good}
 use Rattle.wholes.specs.Whole.{held_whole}
 use Rattle.editions.specs.Editions.{Gateway, with_prefix, prefix_for}
-use Rattle.editions.specs.FactsLaws.{Parts, parts-of, prefix-fits, prefixed-sound}
+use Rattle.editions.proofs.FactsLaws.{Parts, parts-of, prefix-fits, prefixed-sound}
 use Rattle.turns.specs.BlocksLaws.{laws, Left, left}
 use Rattle.turns.specs.EventsLaws.{Whole, nothing, whole-one, whole_append}
 use Rattle.model.specs.Layout.{most_monitors}

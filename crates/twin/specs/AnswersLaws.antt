@@ -24,7 +24,7 @@ use Rattle.statuses.specs.AnswersLaws.{octet-at}
 use Rattle.commands.specs.Replies.{Replied, features_of, prefix_in}
 use Rattle.pasts.specs.Past
 use Rattle.pasts.specs.Past.{monitor_after, monitors_after}
-use Rattle.pasts.specs.MonitorsLaws.{free-slot, live}
+use Rattle.pasts.proofs.MonitorsLaws.{free-slot, live}
 use Rattle.pasts.specs.Says.{answer_for}
 use Rattle.twin.specs.declared.watch.Seen.{Seen}
 use Rattle.twin.specs.Table.{Commands, kind_at, past_at, payload_at}

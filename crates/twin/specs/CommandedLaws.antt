@@ -19,7 +19,7 @@ use Rattle.pasts.specs.Pair
 use Rattle.pasts.specs.Pair.{cancels}
 use Rattle.pasts.specs.Past
 use Rattle.pasts.specs.Past.{enable_in, enables, filter_after, monitor_after, offered, offers}
-use Rattle.pasts.specs.WatchingLaws.{watch-command}
+use Rattle.pasts.proofs.WatchingLaws.{watch-command}
 use Rattle.twin.specs.declared.watch.Seen.{Seen}
 use Rattle.twin.specs.Table.{Commands, kind_at, past_at, payload_at}
 use Rattle.twin.specs.Hears.{Formed}

@@ -29,7 +29,7 @@ use Rattle.pasts.specs.Pair
 use Rattle.pasts.specs.Pair.{pair_of}
 use Rattle.pasts.specs.Past
 use Rattle.pasts.specs.Past.{filter_after, monitor_after, monitors_after, pair_after, history_state, watch}
-use Rattle.pasts.specs.MonitorsLaws.{after-accepted, live}
+use Rattle.pasts.proofs.MonitorsLaws.{after-accepted, live}
 use Rattle.twin.specs.declared.watch.Begun.{Begun}
 use Rattle.twin.specs.declared.watch.Seen.{Seen}
 use Rattle.twin.specs.Table.{after, past_at}

@@ -13,8 +13,8 @@ use Rattle.model.specs.Monitors.{filtering, lets_through, missing, monitor_of, p
 use Rattle.model.specs.Layout.{extra_size, first_type_in, second_type_in}
 use Rattle.statuses.specs.Statuses.{type_by}
 use Rattle.marks.specs.Fields.{Framed}
-use Rattle.marks.specs.FieldsLaws.{packet-framed}
-use Rattle.marks.specs.OptionsLaws.{odd-off, odd-on}
+use Rattle.marks.proofs.FieldsLaws.{packet-framed}
+use Rattle.marks.proofs.OptionsLaws.{odd-off, odd-on}
 use Rattle.pasts.specs.Pair.{alike}
 use Rattle.twin.specs.Table.{payload_at}
 use Rattle.twin.specs.TableLaws.{sends-long}

@@ -8,7 +8,7 @@ use Rattle.laws.specs.Loops.{when}
 use Rattle.model.specs.Frames.{packet_of}
 use Rattle.model.specs.Level.{add_rssi}
 use Rattle.model.specs.Levels.{extended}
-use Rattle.model.specs.LevelsLaws.{add-extended}
+use Rattle.model.proofs.LevelsLaws.{add-extended}
 use Rattle.pasts.specs.Pair.{matching_packets, newest, sum_of, window}
 use Rattle.twin.specs.Table.{Sends, after, payload_at}
 use Rattle.twin.specs.Hears.{Formed, hears, start_of}

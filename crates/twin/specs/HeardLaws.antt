@@ -16,9 +16,9 @@ use Rattle.statuses.specs.SecondLaws.{type-said}
 use Rattle.resolve.specs.Resolve.{resolves_by}
 use Rattle.advert.specs.IrkLaws.{irk-public, irk-random}
 use Rattle.marks.specs.Options.{key_meets, peer_meets}
-use Rattle.marks.specs.OptionsLaws.{bit-off, bit-on, odd-off, odd-on}
+use Rattle.marks.proofs.OptionsLaws.{bit-off, bit-on, odd-off, odd-on}
 use Rattle.marks.specs.Fields.{Framed, scan_at}
-use Rattle.marks.specs.FieldsLaws.{scan-is}
+use Rattle.marks.proofs.FieldsLaws.{scan-is}
 use Rattle.twin.specs.Heard.{Adds}
 
 pub type-is : (l : List ℕ) (at : ℕ) → at ≡ type_by (slice_index l 0) → at ≡ type_in l

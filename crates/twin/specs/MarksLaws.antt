@@ -9,11 +9,11 @@ use Rattle.laws.specs.TestsLaws.{and-not-left}
 use Rattle.laws.specs.Loops.{some as some_of}
 use Rattle.model.specs.Types.{Monitor, Packet}
 use Rattle.model.specs.Level.{level}
-use Rattle.model.specs.LevelsLaws.{most-levels}
+use Rattle.model.proofs.LevelsLaws.{most-levels}
 use Rattle.model.specs.Frames.{packet_of}
 use Rattle.model.specs.Monitors.{matches, monitor_of, run_of, strong}
 use Rattle.marks.specs.Fields.{Framed}
-use Rattle.marks.specs.FieldsLaws.{packet-framed}
+use Rattle.marks.proofs.FieldsLaws.{packet-framed}
 use Rattle.pasts.specs.Pair.{kept_in, silent_in}
 use Rattle.twin.specs.declared.watch.Begun.{Begun}
 use Rattle.twin.specs.declared.watch.Seen.{Seen}

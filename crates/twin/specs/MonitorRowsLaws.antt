@@ -14,7 +14,7 @@ use Rattle.laws.specs.Put.{put, put_if}
 use Rattle.laws.specs.PutLaws.{length-put, put-nil, put-push, put_right, put_then, set-put}
 use Rattle.laws.specs.RowsLaws.{put_whole}
 use Rattle.model.specs.Types.{Monitor}
-use Rattle.model.specs.AcceptedLaws.{accepted}
+use Rattle.model.proofs.AcceptedLaws.{accepted}
 use Rattle.model.specs.Monitors.{accepts, extra_of, is_second, monitor_of, type_in}
 use Rattle.model.specs.Image.{extra_text, monitor_row}
 use Rattle.model.specs.Block.{extra_row, monitor_place, pad_to}

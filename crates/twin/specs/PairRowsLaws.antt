@@ -11,7 +11,7 @@ use Rattle.laws.specs.RowsLaws.{flat_append}
 use Rattle.octets.specs.Little.{octets_of}
 use Rattle.octets.specs.LittleLaws.{length-octets}
 use Rattle.rule.specs.Base.{All}
-use Rattle.marks.specs.FieldsLaws.{packet-framed}
+use Rattle.marks.proofs.FieldsLaws.{packet-framed}
 use Rattle.model.specs.Types.{Packet, device_of, device}
 use Rattle.model.specs.Types
 use Rattle.model.specs.Frames.{packet_of}

@@ -17,8 +17,8 @@ use Rattle.pasts.specs.Pair.{cancels, silent_in}
 use Rattle.pasts.specs.ListsLaws.{all_keep, keep-agree, keep-map}
 use Rattle.pasts.specs.Past
 use Rattle.pasts.specs.Past.{enables, filter_after, monitor_after, offered, offers, after_frame, since_start, turns_by}
-use Rattle.pasts.specs.DeedsLaws.{since-more}
-use Rattle.pasts.specs.WatchingLaws.{watch-packet, watch-tick}
+use Rattle.pasts.proofs.DeedsLaws.{since-more}
+use Rattle.pasts.proofs.WatchingLaws.{watch-packet, watch-tick}
 use Rattle.twin.specs.declared.watch.Begun.{Begun}
 use Rattle.twin.specs.declared.watch.Seen.{Seen}
 use Rattle.twin.specs.Table.{after, kind_at, past_at, payload_at, typed_at}

@@ -11,7 +11,7 @@ use Rattle.octets.specs.Little.{little}
 use Rattle.laws.specs.Loops.{some as some_of, when}
 use Rattle.model.specs.Types.{device_of}
 use Rattle.model.specs.Level.{level}
-use Rattle.model.specs.LevelsLaws.{below-levels}
+use Rattle.model.proofs.LevelsLaws.{below-levels}
 use Rattle.model.specs.Frames.{command, packet, tick, bad, packet_of, typed, is_packet}
 use Rattle.model.specs.Monitors.{good, matches, monitor_of}
 use Rattle.pasts.specs.Pair.{count, matching_at, silent_in}

@@ -23,9 +23,9 @@ use Rattle.pasts.specs.Pair
 use Rattle.pasts.specs.Pair.{newest, silent_in, ticks_among, window, window_ticks}
 use Rattle.pasts.specs.Past.{filter_after, since_start, watch}
 use Rattle.pasts.specs.Past
-use Rattle.pasts.specs.PairsLaws.{apart}
-use Rattle.pasts.specs.DeedsLaws.{since-more}
-use Rattle.pasts.specs.MovesLaws.{Watched, watched-all}
+use Rattle.pasts.proofs.PairsLaws.{apart}
+use Rattle.pasts.proofs.DeedsLaws.{since-more}
+use Rattle.pasts.proofs.MovesLaws.{Watched, watched-all}
 use Rattle.pasts.specs.Says.{closes, ends, has_told, tells_window, tick_says, tick_says_of}
 use Rattle.twin.specs.declared.watch.Begun.{Begun}
 use Rattle.twin.specs.declared.watch.Seen.{Seen}

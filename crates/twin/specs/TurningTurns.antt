@@ -15,7 +15,7 @@ use Rattle.model.specs.Frames.{Typed, packet_of}
 use Rattle.model.specs.Events.{packet_reports, start_event, stop_event}
 use Rattle.model.specs.Layout.{event_most, most_monitors, most_pairs, turn_most, turns_most}
 use Rattle.marks.specs.Fields.{Framed}
-use Rattle.marks.specs.FieldsLaws.{packet-framed}
+use Rattle.marks.proofs.FieldsLaws.{packet-framed}
 use Rattle.packets.specs.Writes.{PutAt}
 use Rattle.pasts.specs.Pair
 use Rattle.pasts.specs.Pair.{pair_of}

@@ -10,11 +10,11 @@ use Rattle.laws.specs.Loops.{keep, only, some as some_of}
 use Rattle.rule.specs.Base.{All, Ordered}
 use Rattle.steps.specs.ListsLaws.{all-weaken}
 use Rattle.model.specs.Level.{level}
-use Rattle.model.specs.LevelsLaws.{most-levels}
+use Rattle.model.proofs.LevelsLaws.{most-levels}
 use Rattle.pasts.specs.ListsLaws.{keep_all, length-map}
 use Rattle.pasts.specs.Pair
 use Rattle.pasts.specs.Past.{among, same_start, weaker, weakest}
-use Rattle.pasts.specs.DeedsLaws.{Apart, weakest-all}
+use Rattle.pasts.proofs.DeedsLaws.{Apart, weakest-all}
 use Rattle.twin.specs.declared.watch.Begun.{Begun}
 use Rattle.twin.specs.Seen.{Least, but_at, no_begun, start_at}
 use Rattle.twin.specs.StartsLaws.{all_get_d}

@@ -3,9 +3,4 @@
 -- frames.
 pub mod Twin
 pub mod Claim
-pub mod SameLaws
-pub mod CallsLaws
 pub mod First
-pub mod Proved
-pub mod HistoryLaws
-pub mod EdgesTurns

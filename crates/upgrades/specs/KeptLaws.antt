@@ -12,9 +12,9 @@ use Rattle.model.specs.Sound.{sound_model}
 use Rattle.model.specs.Layout.{prefix_length_at}
 use Rattle.model.specs.Image.{head_row, monitor_text, monitor_row, name_of, extra_text, pair_row, end_row, records}
 use Rattle.editions.specs.Editions.{Gateway, Edition, edition_row, records_on, image_on, read_on}
-use Rattle.editions.specs.ImagesLaws.{restores}
+use Rattle.editions.proofs.ImagesLaws.{restores}
 use Rattle.failover.specs.Alone.{only, alone}
-use Rattle.failover.specs.AloneLaws.{alone-sound}
+use Rattle.failover.proofs.AloneLaws.{alone-sound}
 use Rattle.upgrades.specs.Formats.{filled, old_pair, new_pair, earlier, fill_line, renewed}
 
 -- a monitor's line stays

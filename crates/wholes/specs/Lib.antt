@@ -8,12 +8,6 @@ pub mod Heads
 pub mod HeadsLaws
 pub mod Engine
 pub mod Sizes
-pub mod SizesLaws
 pub mod Laid
-pub mod LaidLaws
 pub mod Kept
-pub mod KeptLaws
 pub mod Watched
-pub mod WatchedLaws
-pub mod RestoresLaws
-pub mod EdgesLaws

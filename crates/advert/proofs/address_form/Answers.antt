@@ -1,5 +1,5 @@
 use Rattle.std.proofs.Common.{sym, arith}
-use Rattle.advert.specs.AddressLaws.{address-none, address-form}
+use Rattle.advert.proofs.AddressLaws.{address-none, address-form}
 use Rattle.advert.proofs.address_form.Goals as goal
 
 pub returns-then-condition-eq0 : goal.returns-then-condition-eq0

@@ -1,4 +1,4 @@
-use Rattle.advert.specs.AddressLaws.{address-other, address-meets}
+use Rattle.advert.proofs.AddressLaws.{address-other, address-meets}
 use Rattle.std.proofs.Common.{sym, arith}
 use Rattle.advert.proofs.address_meets.Goals as goal
 

@@ -1,5 +1,5 @@
 use Rattle.std.proofs.Common.{◌-◌, sym, refl, ◌∙◌, arith}
-use Rattle.advert.specs.UuidLaws.{listed-end, listed-hit, listed-miss}
+use Rattle.advert.proofs.UuidLaws.{listed-end, listed-hit, listed-miss}
 use Rattle.advert.proofs.lists.Goals as goal
 
 pub loop-i-init : goal.loop-i-init

@@ -1,9 +1,9 @@
 use Rattle.std.proofs.Common.{◌-◌, sym, refl, ◌∙◌, arith}
 use Rattle.advert.specs.PartsLaws.{part-least}
 use Rattle.advert.specs.Pattern.{patterns_meet, patterns}
-use Rattle.advert.specs.PatternLaws.{asked-end, asked-none, asked-hit, asked-miss}
+use Rattle.advert.proofs.PatternLaws.{asked-end, asked-none, asked-hit, asked-miss}
 use Rattle.advert.specs.Cost.{in64}
-use Rattle.advert.specs.CostLaws.{counted_none, counted-end, counted-last, counted-hit, counted-miss}
+use Rattle.advert.proofs.CostLaws.{counted_none, counted-end, counted-last, counted-hit, counted-miss}
 use Rattle.advert.proofs.match_cost.Goals as goal
 
 pub loop-i-init : goal.loop-i-init

@@ -2,7 +2,7 @@ use Rattle.std.proofs.Common.{◌≡◌, ◌-◌, length, drop}
 use Rattle.laws.specs.Loops.{some}
 use Rattle.advert.specs.Parts.{parts}
 use Rattle.advert.specs.Pattern.{patterns_meet, pattern_meets}
-use Rattle.advert.specs.CostLaws.{Counted}
+use Rattle.advert.proofs.CostLaws.{Counted}
 use Rattle.advert.proofs.match_cost.Given as goal
 
 abbrev pub invariant-loop-i : goal.invariant-loop-i

@@ -1,4 +1,4 @@
-use Rattle.advert.specs.EitherLaws.{left-all, tried-none, tried-hit, tried-miss, tried-done}
+use Rattle.advert.proofs.EitherLaws.{left-all, tried-none, tried-hit, tried-miss, tried-done}
 use Rattle.laws.specs.Loops.{some}
 use Rattle.std.proofs.Common.{sym, ap, ◌∙◌, arith}
 use Rattle.advert.proofs.some_lists.Goals as goal

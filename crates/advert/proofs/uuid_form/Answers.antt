@@ -1,6 +1,6 @@
 use Rattle.std.proofs.Common.{sym, arith}
 use Rattle.advert.specs.Uuid.{uuid_size}
-use Rattle.advert.specs.UuidLaws.{uuid-none, uuid-form}
+use Rattle.advert.proofs.UuidLaws.{uuid-none, uuid-form}
 use Rattle.advert.proofs.uuid_form.Goals as goal
 
 pub returns-then-condition-eq0 : goal.returns-then-condition-eq0

@@ -1,7 +1,7 @@
 use Rattle.std.proofs.Common.{◌≡◌, true, sym, ◌∙◌, arith, length-drop}
 use Rattle.advert.specs.PartsLaws.{rest-whole}
 use Rattle.advert.specs.Uuid.{uuid_form}
-use Rattle.advert.specs.UuidLaws.{uuid-bounds, uuid-bad, uuid-of}
+use Rattle.advert.proofs.UuidLaws.{uuid-bounds, uuid-bad, uuid-of}
 use Rattle.advert.proofs.uuid_meets.Goals as goal
 
 pub returns-then-not-uuid_form : goal.returns-then-not-uuid_form

@@ -1,5 +1,5 @@
 use Rattle.std.proofs.Common.{length}
-use Rattle.month.specs.NumbersLaws.{rowed}
+use Rattle.month.proofs.NumbersLaws.{rowed}
 use Rattle.bournejade.proofs.bournejade_count_line.Goals as goal
 
 pub returns : goal.returns

@@ -1,5 +1,5 @@
 use mathlib.Core.Path.{sym, ◌∙◌}
-use Rattle.marks.specs.FieldsLaws.{packet-framed}
+use Rattle.marks.proofs.FieldsLaws.{packet-framed}
 use Rattle.steps.specs.TypedLaws.{packet-has}
 use Rattle.counts.specs.FramesLaws.{adds-packet, adds-no-packet}
 use Rattle.totals.specs.GainsLaws.{no-gains-wide}

@@ -1,5 +1,5 @@
 use mathlib.Core.Path.{sym, ◌∙◌}
-use Rattle.marks.specs.FieldsLaws.{packet-framed}
+use Rattle.marks.proofs.FieldsLaws.{packet-framed}
 use Rattle.steps.specs.TypedLaws.{scanned-has}
 use Rattle.counts.specs.FramesLaws.{adds-scanned, adds-no-scanned}
 use Rattle.totals.specs.GainsLaws.{no-gains-wide}

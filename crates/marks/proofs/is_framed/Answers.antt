@@ -1,4 +1,4 @@
-use Rattle.marks.specs.FieldsLaws.{framed-short, framed-over, framed-plain, framed-cut, framed-scan}
+use Rattle.marks.proofs.FieldsLaws.{framed-short, framed-over, framed-plain, framed-cut, framed-scan}
 use lib.ListN.{get_or}
 use mathlib.Core.Path.{◌≡◌, ◌∙◌, ap}
 use native.Mathlib.Omega.{arith}

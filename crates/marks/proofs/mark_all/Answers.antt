@@ -5,10 +5,10 @@ use native.Mathlib.Omega.{arith}
 use lib.ListN.{length, get_or-replicate}
 use Rattle.model.specs.Frames.{packet_of}
 use Rattle.model.specs.Layout.{most_monitors}
-use Rattle.marks.specs.FieldsLaws.{fits-facts, marked-not, marked-done}
-use Rattle.marks.specs.AskedLaws.{all_asked}
+use Rattle.marks.proofs.FieldsLaws.{fits-facts, marked-not, marked-done}
+use Rattle.marks.proofs.AskedLaws.{all_asked}
 use Rattle.marks.specs.Admitted.{admitted}
-use Rattle.marks.specs.AdmittedLaws.{both-passes}
+use Rattle.marks.proofs.AdmittedLaws.{both-passes}
 use borrow.Author.Rules.{rules}
 use Rattle.marks.proofs.mark_all.Goals as goal
 

@@ -1,4 +1,4 @@
-use Rattle.marks.specs.MonitorsLaws.{mark-unmet, mark-met}
+use Rattle.marks.proofs.MonitorsLaws.{mark-unmet, mark-met}
 use Rattle.marks.proofs.mark_at.Goals as goal
 
 pub returns-then-met-eq0 : goal.returns-then-met-eq0

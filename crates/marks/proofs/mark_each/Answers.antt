@@ -8,13 +8,13 @@ use Rattle.laws.specs.Rows.{row}
 use Rattle.laws.specs.PutLaws.{put-nil}
 use Rattle.model.specs.Frames.{packet_of}
 use Rattle.model.specs.Layout.{monitor_size, monitors_at, most_monitors}
-use Rattle.marks.specs.MarksLaws.{marks-turn}
+use Rattle.marks.proofs.MarksLaws.{marks-turn}
 use Rattle.marks.specs.Monitors.{met_mark}
 use Rattle.marks.specs.Admitted.{met_if}
-use Rattle.marks.specs.AdmittedLaws.{met-if-end}
-use Rattle.marks.specs.KeyedLaws.{told_at_lem}
+use Rattle.marks.proofs.AdmittedLaws.{met-if-end}
+use Rattle.marks.proofs.KeyedLaws.{told_at_lem}
 use Rattle.marks.specs.Asked.{asked_of, mark_if}
-use Rattle.marks.specs.AskedLaws.{ask-said}
+use Rattle.marks.proofs.AskedLaws.{ask-said}
 use Rattle.marks.proofs.mark_each.Goals as goal
 
 pub loop-h-init : goal.loop-h-init

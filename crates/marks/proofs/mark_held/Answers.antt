@@ -4,11 +4,11 @@ use Prim.Native.Nat.{ℕ}
 use native.Mathlib.Omega.{arith}
 use lib.ListN.{length}
 use Rattle.model.specs.Frames.{packet_of}
-use Rattle.marks.specs.FieldsLaws.{fits-facts}
+use Rattle.marks.proofs.FieldsLaws.{fits-facts}
 use Rattle.marks.specs.Asked.{asked_of}
-use Rattle.marks.specs.AskedLaws.{marks_if, held-short, held-not, held-done, asked-for}
+use Rattle.marks.proofs.AskedLaws.{marks_if, held-short, held-not, held-done, asked-for}
 use Rattle.marks.specs.Admitted.{admitted}
-use Rattle.marks.specs.AdmittedLaws.{both-passes}
+use Rattle.marks.proofs.AdmittedLaws.{both-passes}
 use borrow.Author.Rules.{rules}
 use Rattle.marks.proofs.mark_held.Goals as goal
 

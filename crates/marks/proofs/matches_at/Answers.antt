@@ -1,10 +1,10 @@
-use Rattle.marks.specs.FieldsLaws.{clamped, scan-is}
+use Rattle.marks.proofs.FieldsLaws.{clamped, scan-is}
 use Prim.Native.Nat.{ℕ, ◌+◌, ◌-◌, ◌*◌}
 use mathlib.Core.List.{List}
 use mathlib.Core.Path.{◌≡◌, refl, ap, ◌∙◌}
 use native.Mathlib.Omega.{arith}
 use lib.ListN.{length, take, drop, get_or}
-use Rattle.marks.specs.MonitorsLaws.{match-asked}
+use Rattle.marks.proofs.MonitorsLaws.{match-asked}
 use Rattle.model.specs.Layout.{monitor_size, monitors_at}
 use Rattle.marks.proofs.matches_at.Goals as goal
 

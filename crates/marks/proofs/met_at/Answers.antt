@@ -1,8 +1,8 @@
 use mathlib.Core.Path.{refl, sym, ◌∙◌}
 use mathlib.Core.Bool.{true, false}
 use Rattle.marks.specs.Marks.{flag}
-use Rattle.marks.specs.MonitorsLaws.{met-unused, met-used}
-use Rattle.marks.specs.KeyedLaws.{key-none}
+use Rattle.marks.proofs.MonitorsLaws.{met-unused, met-used}
+use Rattle.marks.proofs.KeyedLaws.{key-none}
 use Rattle.marks.proofs.met_at.Goals as goal
 
 pub returns-then-s-at-eq0 : goal.returns-then-s-at-eq0

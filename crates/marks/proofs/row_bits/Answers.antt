@@ -1,5 +1,5 @@
 use mathlib.Core.Path.{refl}
-use Rattle.marks.specs.MonitorsLaws.{bits-made}
+use Rattle.marks.proofs.MonitorsLaws.{bits-made}
 use Rattle.marks.proofs.row_bits.Goals as goal
 
 pub returns : goal.returns

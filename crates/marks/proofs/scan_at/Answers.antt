@@ -1,4 +1,4 @@
-use Rattle.marks.specs.FieldsLaws.{scan-at-short, scan-at-none, scan-at-some}
+use Rattle.marks.proofs.FieldsLaws.{scan-at-short, scan-at-none, scan-at-some}
 use lib.ListN.{get_or}
 use mathlib.Core.Path.{◌≡◌, sym}
 use native.Mathlib.Omega.{arith}

@@ -1,6 +1,6 @@
 use Rattle.std.proofs.Common.{false, sym, refl, ◌∙◌}
 use Rattle.model.specs.Frames.{packet_of}
-use Rattle.marks.specs.AskedLaws.{held_of, none-asked}
+use Rattle.marks.proofs.AskedLaws.{held_of, none-asked}
 use Rattle.packets.proofs.ask.Goals as goal
 
 pub returns-then-zeros : goal.returns-then-zeros

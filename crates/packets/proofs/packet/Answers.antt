@@ -3,7 +3,7 @@ use Rattle.laws.specs.TestsLaws.{and_both, and-not-left, and-not-right}
 use Rattle.model.specs.Frames.{packet, packet_of, has_packet}
 use Rattle.model.specs.Block.{ready}
 use Rattle.steps.specs.SteppedLaws.{taken_not, taken-on, ready-facts}
-use Rattle.marks.specs.FieldsLaws.{packet-framed}
+use Rattle.marks.proofs.FieldsLaws.{packet-framed}
 use Rattle.packets.proofs.packet.Goals as goal
 
 pub returns-then-not-ready : goal.returns-then-not-ready

@@ -3,7 +3,7 @@ use Rattle.octets.specs.NumbersLaws.{number-of}
 use Rattle.model.specs.Types.{Packet}
 use Rattle.model.specs.Frames.{packet_of}
 use Rattle.sessions.specs.Machine.{last_number}
-use Rattle.marks.specs.FieldsLaws.{clamped}
+use Rattle.marks.proofs.FieldsLaws.{clamped}
 use Rattle.packets.specs.Device.{Sender}
 use Rattle.packets.specs.Starts.{Holding}
 use Rattle.packets.specs.Whole.{Begun, after_moves}

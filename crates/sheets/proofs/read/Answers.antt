@@ -2,8 +2,8 @@ use native.Mathlib.Omega.{arith}
 use lib.Seq.{length-take-le}
 use mathlib.Core.Path.{sym, ap, ◌∙◌}
 use Rattle.laws.specs.Tests.{sames}
-use Rattle.sheets.specs.WritingLaws.{again, again-low}
-use Rattle.sheets.specs.ReadingLaws.{read-so, read_none}
+use Rattle.sheets.proofs.WritingLaws.{again, again-low}
+use Rattle.sheets.proofs.ReadingLaws.{read-so, read_none}
 use Rattle.sheets.proofs.read.Goals as goal
 
 pub slice_bounds-again-end : goal.slice_bounds-again-end

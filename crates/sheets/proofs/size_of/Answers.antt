@@ -1,4 +1,4 @@
-use Rattle.sheets.specs.SignsLaws.{below-fits, below-cast, below-add, below-size, above-cast}
+use Rattle.sheets.proofs.SignsLaws.{below-fits, below-cast, below-add, below-size, above-cast}
 use Rattle.sheets.proofs.size_of.Goals as goal
 
 pub overflow_sub-k : goal.overflow_sub-k

@@ -1,5 +1,5 @@
 use native.Mathlib.Omega.{arith}
-use Rattle.sheets.specs.WritingLaws.{written-some, written_none}
+use Rattle.sheets.proofs.WritingLaws.{written-some, written_none}
 use Rattle.sheets.proofs.write.Goals as goal
 
 pub returns-then-out-lt-ROOM : goal.returns-then-out-lt-ROOM

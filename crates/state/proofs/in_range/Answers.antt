@@ -1,5 +1,5 @@
 use Rattle.std.proofs.Common.{sym}
-use Rattle.model.specs.LevelsLaws.{range-levels}
+use Rattle.model.proofs.LevelsLaws.{range-levels}
 use Rattle.state.proofs.in_range.Goals as goal
 
 pub returns : goal.returns

@@ -1,4 +1,4 @@
-use Rattle.model.specs.LevelsLaws.{most-levels}
+use Rattle.model.proofs.LevelsLaws.{most-levels}
 use Rattle.model.specs.Monitors.{settings_good, ordered}
 use Rattle.statuses.proofs.settings_good.Goals as goal
 

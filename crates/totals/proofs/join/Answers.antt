@@ -1,5 +1,5 @@
 use mathlib.Core.Path.{sym, ◌∙◌}
-use Rattle.totals.specs.JoinLaws.{join-fits, join-passes}
+use Rattle.totals.proofs.JoinLaws.{join-fits, join-passes}
 use Rattle.totals.proofs.join.Goals as goal
 
 pub summed-row-requires : goal.summed-row-requires

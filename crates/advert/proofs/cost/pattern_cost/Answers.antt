@@ -1,6 +1,6 @@
 use Rattle.std.proofs.Common.{arith}
-use Rattle.advert.specs.PatternLaws.{pattern-of}
-use Rattle.advert.specs.CostLaws.{cost-of}
+use Rattle.advert.proofs.PatternLaws.{pattern-of}
+use Rattle.advert.proofs.CostLaws.{cost-of}
 use Rattle.advert.proofs.cost.pattern_cost.Goals as goal
 
 pub returns : goal.returns

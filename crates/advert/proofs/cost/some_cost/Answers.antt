@@ -1,6 +1,6 @@
-use Rattle.advert.specs.EitherLaws.{left-all, rest_all, seen_most, tried-none, tried-hit, tried-miss, tried-done}
-use Rattle.advert.specs.CostLaws.{count-all, count_none, count-hit, count-miss, count-done}
-use Rattle.advert.specs.CostMostLaws.{compared-most}
+use Rattle.advert.proofs.EitherLaws.{left-all, rest_all, seen_most, tried-none, tried-hit, tried-miss, tried-done}
+use Rattle.advert.proofs.CostLaws.{count-all, count_none, count-hit, count-miss, count-done}
+use Rattle.advert.proofs.CostMostLaws.{compared-most}
 use Rattle.laws.specs.Loops.{some}
 use Rattle.std.proofs.Common.{◌-◌, sym, ap, ◌∙◌, arith}
 use Rattle.advert.proofs.cost.some_cost.Goals as goal

@@ -1,4 +1,4 @@
-use Rattle.advert.specs.EitherLaws.{none-second, none_first}
+use Rattle.advert.proofs.EitherLaws.{none-second, none_first}
 use Rattle.advert.proofs.lookup.has_more.Goals as goal
 
 pub returns-then-second : goal.returns-then-second

@@ -1,5 +1,5 @@
 use Rattle.advert.specs.Either.{text_of}
-use Rattle.advert.specs.EitherLaws.{text-second, text-first, found_here, found-there, found-second, handed-none, handed}
+use Rattle.advert.proofs.EitherLaws.{text-second, text-first, found_here, found-there, found-second, handed-none, handed}
 use Rattle.advert.specs.SectionsLaws.{seen-short}
 use Rattle.std.proofs.Common.{ℕ, ◌-◌, List, take, drop, refl, ap, ◌∙◌, arith}
 use Rattle.laws.specs.Tests.{pick}

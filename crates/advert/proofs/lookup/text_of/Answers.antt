@@ -1,5 +1,5 @@
 use Rattle.std.proofs.Common.{sym}
-use Rattle.advert.specs.EitherLaws.{text-second, text-first}
+use Rattle.advert.proofs.EitherLaws.{text-second, text-first}
 use Rattle.advert.proofs.lookup.text_of.Goals as goal
 
 pub returns-then-second : goal.returns-then-second

@@ -1,6 +1,6 @@
 use Rattle.std.proofs.Common.{◌-◌, arith}
-use Rattle.advert.specs.PatternLaws.{holds-past, holds-start, holds-end, holds-step, holds-stop}
-use Rattle.advert.specs.CostLaws.{cost-past, cost-start, cost-end, cost_step, cost-stop}
+use Rattle.advert.proofs.PatternLaws.{holds-past, holds-start, holds-end, holds-step, holds-stop}
+use Rattle.advert.proofs.CostLaws.{cost-past, cost-start, cost-end, cost_step, cost-stop}
 use Rattle.advert.proofs.patterns.compare.Goals as goal
 
 pub returns-then-text-n : goal.returns-then-text-n

@@ -1,5 +1,5 @@
 use Rattle.std.proofs.Common.{arith}
-use Rattle.advert.specs.PatternLaws.{pattern-of}
+use Rattle.advert.proofs.PatternLaws.{pattern-of}
 use Rattle.advert.proofs.patterns.pattern_meets.Goals as goal
 
 pub returns : goal.returns

@@ -1,5 +1,5 @@
 use Rattle.std.proofs.Common.{◌-◌, arith}
-use Rattle.advert.specs.PatternLaws.{form-none, form-zero, form-start, filled-end, filled_none, filled-over, filled_more}
+use Rattle.advert.proofs.PatternLaws.{form-none, form-zero, form-start, filled-end, filled_none, filled-over, filled_more}
 use Rattle.advert.proofs.patterns.patterns_form.Goals as goal
 
 pub returns-then-condition-eq0 : goal.returns-then-condition-eq0

@@ -1,7 +1,7 @@
 use Rattle.std.proofs.Common.{◌-◌, sym, refl, ◌∙◌, arith}
 use Rattle.advert.specs.PartsLaws.{part-least}
 use Rattle.advert.specs.Pattern.{patterns_meet, patterns, pattern_meets}
-use Rattle.advert.specs.PatternLaws.{asked-end, asked-none, asked-hit, asked-miss}
+use Rattle.advert.proofs.PatternLaws.{asked-end, asked-none, asked-hit, asked-miss}
 use Rattle.advert.proofs.patterns.patterns_meet.Goals as goal
 
 pub loop-i-init : goal.loop-i-init

@@ -7,7 +7,7 @@ use Rattle.octets.specs.NumbersLaws.{number-of}
 use Rattle.model.specs.Level.{level}
 use Rattle.model.specs.Frames.{packet_of}
 use Rattle.sessions.specs.Machine.{last_number}
-use Rattle.marks.specs.FieldsLaws.{clamped, marked-of}
+use Rattle.marks.proofs.FieldsLaws.{clamped, marked-of}
 use Rattle.packets.specs.Starts.{Holding}
 use Rattle.packets.specs.WholeLaws.{packet-rssi}
 use Rattle.counts.specs.GivenLaws.{begun}

@@ -3,7 +3,7 @@ use mathlib.Core.Path.{ap}
 use native.Mathlib.Omega.{arith}
 use lib.ListN.{length, length-set}
 use Rattle.model.specs.Frames.{tick}
-use Rattle.marks.specs.FieldsLaws.{clamped}
+use Rattle.marks.proofs.FieldsLaws.{clamped}
 use Rattle.months.specs.Counts.{row_in}
 use Rattle.counts.specs.TicksLaws.{known}
 use Rattle.counts.specs.Turns.{table_none, table-turn, table-end}

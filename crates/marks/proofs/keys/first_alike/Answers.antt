@@ -1,7 +1,7 @@
 use Prim.Native.Nat.{◌-◌}
 use native.Mathlib.Omega.{arith}
 use mathlib.Core.Path.{◌∙◌}
-use Rattle.marks.specs.AskedLaws.{ask-said}
+use Rattle.marks.proofs.AskedLaws.{ask-said}
 use Rattle.marks.proofs.keys.first_alike.Goals as goal
 
 pub loop-j-init : goal.loop-j-init

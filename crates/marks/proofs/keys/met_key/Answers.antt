@@ -2,8 +2,8 @@ use Prim.Native.Nat.{◌<◌}
 use mathlib.Core.Path.{sym, ap, ◌∙◌}
 use native.Mathlib.Omega.{arith}
 use Rattle.marks.specs.Marks.{flag}
-use Rattle.marks.specs.KeyedLaws.{key-alike}
-use Rattle.marks.specs.AskedLaws.{ask-said}
+use Rattle.marks.proofs.KeyedLaws.{key-alike}
+use Rattle.marks.proofs.AskedLaws.{ask-said}
 use Rattle.marks.proofs.keys.met_key.Goals as goal
 
 pub returns-then-ask_at-eq0 : goal.returns-then-ask_at-eq0

@@ -4,7 +4,7 @@ use mathlib.Core.Path.{◌≡◌, refl}
 use native.Mathlib.Omega.{arith}
 use lib.ListN.{length-set}
 use Rattle.model.specs.Layout.{most_monitors}
-use Rattle.marks.specs.KeyedLaws.{keyed-turn}
+use Rattle.marks.proofs.KeyedLaws.{keyed-turn}
 use Rattle.marks.proofs.keys.met_keys.Goals as goal
 
 pub loop-h-init : goal.loop-h-init

@@ -3,8 +3,8 @@ use mathlib.Core.List.{List}
 use mathlib.Core.Path.{◌≡◌, refl, ap}
 use native.Mathlib.Omega.{arith}
 use lib.ListN.{take, drop}
-use Rattle.marks.specs.FieldsLaws.{clamped}
-use Rattle.marks.specs.KeyedLaws.{key-asked}
+use Rattle.marks.proofs.FieldsLaws.{clamped}
+use Rattle.marks.proofs.KeyedLaws.{key-asked}
 use Rattle.model.specs.Layout.{monitor_size, monitors_at}
 use Rattle.marks.proofs.keys.resolved_at.Goals as goal
 

@@ -4,8 +4,8 @@ use mathlib.Core.Path.{◌≡◌, sym, ap, ◌∙◌}
 use native.Mathlib.Omega.{arith}
 use lib.ListN.{take, drop}
 use Rattle.model.specs.Layout.{monitor_size, monitors_at}
-use Rattle.marks.specs.FieldsLaws.{clamped}
-use Rattle.marks.specs.MonitorsLaws.{alike}
+use Rattle.marks.proofs.FieldsLaws.{clamped}
+use Rattle.marks.proofs.MonitorsLaws.{alike}
 use mathlib.Core.Bool.{false≢true}
 use Rattle.marks.proofs.keys.same_condition.Goals as goal
 

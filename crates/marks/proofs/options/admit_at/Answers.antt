@@ -1,6 +1,6 @@
 use mathlib.Core.Path.{sym, ◌∙◌}
 use Rattle.laws.specs.TestsLaws.{pick_true, pick-false}
-use Rattle.marks.specs.AdmittedLaws.{admit-none}
+use Rattle.marks.proofs.AdmittedLaws.{admit-none}
 use Rattle.marks.proofs.options.admit_at.Goals as goal
 
 pub returns-then-a-eq0 : goal.returns-then-a-eq0

@@ -7,9 +7,9 @@ use Rattle.laws.specs.Loops.{up_to}
 use Rattle.laws.specs.PutLaws.{put-nil}
 use Rattle.model.specs.Frames.{packet_of}
 use Rattle.model.specs.Layout.{most_monitors}
-use Rattle.marks.specs.MarksLaws.{marks-turn}
+use Rattle.marks.proofs.MarksLaws.{marks-turn}
 use Rattle.marks.specs.Admitted.{admits_at, admitted}
-use Rattle.marks.specs.AdmittedLaws.{admitted-end, not_yet}
+use Rattle.marks.proofs.AdmittedLaws.{admitted-end, not_yet}
 use Rattle.marks.proofs.options.admit_each.Goals as goal
 
 pub loop-h-init : goal.loop-h-init

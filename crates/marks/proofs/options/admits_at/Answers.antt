@@ -1,4 +1,4 @@
-use Rattle.marks.specs.OptionsLaws.{admits-first, admits-any, admits-peer, admits-key}
+use Rattle.marks.proofs.OptionsLaws.{admits-first, admits-any, admits-peer, admits-key}
 use Rattle.marks.proofs.options.admits_at.Goals as goal
 
 pub returns-then-options-eq0 : goal.returns-then-options-eq0

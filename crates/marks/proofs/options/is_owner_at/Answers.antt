@@ -2,7 +2,7 @@ use Prim.Native.Nat.{ℕ, ◌+◌, ◌-◌, ◌*◌}
 use mathlib.Core.Path.{◌≡◌, refl, ap}
 use native.Mathlib.Omega.{arith}
 use lib.ListN.{take, drop}
-use Rattle.marks.specs.OptionsLaws.{key-off, key-public, key-asked}
+use Rattle.marks.proofs.OptionsLaws.{key-off, key-public, key-asked}
 use Rattle.model.specs.Layout.{extra_at, irk_in, irk_size, monitor_size, monitors_at}
 use Rattle.marks.proofs.options.is_owner_at.Goals as goal
 

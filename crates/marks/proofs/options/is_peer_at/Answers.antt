@@ -2,7 +2,7 @@ use Prim.Native.Nat.{ℕ, ◌+◌, ◌-◌, ◌*◌}
 use mathlib.Core.Path.{◌≡◌, refl, ap}
 use native.Mathlib.Omega.{arith}
 use lib.ListN.{take, drop}
-use Rattle.marks.specs.OptionsLaws.{peer-off, peer-other, peer-asked}
+use Rattle.marks.proofs.OptionsLaws.{peer-off, peer-other, peer-asked}
 use Rattle.model.specs.Layout.{address_size, extra_at, monitor_size, monitors_at, peer_in, peer_type_in}
 use Rattle.marks.proofs.options.is_peer_at.Goals as goal
 

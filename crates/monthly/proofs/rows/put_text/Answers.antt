@@ -1,4 +1,4 @@
-use Rattle.sheets.specs.WritingLaws.{again-low}
+use Rattle.sheets.proofs.WritingLaws.{again-low}
 use Rattle.std.proofs.Common.{◌-◌, sym, length-take-le}
 use Rattle.monthly.proofs.rows.put_text.Goals as goal
 

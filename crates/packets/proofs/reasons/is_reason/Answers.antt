@@ -1,5 +1,5 @@
 use Rattle.std.proofs.Common.{sym, ◌∙◌}
-use Rattle.marks.specs.FieldsLaws.{framed-facts}
+use Rattle.marks.proofs.FieldsLaws.{framed-facts}
 use Rattle.packets.specs.AlikeLaws.{no_block, no_row, no-frame, reason-at}
 use Rattle.packets.proofs.reasons.is_reason.Goals as goal
 

@@ -1,5 +1,5 @@
 use Rattle.std.proofs.Common.{sym, ◌∙◌, arith}
-use Rattle.marks.specs.FieldsLaws.{framed-facts}
+use Rattle.marks.proofs.FieldsLaws.{framed-facts}
 use Rattle.packets.specs.AnswersTurns.{reports-done, reports-form, reports-not, reports-room}
 use Rattle.packets.proofs.reports.put_packet.Goals as goal
 

@@ -1,4 +1,4 @@
-use Rattle.marks.specs.FieldsLaws.{clamped}
+use Rattle.marks.proofs.FieldsLaws.{clamped}
 use Rattle.std.proofs.Common.{◌≡◌, ℕ, ◌+◌, ◌-◌, ◌*◌, ◌≤◌, List, length, take, drop, ap, arith, length-drop, length-take}
 use Rattle.packets.specs.AnswersTurns.{event-most, event-rest, event-wrote}
 use Rattle.model.specs.Layout.{most_prefix, pair_size, pairs_at, prefix_at}

@@ -1,5 +1,5 @@
 use native.Mathlib.Omega.{arith}
-use Rattle.sheets.specs.SignsLaws.{above-past, above_in}
+use Rattle.sheets.proofs.SignsLaws.{above-past, above_in}
 use Rattle.sheets.proofs.reads.above.Goals as goal
 
 pub returns-then-n-gt9223372036854775807 : goal.returns-then-n-gt9223372036854775807

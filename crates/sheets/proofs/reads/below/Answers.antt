@@ -1,5 +1,5 @@
 use native.Mathlib.Omega.{arith}
-use Rattle.sheets.specs.SignsLaws.{below-zero, below-past, minus-fits, minus_is}
+use Rattle.sheets.proofs.SignsLaws.{below-zero, below-past, minus-fits, minus_is}
 use Rattle.sheets.proofs.reads.below.Goals as goal
 
 pub returns-then-n-eq0 : goal.returns-then-n-eq0

@@ -2,7 +2,7 @@ use native.Mathlib.Omega.{arith}
 use Prim.Native.Nat.{◌-◌}
 use mathlib.Core.Path.{ap, ◌∙◌}
 use Rattle.sheets.specs.Least.{grown}
-use Rattle.sheets.specs.ReadingLaws.{counting-start, counting-stop, counting-on, counting-end}
+use Rattle.sheets.proofs.ReadingLaws.{counting-start, counting-stop, counting-on, counting-end}
 use Rattle.sheets.proofs.reads.count_at.Goals as goal
 
 pub loop-i-init : goal.loop-i-init

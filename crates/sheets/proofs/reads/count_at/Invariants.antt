@@ -1,6 +1,6 @@
 use lib.ListN.{length}
 use Prim.Native.Nat.{◌-◌}
-use Rattle.sheets.specs.ReadingLaws.{Counting}
+use Rattle.sheets.proofs.ReadingLaws.{Counting}
 use Rattle.sheets.proofs.reads.count_at.Given as goal
 
 abbrev pub invariant-loop-i : goal.invariant-loop-i

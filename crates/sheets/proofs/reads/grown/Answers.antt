@@ -1,5 +1,5 @@
 use native.Mathlib.Omega.{arith}
-use Rattle.sheets.specs.LeastLaws.{grown-far, grown-past, grown-on}
+use Rattle.sheets.proofs.LeastLaws.{grown-far, grown-past, grown-on}
 use Rattle.sheets.proofs.reads.grown.Goals as goal
 
 pub returns-then-value-gt-TENTH : goal.returns-then-value-gt-TENTH

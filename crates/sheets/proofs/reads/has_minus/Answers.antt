@@ -1,5 +1,5 @@
 use native.Mathlib.Omega.{arith}
-use Rattle.sheets.specs.ReadingLaws.{past-minus}
+use Rattle.sheets.proofs.ReadingLaws.{past-minus}
 use Rattle.sheets.proofs.reads.has_minus.Goals as goal
 
 pub returns : goal.returns

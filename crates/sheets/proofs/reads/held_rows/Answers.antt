@@ -2,7 +2,7 @@ use native.Mathlib.Omega.{arith}
 use lib.ListN.{length}
 use Prim.Native.Nat.{◌-◌}
 use mathlib.Core.Path.{ap}
-use Rattle.sheets.specs.ReadingLaws.{holding-start, holding-on, holding-end}
+use Rattle.sheets.proofs.ReadingLaws.{holding-start, holding-on, holding-end}
 use Rattle.sheets.proofs.reads.held_rows.Goals as goal
 
 pub no_rows-rows-requires : goal.no_rows-rows-requires

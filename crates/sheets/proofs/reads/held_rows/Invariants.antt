@@ -1,5 +1,5 @@
 use Prim.Native.Nat.{◌-◌}
-use Rattle.sheets.specs.ReadingLaws.{Holding}
+use Rattle.sheets.proofs.ReadingLaws.{Holding}
 use Rattle.sheets.proofs.reads.held_rows.Given as goal
 
 abbrev pub invariant-loop-h : goal.invariant-loop-h

@@ -1,4 +1,4 @@
-use Rattle.sheets.specs.ReadingLaws.{lined, summed-back}
+use Rattle.sheets.proofs.ReadingLaws.{lined, summed-back}
 use Rattle.sheets.proofs.reads.line_at.Goals as goal
 
 pub returns : goal.returns

@@ -1,6 +1,6 @@
 use native.Mathlib.Omega.{arith}
 use mathlib.Core.Path.{sym, ◌∙◌}
-use Rattle.sheets.specs.ReadingLaws.{minus-in, summed-below, summed-above, summed-back}
+use Rattle.sheets.proofs.ReadingLaws.{minus-in, summed-below, summed-above, summed-back}
 use Rattle.sheets.proofs.reads.sum_at.Goals as goal
 
 pub count_at-n-requires : goal.count_at-n-requires

@@ -1,7 +1,7 @@
 use native.Mathlib.Omega.{arith}
 use lib.Seq.{length-take-le}
 use mathlib.Core.Path.{sym}
-use Rattle.sheets.specs.WritingLaws.{digits-so, count-put}
+use Rattle.sheets.proofs.WritingLaws.{digits-so, count-put}
 use Rattle.sheets.proofs.writes.put_count.Goals as goal
 
 pub slice_bounds-digits-end : goal.slice_bounds-digits-end

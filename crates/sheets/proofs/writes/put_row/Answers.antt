@@ -1,5 +1,5 @@
 use native.Mathlib.Omega.{arith}
-use Rattle.sheets.specs.WritingLaws.{count_most, row_put_lem}
+use Rattle.sheets.proofs.WritingLaws.{count_most, row_put_lem}
 use Rattle.sheets.proofs.writes.put_row.Goals as goal
 
 pub put_count-b-requires : goal.put_count-b-requires

@@ -4,7 +4,7 @@ use lib.ListN.{length}
 use Prim.Native.Nat.{◌-◌}
 use mathlib.Core.Path.{◌≡◌, ◌∙◌}
 use Rattle.laws.specs.PutLaws.{put_of}
-use Rattle.sheets.specs.WritingLaws.{putting-start, putting-length, putting-room, putting-on, putting-end}
+use Rattle.sheets.proofs.WritingLaws.{putting-start, putting-length, putting-room, putting-on, putting-end}
 use Rattle.sheets.proofs.writes.put_rows.Goals as goal
 
 pub copy-requires : goal.copy-requires

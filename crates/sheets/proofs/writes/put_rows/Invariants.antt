@@ -1,5 +1,5 @@
 use Prim.Native.Nat.{◌-◌}
-use Rattle.sheets.specs.WritingLaws.{Putting}
+use Rattle.sheets.proofs.WritingLaws.{Putting}
 use Rattle.sheets.proofs.writes.put_rows.Given as goal
 
 abbrev pub invariant-loop-h : goal.invariant-loop-h

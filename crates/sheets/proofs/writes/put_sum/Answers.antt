@@ -1,8 +1,8 @@
 use native.Mathlib.Omega.{arith}
 use lib.ListN.{length-set}
 use mathlib.Core.Path.{◌∙◌}
-use Rattle.sheets.specs.SignsLaws.{below_true, size_back}
-use Rattle.sheets.specs.WritingLaws.{sum-minus, sum-plain}
+use Rattle.sheets.proofs.SignsLaws.{below_true, size_back}
+use Rattle.sheets.proofs.WritingLaws.{sum-minus, sum-plain}
 use Rattle.sheets.proofs.writes.put_sum.Goals as goal
 
 pub put_count-requires : goal.put_count-requires

@@ -1,6 +1,6 @@
 use mathlib.Core.Path.{sym}
 use native.Mathlib.Omega.{arith}
-use Rattle.model.specs.LevelsLaws.{mean-up, mean-down}
+use Rattle.model.proofs.LevelsLaws.{mean-up, mean-down}
 use Rattle.ticks.proofs.tells.mean_of.Goals as goal
 
 pub returns-then-sum-lt9223372036854775808 : goal.returns-then-sum-lt9223372036854775808

@@ -1,4 +1,4 @@
-use Rattle.model.specs.LevelsLaws.{mean-up, mean-down}
+use Rattle.model.proofs.LevelsLaws.{mean-up, mean-down}
 use Rattle.std.proofs.Common.{sym, arith}
 use Rattle.twin.proofs.writes.mean_of.Goals as goal
 

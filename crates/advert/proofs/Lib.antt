@@ -1,0 +1,9 @@
+pub mod AddressLaws
+pub mod CostLaws
+pub mod CostMostLaws
+pub mod EitherLaws
+pub mod ExamplesLaws
+pub mod KeyedLaws
+pub mod Laws
+pub mod PatternLaws
+pub mod UuidLaws

@@ -1,0 +1,9 @@
+pub mod AnswersLaws
+pub mod HearsLaws
+pub mod NumbersLaws
+pub mod ProofLaws
+pub mod ReadsLaws
+pub mod RowsLaws
+pub mod Turns
+pub mod WholeLaws
+pub mod CoreLaws

@@ -1,0 +1,9 @@
+pub mod ContractsLaws
+pub mod DeliveryLaws
+pub mod LinkedLaws
+pub mod PlainlyLaws
+pub mod RecordsLaws
+pub mod SeenLaws
+pub mod ShownLaws
+pub mod ThroughLaws
+pub mod TimelyLaws

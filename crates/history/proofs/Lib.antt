@@ -1,0 +1,2 @@
+pub mod CornersLaws
+pub mod ShownLaws

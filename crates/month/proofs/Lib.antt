@@ -1,0 +1,3 @@
+pub mod GivesLaws
+pub mod NumbersLaws
+pub mod OutcomesLaws

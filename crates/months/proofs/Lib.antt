@@ -1,0 +1,4 @@
+pub mod Claims
+pub mod CountedLaws
+pub mod EdgesLaws
+pub mod MonthLaws

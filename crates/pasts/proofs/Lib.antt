@@ -1,0 +1,11 @@
+pub mod AgreesLaws
+pub mod AnswersLaws
+pub mod CommandsLaws
+pub mod DeedsLaws
+pub mod DoneLaws
+pub mod MonitorsLaws
+pub mod MovesLaws
+pub mod PairsLaws
+pub mod TicksLaws
+pub mod WatchingLaws
+pub mod WeakLaws

@@ -1,0 +1,9 @@
+pub mod DropsLaws
+pub mod EdgesLaws
+pub mod FindsLaws
+pub mod FitsLaws
+pub mod MovesTurns
+pub mod ProjectTurns
+pub mod ReadingLaws
+pub mod RowsTurns
+pub mod ShowsLaws

@@ -1,0 +1,10 @@
+pub mod CornersLaws
+pub mod CutsLaws
+pub mod GivenLaws
+pub mod HistoryLaws
+pub mod PlainLaws
+pub mod RefusalsLaws
+pub mod ReplayLaws
+pub mod RunsLaws
+pub mod ToyLaws
+pub mod WovenLaws

@@ -1,0 +1,11 @@
+pub mod CountsLaws
+pub mod DropsLaws
+pub mod GivenLaws
+pub mod MovesLaws
+pub mod NamedTurns
+pub mod OrdersLaws
+pub mod StaysLaws
+pub mod Turns
+pub mod WholeLaws
+pub mod KeepsLaws
+pub mod AnswersLaws

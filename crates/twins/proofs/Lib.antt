@@ -1,0 +1,5 @@
+pub mod CallsLaws
+pub mod EdgesTurns
+pub mod HistoryLaws
+pub mod Proved
+pub mod SameLaws
