@@ -10,7 +10,7 @@ import os
 import re
 import sys
 
-USE = re.compile(r"^use Rattle\.(\w+)\.specs\.([\w.\-]+?)(?:\.\{([^}]*)\})?(?: as (\w+))?$", re.M)
+USE = re.compile(r"^use Rattle\.(\w+)\.(?:specs|proofs)\.([\w.\-]+?)(?:\.\{([^}]*)\})?(?: as (\w+))?$", re.M)
 HEAD = re.compile(r"\s*(?:(?:unfoldable |abbrev )(?:pub )?\S+ ?(?:\{.*)?:|(?:pub )?(?:record|data) \w)")
 LAW = re.compile(r"(?!unfoldable |abbrev |(?:pub )?(?:record|data) )(?:pub )?[^\s(){}:]+(?: \{.*)? :(?: |$)")
 NAME = re.compile(r"\s*(?:unfoldable |abbrev )?(?:pub )?(?:record |data )?(\S+)")
@@ -53,7 +53,7 @@ def unprojected(text, uses):
 
 def definitions():
     found = {}
-    for path in glob.glob("crates/*/specs/*.antt"):
+    for path in glob.glob("crates/*/specs/*.antt") + glob.glob("crates/*/proofs/*.antt"):
         crate, module = path.split(os.sep)[1], os.path.basename(path)[:-5]
         text = open(path).read()
         uses = imports(text)
