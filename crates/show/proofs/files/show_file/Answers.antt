@@ -1,10 +1,11 @@
+use Rattle.std.proofs.lemmas.Bool.{not-false}
 use Rattle.std.proofs.Common.{sym, arith, length-take-le}
 use Rattle.show.proofs.files.show_file.Goals as goal
 
 pub slice_bounds-line-end : goal.slice_bounds-line-end
 slice_bounds-line-end c = omega (
   arith,
-  c.next_line-read.ensures.1 (c.if-not-feed.false),
+  c.next_line-read.ensures.1 (not-false _ c.if-not-feed.false),
   c.next_line-read.ensures.0,
 )
 
@@ -13,7 +14,7 @@ slice_bounds-given-end c = sym (length-take-le _ _
     (omega (
       arith,
       c.next_line-read.ensures.1
-          (c.if-not-feed.false),
+          (not-false _ c.if-not-feed.false),
       c.next_line-read.ensures.0,
     )))
 
