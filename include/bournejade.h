@@ -1,9 +1,9 @@
 /*
  * Bournejade: the engine of a radio gateway with Microsoft's HCI vendor extension, for firmware in C and C++.
  *
- * Link libbournejade.a (`bin/archive TARGET` writes it for x86-64, aarch64, 32-bit ARM and Cortex-M). It needs memcpy and
- * memset, on 32-bit targets also the compiler's own helpers (libgcc: __aeabi_uldivmod and the like), and nothing else: no
- * heap, no global data, no input or output. Every function is proved to return, to do nothing undefined and to give what
+ * Link libbournejade.a (`bin/archive TARGET` writes it for x86-64, aarch64, 32-bit ARM and Cortex-M). It needs memcpy,
+ * memmove and memset, on 32-bit targets also the compiler's own helpers (libgcc: __aeabi_uldivmod and the like), and
+ * nothing else: no heap, no global data, no input or output. Every function is proved to return, to do nothing undefined and to give what
  * is said here, for all octets in its buffers ("document 01" is the scope). The proof is of the source; the compiler is
  * trusted, on x86-64 as on the others, and what it makes is compared (`docs/RELIABILITY.md`).
  *

@@ -2,7 +2,7 @@
 
 A comparison is == != < <= > >=, also one whose answer is only kept. A test is an `if` or a `while`; it repeats a
 comparison that stands at the top of its condition, and is a place of its own where it asks a call's answer or a bool.
-An arm is one of a `match`.
+An arm is one of a `match`. A `for` over numbers or over a slice compares its index with the end, and tests that.
 """
 import os
 import re
@@ -11,6 +11,8 @@ ROOT = os.path.dirname(os.path.dirname(os.path.abspath(__file__)))
 # Of each kind what counter 0 and counter 1 mean; None: not used.
 BOTH = ("false", "true")
 SIDES = {"function": (None, "called"), "comparison": BOTH, "test": BOTH, "arm": (None, "taken")}
+# The head of an impl: what is implemented, for what, and what stands between angles.
+IMPLS = r"\bimpl(?:<[^>]*>)? (?:(\w+)(?:<([^>]*)>)? for )?(\w+)(?:<[^>]*>)? *{"
 COMPARES = r"(?<![-=<>])(==|!=|<=|>=|<|>)(?![<>])"
 
 
@@ -81,17 +83,29 @@ def places(text, name, path, start, end):
     for sign in re.finditer(COMPARES, text[start:end]):
         at = start + sign.start()
         found[at] = Place("comparison", name, path, row(at), compared(text, at, start + sign.end()), sign.group())
-    for word in re.finditer(r"\b(if|while|match)\b", text[start:end]):
+    for word in re.finditer(r"\b(if|while|for|match)\b", text[start:end]):
         at, first = start + word.start(), text.index("{", start + word.end()) + 1
         if word.group() == "match":
             for arm in top(text[first:closing(text, first - 1) - 1], r"[\w:]+(\([^()]*\))?\s*=>"):
                 found[first + arm.start()] = Place("arm", name, path, row(first + arm.start()), arm.group()[:-2])
             continue
         begin = start + word.end()
+        if word.group() == "for":
+            over = text[begin:first - 1]
+            found[at] = Place("comparison", name, path, row(at), "for" + over, "<")
+            found[at + 1] = Place("test", name, path, row(at), "for" + over)
+            found[at + 1].repeats = found[at]
+            continue
         signs = top(text[begin:first - 1], COMPARES)
         found[at] = Place("test", name, path, row(at), text[begin:first - 1])
         found[at].repeats = found[begin + signs[0].start()] if signs else None
     return [found[at] for at in sorted(found)]
+
+
+def owner(trait, words, kind):
+    """The name that a module gives an impl: `impl From<Refusal> for u8` is U8FromRefusal there."""
+    parts = [kind, trait, *re.findall(r"\w+", words or "")] if trait else [kind]
+    return "".join(part[0].upper() + part[1:] for part in parts)
 
 
 def functions(crate):
@@ -99,10 +113,13 @@ def functions(crate):
     folder = os.path.join(ROOT, "crates", crate, "src")
     for file in sorted(os.listdir(folder)):
         path, text = f"crates/{crate}/src/{file}", blanked(read(os.path.join(folder, file)))
-        owners = [(m.group(1), m.start(), closing(text, m.end() - 1)) for m in re.finditer(r"\bimpl (\w+)\s*{", text)]
+        owners = [(owner(*m.groups()), m.start(), closing(text, m.end() - 1)) for m in re.finditer(IMPLS, text)]
         for found in re.finditer(r"\bfn (\w+)", text):
-            owner = [name for name, start, end in owners if start < found.start() < end]
-            name = "::".join([crate] + ([] if file == "lib.rt" else [file[:-3]]) + owner + [found.group(1)])
-            start = text.index("{", closing(text, text.index("(", found.end())))
+            body = re.search(r"[{;]", text[closing(text, text.index("(", found.end())):])
+            if body.group() == ";":
+                continue
+            names = [name for name, start, end in owners if start < found.start() < end]
+            name = "::".join([crate] + ([] if file == "lib.rt" else [file[:-3]]) + names + [found.group(1)])
+            start = closing(text, text.index("(", found.end())) + body.start()
             itself = Place("function", name, path, text.count("\n", 0, found.start()) + 1, "fn " + found.group(1))
             yield [itself] + list(places(text, name, path, start, closing(text, start)))

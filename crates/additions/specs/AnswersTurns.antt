@@ -1,6 +1,6 @@
 -- What the giving of an addition answers and leaves, branch by branch, and the turns of the loop over a text's
 -- characters. Assumes nothing.
-use Rattle.std.specs.Prelude.{ℕ, zero, suc, ◌+◌, ◌-◌, ◌*◌, ◌≤◌, ◌<◌, min, Bool, ◌&&◌, List, [], ◌∷◌, ◌++◌, ltb}
+use Rattle.std.specs.Prelude.{ℕ, zero, suc, ◌+◌, ◌-◌, ◌*◌, ◌≤◌, ◌<◌, min, Bool, ◌&&◌, List, [], ◌∷◌, ◌++◌, ltb, is_err, Result, Ok, Err}
 use Rattle.std.proofs.Math.Path.{◌≡◌, refl, sym, ap}
 use Rattle.std.proofs.Common.{◌∙◌, add-one, arith, drop-cons}
 use Rattle.std.proofs.Math.Bool.{true, false}
@@ -24,28 +24,24 @@ use Rattle.reader.specs.Answers.{take_text}
 use Rattle.reader.specs.AnswersLaws.{take-read}
 use Rattle.refusals.specs.declared.Refusal.{Refusal}
 use Rattle.refusals.specs.declared.Refusal.TheVariants.{NotLine}
-use Rattle.refusals.specs.declared.Wrote.{Wrote}
-use Rattle.refusals.specs.declared.Wrote.TheVariants.{Done, Refused}
 use Rattle.refusals.specs.Numbers.{number}
 use Rattle.sessions.specs.Machine.{Outcome, refused, done}
 use Rattle.sessions.specs.Session.{state_after}
 use Rattle.editions.specs.Editions.{Edition, edition_in}
 use Rattle.wholes.specs.Engine.{add_whole}
-use Rattle.engine.specs.declared.Stop.{Stop}
-use Rattle.engine.specs.declared.Stop.TheVariants.{End, Refused as Stopped}
-use Rattle.engine.specs.Calls.{wrote_of}
+use Rattle.engine.specs.Tries.{tried_of}
 use Rattle.engine.specs.CallsLaws.{number-case}
 use Rattle.additions.specs.declared.Course.{Course}
 use Rattle.additions.specs.Additions.{prefix_at, most_octets, line_most, is_addition, add_octets, add_line, next}
-use Rattle.additions.specs.Pieces.{Standing, is_stopped, course_after, given, held_in, placed, ended, longer, stepped, fed}
+use Rattle.additions.specs.Pieces.{Standing, course_after, given, held_in, placed, ended, longer, stepped, fed}
 
 -- an answer and the block that it leaves, by the outcome
-abbrev pub Gives : List ℕ → Outcome (List ℕ) → Wrote → List ℕ → Type 0
-Gives s o r t = (r ≡ wrote_of o) × (t ≡ state_after s o)
+abbrev pub Gives : List ℕ → Outcome (List ℕ) → Result Unit Refusal → List ℕ → Type 0
+Gives s o r t = (r ≡ tried_of o) × (t ≡ state_after s o)
 
-not_line : (s : List ℕ) (o : Outcome (List ℕ)) → o ≡ refused 4 → Gives s o (Refused NotLine) s
-unfolding wrote_of state_after number
-not_line s o q = (sym (ap wrote_of q ∙ ap Refused (number-case NotLine)), sym (ap (state_after s) q))
+not_line : (s : List ℕ) (o : Outcome (List ℕ)) → o ≡ refused 4 → Gives s o (Err NotLine) s
+unfolding tried_of state_after number
+not_line s o q = (sym (ap tried_of q ∙ ap Err (number-case NotLine)), sym (ap (state_after s) q))
 
 -- the form of the octets
 
@@ -105,11 +101,11 @@ edition-of (a ∷ r) e =
 
 -- octets that have not the form, and those that have
 
-pub octets-other : (s r : List ℕ) → is_addition r ≡ false → Gives s (add_octets s r) (Refused NotLine) s
+pub octets-other : (s r : List ℕ) → is_addition r ≡ false → Gives s (add_octets s r) (Err NotLine) s
 unfolding add_octets
 octets-other s r e = not_line s (add_octets s r) (pick-false (add_whole s (edition_in (drop 1 r))) (refused 4) e)
 
-pub octets-added : (s r : List ℕ) (v : ℕ) (x : Wrote) (t : List ℕ) → is_addition r ≡ true → v ≡ number_at 4 r 1
+pub octets-added : (s r : List ℕ) (v : ℕ) (x : Result Unit Refusal) (t : List ℕ) → is_addition r ≡ true → v ≡ number_at 4 r 1
     → Gives s (add_whole s (record { from = v; prefix = take (length r - prefix_at) (drop prefix_at r) })) x t
     → Gives s (add_octets s r) x t
 unfolding add_octets
@@ -121,17 +117,17 @@ octets-added s r v x t e n g =
     ∙ ap (add_whole s)
     (edition-of r e ∙ ap (λ (i : ℕ). record { from = i; prefix = take (length r - prefix_at) (drop prefix_at r) })
     (sym k)) in
-    (g.0 ∙ sym (ap wrote_of q), g.1 ∙ sym (ap (state_after s) q))
+    (g.0 ∙ sym (ap tried_of q), g.1 ∙ sym (ap (state_after s) q))
 
 -- a line that was read, and one that was not
 
-module _ (s l : List ℕ) (got : Wrote) (q : got ≡ take_text l most_octets) where
-  pub line-fits : (n : ℕ) → got ≡ Done n → n ≤ most_octets
+module _ (s l : List ℕ) (got : Result ℕ Refusal) (q : got ≡ take_text l most_octets) where
+  pub line-fits : (n : ℕ) → got ≡ Ok n → n ≤ most_octets
   line-fits n e =
       let w = take-read l most_octets n (sym q ∙ e) in
       omega (arith, w.2, ap length w.1, leading-room l 0 most_octets)
 
-  pub line-given : (n : ℕ) (buf buf' : List ℕ) (x : Wrote) (t : List ℕ) → got ≡ Done n
+  pub line-given : (n : ℕ) (buf buf' : List ℕ) (x : Result Unit Refusal) (t : List ℕ) → got ≡ Ok n
       → buf' ≡ put buf 0 (leading l 0 most_octets)
       → Gives s (add_octets s (take n buf')) x t → Gives s (add_line s l) x t
   unfolding add_line
@@ -142,16 +138,16 @@ module _ (s l : List ℕ) (got : Wrote) (q : got ≡ take_text l most_octets) wh
       ∙ take_put buf 0 (octets_in l) (omega arith) in
       let o : add_line s l ≡ add_octets s (take n buf') =
       pick_true (add_octets s (octets_in l)) (refused 4) w.0 ∙ ap (add_octets s) (sym k) in
-      (g.0 ∙ sym (ap wrote_of o), g.1 ∙ sym (ap (state_after s) o))
+      (g.0 ∙ sym (ap tried_of o), g.1 ∙ sym (ap (state_after s) o))
 
-  pub line-none : (x : Refusal) → got ≡ Refused x → Gives s (add_line s l) (Refused NotLine) s
+  pub line-none : (x : Refusal) → got ≡ Err x → Gives s (add_line s l) (Err NotLine) s
   unfolding take_text add_line add_octets
   line-none x e = not_line s (add_line s l) (go (is_text l) (leb (length (octets_in l)) most_octets) refl refl)
     where
       go : (a b : Bool) → is_text l ≡ a → leb (length (octets_in l)) most_octets ≡ b → add_line s l ≡ refused 4
       go true true f h =
-          let d : Done (length (octets_in l)) ≡ Refused x =
-          sym (pick_true (Done (length (octets_in l))) (Refused NotLine) (rw (f, h))) ∙ sym q ∙ e in
+          let d : ◌≡◌ {A = Result ℕ Refusal} (Ok (length (octets_in l))) (Err x) =
+          sym (pick_true (Ok (length (octets_in l))) (Err NotLine) (rw (f, h))) ∙ sym q ∙ e in
           let z : ◌≡◌ {A = ℕ} 0 1 = cc in
           absurd (omega arith)
       go true false f h =
@@ -167,12 +163,12 @@ module _ (s line : List ℕ) (a : Course) (c : ℕ) where
   abbrev now : Standing
   now = record { state = s; line = line; course = a }
 
-  pub step-stopped : is_stopped a.stop ≡ true → now ≡ stepped now c
+  pub step-stopped : is_err a.stop ≡ true → now ≡ stepped now c
   unfolding stepped
   step-stopped e = sym (pick_true now (pick (eqb c lf) (ended now c) (longer now c)) e)
 
-  module _ (goes : is_stopped a.stop ≡ false) (h : ℕ) (is : h ≡ min a.held line_most) where
-    pub step-ended : c ≡ lf → (x : Wrote) (t : List ℕ) (r : Course)
+  module _ (goes : is_err a.stop ≡ false) (h : ℕ) (is : h ≡ min a.held line_most) where
+    pub step-ended : c ≡ lf → (x : Result Unit Refusal) (t : List ℕ) (r : Course)
         → Gives s (add_line s (take (h + 1) (set line h c))) x t
         → r ≡ course_after a.lines x → record { state = t; line = set line h c; course = r } ≡ stepped now c
     unfolding stepped ended given placed held_in

@@ -1,16 +1,13 @@
 -- The text of additions read in pieces of any size: how the giving stands after each character. The line that has no
 -- LF yet is held in a room of one character more than the longest line of an addition: of a longer one so much stays
 -- as makes it too long. Definitions alone.
-use Rattle.std.specs.Prelude.{ℕ, ◌+◌, min, Bool, true, false, List, [], ◌∷◌, eqb, take, set}
+use Rattle.refusals.specs.declared.Refusal.{Refusal}
+use Rattle.std.specs.Prelude.{ℕ, ◌+◌, min, is_err, List, [], ◌∷◌, eqb, take, set, Result, Ok, Err}
 use Rattle.lines.specs.Hex.{lf}
 use Rattle.laws.specs.Tests.{pick}
-use Rattle.refusals.specs.declared.Wrote.{Wrote}
-use Rattle.refusals.specs.declared.Wrote.TheVariants.{Done, Refused}
 use Rattle.sessions.specs.Machine.{Outcome}
 use Rattle.sessions.specs.Session.{state_after}
-use Rattle.engine.specs.declared.Stop.{Stop}
-use Rattle.engine.specs.declared.Stop.TheVariants.{End, Refused as Stopped}
-use Rattle.engine.specs.Calls.{wrote_of}
+use Rattle.engine.specs.Tries.{tried_of}
 use Rattle.additions.specs.declared.Course.{Course}
 use Rattle.additions.specs.Additions.{line_most, add_line, next}
 
@@ -21,20 +18,16 @@ pub record Standing : Type 0 where
   pub course : Course
 
 unfoldable pub begun : Course
-begun = record { held = 0; lines = 0; stop = End }
-
-unfoldable pub is_stopped : Stop → Bool
-is_stopped End = false
-is_stopped (Stopped x) = true
+begun = record { held = 0; lines = 0; stop = Ok tt }
 
 -- after a line: a refused one stops
-unfoldable pub course_after : ℕ → Wrote → Course
-course_after lines (Done k) = record { held = 0; lines = next lines; stop = End }
-course_after lines (Refused x) = record { held = 0; lines = lines; stop = Stopped x }
+unfoldable pub course_after : ℕ → Result Unit Refusal → Course
+course_after lines (Ok tt) = record { held = 0; lines = next lines; stop = Ok tt }
+course_after lines (Err x) = record { held = 0; lines = lines; stop = Err x }
 
 -- after a line, by its outcome; the room as the line was held in it
 unfoldable pub given : List ℕ → List ℕ → ℕ → Outcome (List ℕ) → Standing
-given s line lines o = record { state = state_after s o; line = line; course = course_after lines (wrote_of o) }
+given s line lines o = record { state = state_after s o; line = line; course = course_after lines (tried_of o) }
 
 -- the characters held, at most as many as the longest line has
 unfoldable pub held_in : ℕ → ℕ
@@ -64,7 +57,7 @@ longer g c =
 
 -- one character more; after a refusal nothing is read
 unfoldable pub stepped : Standing → ℕ → Standing
-stepped g c = pick (is_stopped g.course.stop) g (pick (eqb c lf) (ended g c) (longer g c))
+stepped g c = pick (is_err g.course.stop) g (pick (eqb c lf) (ended g c) (longer g c))
 
 -- so many characters more
 unfoldable pub fed : Standing → List ℕ → Standing

@@ -1,5 +1,5 @@
 -- Additions read in pieces of any size are the additions of the whole text. Document 02, T-12. Assumes nothing.
-use Rattle.std.specs.Prelude.{ℕ, zero, suc, ◌+◌, ◌*◌, ◌≤◌, ◌<◌, min, ◌≡◌, Bool, eqb, length, take, drop, set}
+use Rattle.std.specs.Prelude.{ℕ, zero, suc, ◌+◌, ◌*◌, ◌≤◌, ◌<◌, min, ◌≡◌, is_err, Bool, eqb, length, take, drop, set, Ok, Err}
 use Rattle.std.proofs.Math.Path.{refl}
 use Rattle.std.proofs.Common.{sym, ap, ◌∙◌, add-one, length-append, length-set}
 use Rattle.std.proofs.Math.Bool.{true, false}
@@ -11,19 +11,17 @@ use Rattle.laws.specs.Tests.{pick}
 use Rattle.laws.specs.TestsLaws.{pick_true, pick-false, cases-le}
 use Rattle.lines.specs.Hex.{lf, is_text, octets_in}
 use Rattle.lines.specs.TextsLaws.{octets-in-octets, length-is-text}
-use Rattle.refusals.specs.declared.Wrote.TheVariants.{Done, Refused}
 use Rattle.sessions.specs.Machine.{Outcome, refused, done}
 use Rattle.sessions.specs.Session.{state_after}
 use Rattle.sessions.specs.Saved.{cut_from, cut}
 use Rattle.editions.specs.Editions.{edition_in}
 use Rattle.wholes.specs.Engine.{add_whole}
-use Rattle.engine.specs.declared.Stop.{Stop}
-use Rattle.engine.specs.declared.Stop.TheVariants.{End, Refused as Stopped}
-use Rattle.engine.specs.Calls.{wrote_of, case_of}
+use Rattle.engine.specs.Calls.{case_of}
+use Rattle.engine.specs.Tries.{tried_of}
 use Rattle.engine.specs.Replays.{stop_case}
 use Rattle.additions.specs.declared.Course.{Course}
 use Rattle.additions.specs.Additions.{most_octets, line_most, is_addition, add_octets, add_line, next, Added, go_on, add_lines, add_text}
-use Rattle.additions.specs.Pieces.{Standing, begun, is_stopped, course_after, given, held_in, placed, ended, longer, stepped, fed}
+use Rattle.additions.specs.Pieces.{Standing, begun, course_after, given, held_in, placed, ended, longer, stepped, fed}
 use Rattle.additions.specs.AnswersTurns.{form-over, step-stopped}
 
 -- a text read in two pieces is read as a whole
@@ -33,7 +31,7 @@ fed-pieces g [] b = refl
 fed-pieces g (c ∷ a) b = fed-pieces (stepped g c) a b
 
 -- after a refusal nothing is read
-pub fed-stopped : (g : Standing) (t : List ℕ) → is_stopped g.course.stop ≡ true → fed g t ≡ g
+pub fed-stopped : (g : Standing) (t : List ℕ) → is_err g.course.stop ≡ true → fed g t ≡ g
 unfolding fed
 fed-stopped g [] e = refl
 fed-stopped g (c ∷ t) e =
@@ -114,7 +112,7 @@ pub record Same (g : Standing) (r : Added) : Type 0 where
   pub stop : g.course.stop ≡ stop_case r.stop
 
 abbrev at-line : List ℕ → List ℕ → ℕ → ℕ → Standing
-at-line s line n h = record { state = s; line = line; course = record { held = h; lines = n; stop = End } }
+at-line s line n h = record { state = s; line = line; course = record { held = h; lines = n; stop = Ok tt } }
 
 module _ (s line : List ℕ) (n h c : ℕ) (b : h ≤ line_most) where
   held-so : held_in h ≡ h
@@ -123,24 +121,24 @@ module _ (s line : List ℕ) (n h c : ℕ) (b : h ≤ line_most) where
 
   ended_so : eqb c lf ≡ true
       → stepped (at-line s line n h) c ≡ given s (set line h c) n (add_line s (take (h + 1) (set line h c)))
-  unfolding stepped is_stopped ended placed pick
+  unfolding stepped ended placed pick
   ended_so e = rw (e, held-so) refl
 
   longer-so : eqb c lf ≡ false → stepped (at-line s line n h) c ≡ at-line s (set line h c) n (held_in (h + 1))
-  unfolding stepped is_stopped longer placed pick
+  unfolding stepped longer placed pick
   longer-so e = rw (e, held-so) refl
 
 -- a line that was refused
 given-refused : (s line t : List ℕ) (n k : ℕ)
     → fed (given s line n (refused k)) t
-    ≡ record { state = s; line = line; course = record { held = 0; lines = n; stop = Stopped (case_of k) } }
-unfolding given course_after wrote_of state_after is_stopped
+    ≡ record { state = s; line = line; course = record { held = 0; lines = n; stop = Err (case_of k) } }
+unfolding given course_after tried_of state_after
 given-refused s line t n k =
     fed-stopped (record
-    { state = s; line = line; course = record { held = 0; lines = n; stop = Stopped (case_of k) } }) t refl
+    { state = s; line = line; course = record { held = 0; lines = n; stop = Err (case_of k) } }) t refl
 
 given-done : (s line u w : List ℕ) (n : ℕ) → given s line n (done u w) ≡ at-line u line (next n) 0
-unfolding given course_after wrote_of state_after
+unfolding given course_after tried_of state_after
 given-done s line u w n = refl
 
 abbrev FedFrom : List ℕ → Type 0

@@ -3,15 +3,14 @@
 // to `engine::add`. The first that is refused stops. Reading the file is the caller's.
 #![tactic(auto)]
 
-ghost use Rattle.std.specs.Prelude.{◌+◌, ◌≤◌, min, ◌≡◌, length};
+ghost use Rattle.std.specs.Prelude.{◌+◌, ◌≤◌, ◌≡◌, length};
 ghost use Rattle.sessions.specs.Session.{state_after};
-ghost use Rattle.engine.specs.Calls.{wrote_of};
-ghost use Rattle.additions.specs.Additions.{is_addition as is_addition_of, add_octets, add_line, next as next_of, line_most};
-ghost use Rattle.additions.specs.Pieces.{begun, is_stopped, course_after, stepped, fed};
+ghost use Rattle.engine.specs.Tries.{tried_of};
+ghost use Rattle.additions.specs.Additions.{is_addition as is_addition_of, add_octets, add_line, line_most};
+ghost use Rattle.additions.specs.Pieces.{begun, course_after, stepped, fed};
 
-use engine::Stop;
 use index::Whole;
-use refusals::{Refusal, Wrote};
+use refusals::Refusal;
 
 // How the giving of additions stands: the characters held of the line that has no LF yet, the lines accepted, and the
 // refusal that stopped it, if one did.
@@ -19,7 +18,7 @@ use refusals::{Refusal, Wrote};
 pub struct Course {
     pub held: usize,
     pub lines: u64,
-    pub stop: Stop,
+    pub stop: Result<(), Refusal>,
 }
 
 // An A4 line's octets: its name, the starting number (4), the prefix length, the prefix.
@@ -39,22 +38,6 @@ pub const LINE: usize = 2 * MOST + 1;
 // The room for a line: one character more, so that a longer one stays too long.
 pub const ROOM: usize = LINE + 1;
 
-fn least(a: usize, b: usize) -> usize
-    ensures { result ≡ min a b }
-{
-    if a < b { a } else { b }
-}
-
-// A count and one more, at most the greatest number of 64 bits.
-fn next(n: u64) -> u64
-    ensures { result ≡ next_of n }
-{
-    if n < u64::MAX {
-        return n + 1;
-    }
-    n
-}
-
 // Whether octets have the form of an A4 line.
 fn is_addition(row: &[u8]) -> bool
     ensures { result ≡ is_addition_of row.now }
@@ -70,12 +53,12 @@ fn is_addition(row: &[u8]) -> bool
 }
 
 // The addition of a line's octets.
-fn give_octets(s: &mut [u8; Whole::SIZE], row: &[u8]) -> Wrote
-    ensures { (result ≡ wrote_of (add_octets s.old row.now))
+fn give_octets(s: &mut [u8; Whole::SIZE], row: &[u8]) -> Result<(), Refusal>
+    ensures { (result ≡ tried_of (add_octets s.old row.now))
         × (s.new ≡ state_after s.old (add_octets s.old row.now)) }
 {
     if !is_addition(row) {
-        return Wrote::Refused(Refusal::NotLine);
+        return Err(Refusal::NotLine);
     }
     let number = octets::get32(row, NUMBER_AT);
     engine::add(s, number, &row[PREFIX_AT..])
@@ -83,16 +66,13 @@ fn give_octets(s: &mut [u8; Whole::SIZE], row: &[u8]) -> Wrote
 
 // The addition of one line: refusal 4 where it is not in the form of an A4 line, then those of adding, 7, 15, 14, 13;
 // they leave the block as it came.
-pub fn give(s: &mut [u8; Whole::SIZE], line: &[u8]) -> Wrote
-    ensures { (result ≡ wrote_of (add_line s.old line.now))
+pub fn give(s: &mut [u8; Whole::SIZE], line: &[u8]) -> Result<(), Refusal>
+    ensures { (result ≡ tried_of (add_line s.old line.now))
         × (s.new ≡ state_after s.old (add_line s.old line.now)) }
 {
     let mut row = [0u8; MOST];
-    let got = reader::take_text(line, &mut row);
-    match got {
-        Wrote::Done(n) => give_octets(s, &row[..n]),
-        Wrote::Refused(_) => Wrote::Refused(Refusal::NotLine),
-    }
+    let n = reader::take_text(line, &mut row)?;
+    give_octets(s, &row[..n])
 }
 
 // Nothing is read yet.
@@ -102,34 +82,24 @@ pub fn begin() -> Course
     Course {
         held: 0,
         lines: 0,
-        stop: Stop::End,
-    }
-}
-
-// Whether an addition was refused.
-pub fn is_stopped(stop: Stop) -> bool
-    ensures { result ≡ is_stopped stop }
-{
-    match stop {
-        Stop::End => false,
-        Stop::Refused(_) => true,
+        stop: Ok(()),
     }
 }
 
 // How it stands after a line, by what that answered.
-fn after(lines: u64, r: Wrote) -> Course
+fn after(lines: u64, r: Result<(), Refusal>) -> Course
     ensures { result ≡ course_after lines r }
 {
     match r {
-        Wrote::Done(_) => Course {
+        Ok(()) => Course {
             held: 0,
-            lines: next(lines),
-            stop: Stop::End,
+            lines: lines.saturating_add(1),
+            stop: r,
         },
-        Wrote::Refused(x) => Course {
+        Err(_) => Course {
             held: 0,
-            lines: lines,
-            stop: Stop::Refused(x),
+            lines,
+            stop: r,
         },
     }
 }
@@ -140,37 +110,19 @@ fn step(s: &mut [u8; Whole::SIZE], line: &mut [u8], course: Course, c: u8) -> Co
     ensures { record { state = s.new; line = line.new; course = result }
         ≡ stepped (record { state = s.old; line = line.old; course = course }) c }
 {
-    let stop = course.stop;
-    if is_stopped(stop) {
+    if course.stop.is_err() {
         return course;
     }
-    let held = least(course.held, LINE);
+    let held = course.held.min(LINE);
     line[held] = c;
     let end = held + 1;
     if c == lines::LF {
         return after(course.lines, give(s, &line[..end]));
     }
     Course {
-        held: least(end, LINE),
-        lines: course.lines,
-        stop: stop,
+        held: end.min(LINE),
+        ..course
     }
-}
-
-// Characters one after another.
-fn steps(s: &mut [u8; Whole::SIZE], line: &mut [u8], course: Course, text: &[u8]) -> Course
-    requires { length line.old ≡ line_most + 1 }
-    ensures { record { state = s.new; line = line.new; course = result }
-        ≡ fed (record { state = s.old; line = line.old; course = course }) text.now }
-{
-    let n = text.len();
-    let mut at = 0;
-    let mut now = course;
-    while at < n {
-        now = step(s, line, now, text[at]);
-        at += 1;
-    }
-    now
 }
 
 // So many characters more of the file: the lines that end among them are given, in order, until one is refused.
@@ -178,5 +130,9 @@ pub fn feed(s: &mut [u8; Whole::SIZE], line: &mut [u8; ROOM], course: Course, te
     ensures { record { state = s.new; line = line.new; course = result }
         ≡ fed (record { state = s.old; line = line.old; course = course }) text.now }
 {
-    steps(s, line, course, text)
+    let mut now = course;
+    for &c in text {
+        now = step(s, line, now, c);
+    }
+    now
 }

@@ -1,7 +1,7 @@
 -- The most comparisons that the match of a pattern condition makes (document 02, T-08: "at most 450: 15 patterns, at
 -- most 30 each .. one number, at most 900"). Assumes nothing.
-use Rattle.std.specs.Prelude.{◌≡◌, ℕ, zero, suc, ◌+◌, ◌-◌, ◌*◌, ◌<◌, ◌≤◌, Bool, true, false, List, [], ◌∷◌, length, take, drop, ◌==◌, refl}
-use Rattle.std.proofs.Common.{sym, ap, ◌∙◌, suc-mul, le-leb, length-take, length-drop, length-take-le}
+use Rattle.std.specs.Prelude.{◌≡◌, ℕ, zero, suc, ◌+◌, ◌-◌, ◌*◌, ◌≤◌, Bool, true, false, List, [], ◌∷◌, length, take, drop, ◌==◌, refl}
+use Rattle.std.proofs.Common.{suc-mul, le-leb, length-take, length-drop, length-take-le}
 use native.Mathlib.Omega.{arith}
 use Rattle.std.proofs.lemmas.Bool.{lt-leb}
 use Rattle.laws.specs.Loops.{when}

@@ -157,6 +157,14 @@ module _ (t u : ℕ) (adv scan : List ℕ) (second : Bool) (at : ℕ) {found sec
       }
 
 -- no more AD types are looked at than octets are left
+-- a part that was found is not empty
+pub part_some : (xs : List ℕ) (from to : ℕ) → 0 < from → from ≤ to → to ≤ length xs
+    → length (take (to - (from - 1)) (drop (from - 1) xs)) ≢ 0
+part_some xs from to l o h =
+    let m : length (take (to - (from - 1)) (drop (from - 1) xs)) ≡ to - (from - 1) =
+    length-take-le (to - (from - 1)) (drop (from - 1) xs) (simp length-drop (omega arith)) in
+    λ z. omega arith
+
 pub seen_most : {t u : ℕ} {adv scan : List ℕ} {second : Bool} {at : ℕ} {second' : Bool} {to seen : ℕ} {part : List ℕ}
     → Handed t u adv scan second at second' to seen part → seen ≤ rest adv scan second at
 seen_most {part = part} p = cases_eq (length part) 0 (λ e. p.few e) (λ n. omega (arith, p.less n))

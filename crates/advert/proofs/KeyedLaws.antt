@@ -1,12 +1,11 @@
 -- Both sides of conditions of type 3 (document 02, T-03), as rows that the checker computes: 15, 16 and 17 octets;
 -- the public type; top bits 00, 10, 11; a hash off by one bit; a key with one bit changed; a key in the wrong octet
 -- order. Keys, addresses and what the cipher says of them are those of resolve (Examples). Assumes nothing.
-use Rattle.std.specs.Prelude.{◌≡◌, ℕ, suc, Bool, true, false, List, [], ◌∷◌, drop, refl}
+use Rattle.std.specs.Prelude.{◌≡◌, ℕ, Bool, true, false, List, [], ◌∷◌, drop, refl}
 use Rattle.laws.specs.Tests.{pick}
 use Rattle.resolve.specs.Examples.{sample_key}
 use Rattle.resolve.specs.ExamplesLaws.{key_changed, key_turned, address, address_later, address_off, top00, top10, top11}
 use Rattle.resolve.specs.ExamplesLaws.{resolved, resolved-later, off-by-one, changed-key, turned-key, not-resolvable}
-use Rattle.advert.specs.declared.Form.TheVariants.{Good, Malformed}
 use Rattle.advert.specs.Irk.{irk_form, irk_meets}
 use Rattle.advert.specs.Condition.{well_formed, meets, form_of, form_status}
 

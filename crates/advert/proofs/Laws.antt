@@ -6,8 +6,9 @@ use Rattle.std.proofs.lemmas.Bool.{false≢true, lt-leb}
 use Rattle.laws.specs.Loops.{when}
 use Rattle.laws.specs.Tests.{pick, sames}
 use Rattle.laws.specs.TestsLaws.{sames-eq, sames-refl, and_left, and_right, cases-le, cases_eq}
-use Rattle.advert.specs.declared.Form.{Form}
-use Rattle.advert.specs.declared.Form.TheVariants.{Good, Malformed, Unknown}
+use Rattle.std.specs.Prelude.{Result, Ok, Err}
+use Rattle.advert.specs.declared.FormError.{FormError}
+use Rattle.advert.specs.declared.FormError.TheVariants.{Malformed, Unknown}
 use Rattle.advert.specs.Parts.{parts_from, parts}
 use Rattle.advert.specs.Pattern.{patterns, patterns_form, patterns_meet, fills, extent}
 use Rattle.advert.specs.Uuid.{uuid_form, uuid_meets}
@@ -156,16 +157,17 @@ well-short kind condition e n =
     (well-kind kind condition e)
 
 -- the answer on the form says whether the condition is well formed
-pub form-good : (kind : ℕ) (condition : List ℕ) → form_of kind condition ≡ Good → well_formed kind condition ≡ true
+pub form-good : (kind : ℕ) (condition : List ℕ) → form_of kind condition ≡ Ok tt → well_formed kind condition ≡ true
 unfolding form_of pick
 form-good kind condition e = go (nat_le 1 kind && nat_le kind 4) (well_formed kind condition) e
   where
-    go : (b w : Bool) → pick b (pick w Good Malformed) Unknown ≡ Good → w ≡ true
+    go : (b w : Bool)
+        → ◌≡◌ {A = Result Unit FormError} (pick b (pick w (Ok tt) (Err Malformed)) (Err Unknown)) (Ok tt) → w ≡ true
     go false w e = let z : ◌≡◌ {A = ℕ} 0 1 = cc in absurd (omega arith)
     go true false e = let z : ◌≡◌ {A = ℕ} 0 1 = cc in absurd (omega arith)
     go true true e = refl
 
-pub good-form : (kind : ℕ) (condition : List ℕ) → well_formed kind condition ≡ true → form_of kind condition ≡ Good
+pub good-form : (kind : ℕ) (condition : List ℕ) → well_formed kind condition ≡ true → form_of kind condition ≡ Ok tt
 unfolding form_of pick
 good-form kind condition e =
     let b : (1 ≤ kind) × (kind ≤ 4) =
@@ -180,11 +182,11 @@ well-kind-most kind condition e =
     (well-kind kind condition e)
 
 -- a status is an octet
-pub status-below : (f : Form) → form_status f < 256
+pub status-below : (f : Result Unit FormError) → form_status f < 256
 unfolding form_status
-status-below Good = omega arith
-status-below Malformed = omega arith
-status-below Unknown = omega arith
+status-below (Ok tt) = omega arith
+status-below (Err Malformed) = omega arith
+status-below (Err Unknown) = omega arith
 
 -- the status is 0 exactly for a well-formed condition
 pub status-good : (kind : ℕ) (condition : List ℕ) → well_formed kind condition ≡ true
@@ -197,7 +199,7 @@ pub status-zero : (kind : ℕ) (condition : List ℕ) → form_status (form_of k
 unfolding form_status
 status-zero kind condition e = form-good kind condition (go (form_of kind condition) e)
   where
-    go : (f : Form) → form_status f ≡ 0 → f ≡ Good
-    go Good e = refl
-    go Malformed e = absurd (omega arith)
-    go Unknown e = absurd (omega arith)
+    go : (f : Result Unit FormError) → form_status f ≡ 0 → f ≡ Ok tt
+    go (Ok tt) e = refl
+    go (Err Malformed) e = absurd (omega arith)
+    go (Err Unknown) e = absurd (omega arith)

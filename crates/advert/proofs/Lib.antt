@@ -5,5 +5,6 @@ pub mod EitherLaws
 pub mod ExamplesLaws
 pub mod KeyedLaws
 pub mod Laws
+pub mod KindLaws
 pub mod PatternLaws
 pub mod UuidLaws

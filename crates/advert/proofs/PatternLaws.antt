@@ -15,7 +15,7 @@ use Rattle.laws.specs.TestsLaws.{cases_eq}
 use Rattle.advert.specs.Parts.{parts, PartAt}
 use Rattle.advert.specs.PartsLaws.{parts-nil, rest-whole}
 use Rattle.advert.specs.Either.{both}
-use Rattle.advert.specs.Pattern.{holds_at, patterns, extent, fills, patterns_form, pattern_meets}
+use Rattle.advert.specs.Pattern.{holds_at, extent, fills, patterns_form, pattern_meets}
 
 -- two tests for equality that hold together
 pub eqb-iff : (a b c d : ℕ) → (a ≡ b → c ≡ d) → (c ≡ d → a ≡ b) → (a == b) ≡ (c == d)

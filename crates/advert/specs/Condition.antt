@@ -1,9 +1,9 @@
 -- Conditions of every type: their form and their match (document 01, Conditions; the types' statuses are in
 -- Commands). Assumes nothing.
-use Rattle.std.specs.Prelude.{ℕ, Bool, false, ◌&&◌, List, ◌==◌, nat_le}
+use Rattle.std.specs.Prelude.{ℕ, Bool, false, ◌&&◌, List, ◌==◌, nat_le, Result, Ok, Err}
 use Rattle.laws.specs.Tests.{pick}
-use Rattle.advert.specs.declared.Form.{Form}
-use Rattle.advert.specs.declared.Form.TheVariants.{Good, Malformed, Unknown}
+use Rattle.advert.specs.declared.FormError.{FormError}
+use Rattle.advert.specs.declared.FormError.TheVariants.{Malformed, Unknown}
 use Rattle.advert.specs.Pattern.{patterns_form, patterns_meet}
 use Rattle.advert.specs.Uuid.{uuid_form, uuid_meets}
 use Rattle.advert.specs.Address.{address_form, address_meets}
@@ -27,12 +27,12 @@ meets kind condition address_type address adv scan =
     (pick (kind == 4) (address_meets condition address_type address) false)))
 
 -- what is said of a condition's form: types outside 1 to 4 are unknown
-unfoldable pub form_of : (kind : ℕ) (condition : List ℕ) → Form
+unfoldable pub form_of : (kind : ℕ) (condition : List ℕ) → Result Unit FormError
 form_of kind condition =
-    pick (nat_le 1 kind && nat_le kind 4) (pick (well_formed kind condition) Good Malformed) Unknown
+    pick (nat_le 1 kind && nat_le kind 4) (pick (well_formed kind condition) (Ok tt) (Err Malformed)) (Err Unknown)
 
 -- the status of each answer (document 01, Commands: type outside 1 to 4 and malformed condition 0x12)
-unfoldable pub form_status : Form → ℕ
-form_status Good = 0
-form_status Malformed = 18
-form_status Unknown = 18
+unfoldable pub form_status : Result Unit FormError → ℕ
+form_status (Ok tt) = 0
+form_status (Err Malformed) = 18
+form_status (Err Unknown) = 18

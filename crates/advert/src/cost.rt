@@ -24,15 +24,16 @@ fn some_cost<'a, 'b>(
     let mut at = 0;
     let mut seen = 0;
     let mut count = 0;
-    loop {
-        let part = super::lookup::next_section(adv, scan, &mut second, &mut at, &mut seen, t, t);
+    while let Some(part) = super::lookup::next_section(
+        adv,
+        scan,
+        &mut second,
+        &mut at,
+        &mut seen,
+        t,
+        t,
+    ) {
         count += seen;
-        if part.len() == 0 {
-            return super::Match {
-                found: false,
-                comparisons: count,
-            };
-        }
         let c = super::patterns::compare(&part[1..], start, octets);
         count += c.count;
         if c.same {
@@ -47,6 +48,10 @@ fn some_cost<'a, 'b>(
                 comparisons: count,
             };
         }
+    }
+    super::Match {
+        found: false,
+        comparisons: count + seen,
     }
 }
 

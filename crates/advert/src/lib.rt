@@ -14,17 +14,42 @@ ghost use Rattle.advert.specs.Pattern.{patterns_meet};
 ghost use Rattle.advert.specs.Uuid.{lists_uuid, uuid_form, uuid_meets};
 ghost use Rattle.advert.specs.Address.{address_form, address_meets};
 ghost use Rattle.advert.specs.Irk.{irk_form, irk_meets};
+ghost use Rattle.advert.specs.Kinds.{code_of, Decodes};
 ghost use Rattle.advert.specs.Condition.{form_of, form_status, meets, well_formed};
 
 // The condition type of an identity resolving key (document 02, T-03).
 pub const IRK: u8 = 3;
 
-// What is said of a condition's form: as its type asks, not so, a type that is none.
-#[derive(Clone, Copy)]
-pub enum Form {
-    Good,
+// What is wrong with a condition's form: it is not as its type asks, its type is none.
+#[derive(Clone, Copy, Debug, PartialEq, Eq)]
+pub enum FormError {
     Malformed,
     Unknown,
+}
+
+// The types of conditions, and those of their numbers.
+#[derive(Clone, Copy, Debug, PartialEq, Eq)]
+enum Kind {
+    Patterns,
+    Uuid,
+    Irk,
+    Address,
+}
+
+impl TryFrom<u8> for Kind {
+    type Error = FormError;
+
+    ghost try_from_gives = { Decodes };
+
+    fn try_from(code: u8) -> Result<Kind, FormError> {
+        match code {
+            1 => Ok(Kind::Patterns),
+            2 => Ok(Kind::Uuid),
+            IRK => Ok(Kind::Irk),
+            4 => Ok(Kind::Address),
+            _ => Err(FormError::Unknown),
+        }
+    }
 }
 
 // What is said of a packet and a pattern condition, with how many comparisons it took.
@@ -59,11 +84,7 @@ fn some_lists<'a, 'b>(adv: &'a [u8], scan: &'a [u8], t: u8, u: u8, uuid: &'b [u8
     let mut second = false;
     let mut at = 0;
     let mut seen = 0;
-    loop {
-        let part = lookup::next_section(adv, scan, &mut second, &mut at, &mut seen, t, u);
-        if part.len() == 0 {
-            return false;
-        }
+    while let Some(part) = lookup::next_section(adv, scan, &mut second, &mut at, &mut seen, t, u) {
         if lists(&part[1..], uuid) {
             return true;
         }
@@ -71,6 +92,7 @@ fn some_lists<'a, 'b>(adv: &'a [u8], scan: &'a [u8], t: u8, u: u8, uuid: &'b [u8
             return false;
         }
     }
+    false
 }
 
 // Whether the condition is a UUID type and a UUID of its size.
@@ -141,49 +163,42 @@ fn irk_meets(condition: &[u8], address_type: u8, address: &[u8]) -> bool
 }
 
 // The status of each answer on a condition's form; 0 is success.
-pub fn status_of(form: Form) -> u8
+#[tactic(auto, unfolding(crate::specs::Condition::form_status))]
+pub fn status_of(form: Result<(), FormError>) -> u8
     ensures { result ≡ form_status form }
 {
     match form {
-        Form::Good => 0,
-        Form::Malformed => 0x12,
-        Form::Unknown => 0x12,
+        Ok(()) => 0,
+        Err(FormError::Malformed) => 0x12,
+        Err(FormError::Unknown) => 0x12,
     }
 }
 
 // What is said of the form of a condition of that type.
-pub fn condition_form(kind: u8, condition: &[u8]) -> Form
+pub fn condition_form(kind: u8, condition: &[u8]) -> Result<(), FormError>
     ensures { result ≡ form_of kind condition.now }
 {
-    if kind == 0 {
-        return Form::Unknown;
+    match Kind::try_from(kind) {
+        Err(e) => Err(e),
+        Ok(k) => {
+            if well_formed(k, condition) {
+                return Ok(());
+            }
+            Err(FormError::Malformed)
+        }
     }
-    if 4 < kind {
-        return Form::Unknown;
-    }
-    if well_formed(kind, condition) {
-        return Form::Good;
-    }
-    Form::Malformed
 }
 
 // Whether the condition has the form of its type.
-fn well_formed(kind: u8, condition: &[u8]) -> bool
-    ensures { result ≡ well_formed kind condition.now }
+fn well_formed(kind: Kind, condition: &[u8]) -> bool
+    ensures { result ≡ well_formed (code_of kind) condition.now }
 {
-    if kind == 1 {
-        return patterns::patterns_form(condition);
+    match kind {
+        Kind::Patterns => patterns::patterns_form(condition),
+        Kind::Uuid => uuid_form(condition),
+        Kind::Irk => irk_form(condition),
+        Kind::Address => address_form(condition),
     }
-    if kind == 2 {
-        return uuid_form(condition);
-    }
-    if kind == IRK {
-        return irk_form(condition);
-    }
-    if kind == 4 {
-        return address_form(condition);
-    }
-    false
 }
 
 // Whether a packet from that address with that advertisement and scan response matches a condition of that type. A
@@ -200,19 +215,13 @@ pub fn match_packet<'a, 'b, 'c>(
         ≡ meets kind condition.now address_type address.now adv.now
         scan.now }
 {
-    if kind == 1 {
-        return patterns::patterns_meet(condition, adv, scan);
+    match Kind::try_from(kind) {
+        Ok(Kind::Patterns) => patterns::patterns_meet(condition, adv, scan),
+        Ok(Kind::Uuid) => uuid_meets(condition, adv, scan),
+        Ok(Kind::Irk) => irk_meets(condition, address_type, address),
+        Ok(Kind::Address) => address_meets(condition, address_type, address),
+        Err(_) => false,
     }
-    if kind == 2 {
-        return uuid_meets(condition, adv, scan);
-    }
-    if kind == IRK {
-        return irk_meets(condition, address_type, address);
-    }
-    if kind == 4 {
-        return address_meets(condition, address_type, address);
-    }
-    false
 }
 
 // Whether either text matches some pattern of the condition. The count is the remainder by 2 to the 64th: no
@@ -223,24 +232,28 @@ pub fn match_cost<'a, 'b>(condition: &'b [u8], adv: &'a [u8], scan: &'a [u8]) ->
 {
     let mut count = 0;
     let mut i = 1;
+    // Kept: a walk, whose step is the length that stands in the condition.
     while i < condition.len() {
-        let e = lookup::part_end(condition, i, 3);
-        if e == i {
-            return Match {
-                found: false,
-                comparisons: count,
-            };
+        match lookup::part_end(condition, i, 3) {
+            None => {
+                return Match {
+                    found: false,
+                    comparisons: count,
+                };
+            }
+            Some(e) => {
+                let b = i + 1;
+                let m = cost::pattern_cost(&condition[b..e], adv, scan);
+                count = std::num::wrapping_add_usize(count, m.comparisons);
+                if m.found {
+                    return Match {
+                        found: true,
+                        comparisons: count,
+                    };
+                }
+                i = e;
+            }
         }
-        let b = i + 1;
-        let m = cost::pattern_cost(&condition[b..e], adv, scan);
-        count = std::num::wrapping_add_usize(count, m.comparisons);
-        if m.found {
-            return Match {
-                found: true,
-                comparisons: count,
-            };
-        }
-        i = e;
     }
     Match {
         found: false,

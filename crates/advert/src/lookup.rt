@@ -2,75 +2,65 @@
 // Conditions; document 02, T-06). It hands back the part found, a part of whichever text holds it. Both texts stand
 // at one lifetime, here and in every caller. No other function of the project walks AD structures; the patterns of a
 // condition have the same layout and use part_end.
-ghost use Rattle.std.specs.Prelude.{◌≡◌, ◌≤◌, false, length};
+ghost use Rattle.std.specs.Prelude.{◌≡◌, ◌≢◌, ◌<◌, ◌≤◌, [], false, length, MatchOption};
 ghost use Rattle.advert.specs.Parts.{PartAt};
-ghost use Rattle.advert.specs.Sections.{Lookup};
+ghost use Rattle.advert.specs.Spans.{Looked};
 ghost use Rattle.advert.specs.Either.{text_of, rest, Handed};
 
-// Where the content of a section stands: from index from on, to before index to; and how many AD types were looked at.
+// Where the content of a section stands: from index from on, to before index to.
 #[derive(Clone, Copy)]
-struct Section {
-    found: bool,
-    seen: usize,
+struct Span {
     from: usize,
     to: usize,
 }
 
-// The index after the part that begins at i, or i where there is none.
-pub(super) fn part_end(text: &[u8], i: usize, least: usize) -> usize
+// The section that was found, where one was, and how many AD types were looked at.
+#[derive(Clone, Copy)]
+struct Section {
+    span: Option<Span>,
+    seen: usize,
+}
+
+// The index after the part that begins at i, where there is one.
+pub(super) fn part_end(text: &[u8], i: usize, least: usize) -> Option<usize>
     requires { i ≤ length text.now }
-    ensures { PartAt least text.now i result }
+    ensures { MatchOption result (PartAt least text.now i i) (λ e. PartAt least text.now i e × (i < e)) }
 {
     let n = text.len();
     if i == n {
-        return i;
+        return None;
     }
     let x = octets::wide(text[i]);
     if x < least {
-        return i;
+        return None;
     }
     if n - i <= x {
-        return i;
+        return None;
     }
-    i + 1 + x
+    Some(i + 1 + x)
 }
 
 // The first section of AD type t or u at index at or later of one text.
 fn find_section(adv: &[u8], at: usize, t: u8, u: u8) -> Section
     requires { at ≤ length adv.now }
-    ensures { Lookup t u adv.now at result.found result.seen result.from result.to }
+    ensures { Looked t u adv.now at result.seen result.span }
 {
     let mut i = at;
     let mut seen = 0;
-    while i < adv.len() {
-        let e = part_end(adv, i, 1);
-        if e == i {
-            return Section {
-                found: false,
-                seen: seen,
-                from: i,
-                to: i,
-            };
-        }
+    // Kept: a walk, whose step is the length that stands in the text.
+    while let Some(e) = part_end(adv, i, 1) {
         let x = adv[i + 1];
         seen += 1;
         let hit = (x == t) | (x == u);
         if hit {
             return Section {
-                found: true,
-                seen: seen,
-                from: i + 2,
-                to: e,
+                span: Some(Span { from: i + 2, to: e }),
+                seen,
             };
         }
         i = e;
     }
-    Section {
-        found: false,
-        seen: seen,
-        from: i,
-        to: i,
-    }
+    Section { span: None, seen }
 }
 
 // The text of a place: the scan response where second, else the advertisement.
@@ -94,7 +84,7 @@ pub(super) fn has_more(adv: &[u8], scan: &[u8], second: bool, at: usize) -> bool
 }
 
 // The lookup: the next section of AD type t or u, from its AD type octet on, a part of whichever text holds it, the
-// advertisement first. The place then stands after it. Where there is none the part is empty, and the place is left.
+// advertisement first. The place then stands after it. Where there is none the place is left.
 // Says how many AD types were looked at.
 pub(super) fn next_section<'a, 'b, 'c, 'd>(
     adv: &'a [u8],
@@ -104,31 +94,30 @@ pub(super) fn next_section<'a, 'b, 'c, 'd>(
     seen: &'d mut usize,
     t: u8,
     u: u8,
-) -> &'a [u8]
+) -> Option<&'a [u8]>
     requires { at.old ≤ length (text_of second.old adv.now scan.now) }
-    ensures { Handed t u adv.now scan.now second.old at.old
-        second.new at.new seen.new result.now }
+    ensures { MatchOption result (Handed t u adv.now scan.now second.old at.old second.new at.new seen.new [])
+        (λ part. Handed t u adv.now scan.now second.old at.old second.new at.new seen.new part.now
+        × (length part.now ≢ 0)) }
 {
     let text = text_of(adv, scan, *second);
     let s = find_section(text, *at, t, u);
     *seen = s.seen;
-    if s.found {
-        let from = s.from - 1;
-        let to = s.to;
-        *at = to;
-        return &text[from..to];
+    if let Some(p) = s.span {
+        let from = p.from - 1;
+        *at = p.to;
+        return Some(&text[from..p.to]);
     }
     if *second {
-        return &adv[0..0];
+        return None;
     }
     let r = find_section(scan, 0, t, u);
     *seen = s.seen + r.seen;
-    if r.found {
-        let from = r.from - 1;
-        let to = r.to;
+    if let Some(q) = r.span {
+        let from = q.from - 1;
         *second = true;
-        *at = to;
-        return &scan[from..to];
+        *at = q.to;
+        return Some(&scan[from..q.to]);
     }
-    &adv[0..0]
+    None
 }

@@ -30,15 +30,13 @@ pub(super) fn compare(text: &[u8], at: usize, octets: &[u8]) -> Compared
             count: 0,
         };
     }
-    let mut j = 0;
-    while j < n {
+    for j in 0..n {
         if text[at + j] != octets[j] {
             return Compared {
                 same: false,
                 count: j + 1,
             };
         }
-        j += 1;
     }
     Compared {
         same: true,
@@ -54,11 +52,15 @@ fn some_holds<'a, 'b>(adv: &'a [u8], scan: &'a [u8], t: u8, start: usize, octets
     let mut second = false;
     let mut at = 0;
     let mut seen = 0;
-    loop {
-        let part = super::lookup::next_section(adv, scan, &mut second, &mut at, &mut seen, t, t);
-        if part.len() == 0 {
-            return false;
-        }
+    while let Some(part) = super::lookup::next_section(
+        adv,
+        scan,
+        &mut second,
+        &mut at,
+        &mut seen,
+        t,
+        t,
+    ) {
         let c = compare(&part[1..], start, octets);
         if c.same {
             return true;
@@ -67,6 +69,7 @@ fn some_holds<'a, 'b>(adv: &'a [u8], scan: &'a [u8], t: u8, start: usize, octets
             return false;
         }
     }
+    false
 }
 
 // Whether either text matches the pattern: AD type, start byte, octets.
@@ -84,16 +87,18 @@ pub(super) fn patterns_meet<'a, 'b>(condition: &'b [u8], adv: &'a [u8], scan: &'
     ensures { result ≡ patterns_meet condition.now adv.now scan.now }
 {
     let mut i = 1;
+    // Kept: a walk, whose step is the length that stands in the condition.
     while i < condition.len() {
-        let e = super::lookup::part_end(condition, i, 3);
-        if e == i {
-            return false;
+        match super::lookup::part_end(condition, i, 3) {
+            None => return false,
+            Some(e) => {
+                let b = i + 1;
+                if pattern_meets(&condition[b..e], adv, scan) {
+                    return true;
+                }
+                i = e;
+            }
         }
-        let b = i + 1;
-        if pattern_meets(&condition[b..e], adv, scan) {
-            return true;
-        }
-        i = e;
     }
     false
 }
@@ -110,16 +115,18 @@ pub(super) fn patterns_form(condition: &[u8]) -> bool
         return false;
     }
     let mut i = 1;
+    // Kept: a walk, whose step is the length that stands in the condition.
     while i < condition.len() {
-        let next = super::lookup::part_end(condition, i, 3);
-        if next == i {
-            return false;
+        match super::lookup::part_end(condition, i, 3) {
+            None => return false,
+            Some(next) => {
+                if left == 0 {
+                    return false;
+                }
+                left -= 1;
+                i = next;
+            }
         }
-        if left == 0 {
-            return false;
-        }
-        left -= 1;
-        i = next;
     }
     left == 0
 }

@@ -2,3 +2,4 @@
 pub mod Blocks
 pub mod BlocksLaws
 pub mod MixedLaws
+pub mod TablesLaws

@@ -8,6 +8,7 @@ ghost use Rattle.fips197.specs.Words.{octet, octets, sums, rotated};
 ghost use Rattle.fips197.specs.Tables.{IsTable};
 ghost use Rattle.fips197.specs.Cipher.{mix_column, mix_columns, shift_rows, sub_bytes, add_round_key, cipher};
 ghost use Rattle.fips197.specs.Laws.{next_key};
+ghost use Rattle.aes.specs.TablesLaws.{IsTable-prop};
 ghost use Rattle.aes.specs.Blocks.{block_octets, sub_column};
 
 mod sbox_table;
@@ -24,24 +25,25 @@ pub struct Block {
     pub d: u32,
 }
 
-// The rule of the substitution table, for the whole table at once.
-fn substitutes() -> [u8; 256]
-    ensures { IsTable result }
-{
-    sbox_table::SBOX
+// The substitution table, with the rule of its entries.
+#[derive(Clone, Copy)]
+struct Sbox {
+    entries: [u8; 256],
+    ghost is_table: { IsTable entries } by { IsTable-prop entries },
 }
 
-fn wide(x: u8) -> u32
-    ensures { (result ≡ x) × (result < 256) }
-{
-    x as u32
+// The rule is proved for the whole table at once.
+fn substitutes() -> Sbox {
+    Sbox {
+        entries: sbox_table::SBOX,
+    }
 }
 
 // A column from its octets, row 0 first.
 pub fn column(p: u8, q: u8, u: u8, v: u8) -> u32
     ensures { octets result ≡ p ∷ q ∷ u ∷ v ∷ [] }
 {
-    wide(p) + 256 * wide(q) + 65536 * wide(u) + 16777216 * wide(v)
+    u32::from(p) + 256 * u32::from(q) + 65536 * u32::from(u) + 16777216 * u32::from(v)
 }
 
 // The octets of a column, by row.
@@ -103,16 +105,15 @@ fn double(x: u8) -> u8
 }
 
 // FIPS 197, 5.1.1: an octet's substitute, from the table.
-fn sub(t: &[u8; 256], i: usize) -> u8
-    requires { (IsTable t.now) × (i < 256) }
+fn sub(t: &Sbox, i: usize) -> u8
+    requires { i < 256 }
     ensures { result ≡ substitute i }
 {
-    t[i]
+    t.entries[i]
 }
 
 // A column of SubBytes and ShiftRows: row 0 of a, row 1 of b, row 2 of c, row 3 of d.
-fn sub_word(t: &[u8; 256], a: u32, b: u32, c: u32, d: u32) -> u32
-    requires { IsTable t.now }
+fn sub_word(t: &Sbox, a: u32, b: u32, c: u32, d: u32) -> u32
     ensures { octets result ≡ sub_column a b c d }
 {
     let p = sub(t, octet0(a));
@@ -141,8 +142,7 @@ fn mix_column(w: u32) -> u32
 }
 
 // A column of SubBytes, ShiftRows and MixColumns.
-fn mix_word(t: &[u8; 256], a: u32, b: u32, c: u32, d: u32) -> u32
-    requires { IsTable t.now }
+fn mix_word(t: &Sbox, a: u32, b: u32, c: u32, d: u32) -> u32
     ensures { octets result ≡ mix_column (substitute (octet 0 a)) (substitute (octet 1 b)) (substitute (octet 2 c))
         (substitute (octet 3 d)) }
 {
@@ -157,89 +157,62 @@ fn add_round_key(s: Block, k: Block) -> Block
     let b = sum(s.b, k.b);
     let c = sum(s.c, k.c);
     let d = sum(s.d, k.d);
-    Block {
-        a: a,
-        b: b,
-        c: c,
-        d: d,
-    }
+    Block { a, b, c, d }
 }
 
 // SubBytes, then ShiftRows.
-fn sub_shift(t: &[u8; 256], s: Block) -> Block
-    requires { IsTable t.now }
+fn sub_shift(t: &Sbox, s: Block) -> Block
     ensures { block_octets result ≡ shift_rows (sub_bytes (block_octets s)) }
 {
     let a = sub_word(t, s.a, s.b, s.c, s.d);
     let b = sub_word(t, s.b, s.c, s.d, s.a);
     let c = sub_word(t, s.c, s.d, s.a, s.b);
     let d = sub_word(t, s.d, s.a, s.b, s.c);
-    Block {
-        a: a,
-        b: b,
-        c: c,
-        d: d,
-    }
+    Block { a, b, c, d }
 }
 
 // SubBytes, then ShiftRows, then MixColumns.
-fn mix_shift(t: &[u8; 256], s: Block) -> Block
-    requires { IsTable t.now }
+fn mix_shift(t: &Sbox, s: Block) -> Block
     ensures { block_octets result ≡ mix_columns (shift_rows (sub_bytes (block_octets s))) }
 {
     let a = mix_word(t, s.a, s.b, s.c, s.d);
     let b = mix_word(t, s.b, s.c, s.d, s.a);
     let c = mix_word(t, s.c, s.d, s.a, s.b);
     let d = mix_word(t, s.d, s.a, s.b, s.c);
-    Block {
-        a: a,
-        b: b,
-        c: c,
-        d: d,
-    }
+    Block { a, b, c, d }
 }
 
 // FIPS 197, 5.2: the round key after k, with the first octet of the round constant.
-fn next_key(t: &[u8; 256], k: Block, rc: u8) -> Block
-    requires { IsTable t.now }
+fn next_key(t: &Sbox, k: Block, rc: u8) -> Block
     ensures { block_octets result ≡ next_key rc (block_octets k) }
 {
     let w = turn1(k.d);
-    let u = sum(sub_word(t, w, w, w, w), wide(rc));
+    let u = sum(sub_word(t, w, w, w, w), u32::from(rc));
     let a = sum(k.a, u);
     let b = sum(k.b, a);
     let c = sum(k.c, b);
     let d = sum(k.d, c);
-    Block {
-        a: a,
-        b: b,
-        c: c,
-        d: d,
-    }
+    Block { a, b, c, d }
 }
 
 // FIPS 197, 5.1: the last round, which mixes no columns.
-fn last_round(t: &[u8; 256], s: Block, k: Block) -> Block
-    requires { IsTable t.now }
+fn last_round(t: &Sbox, s: Block, k: Block) -> Block
     ensures { block_octets result ≡ add_round_key (shift_rows (sub_bytes (block_octets s))) (block_octets k) }
 {
     add_round_key(sub_shift(t, s), k)
 }
 
 // The cipher, with the table lent.
-fn encrypt_with(t: &[u8; 256], key: Block, block: Block) -> Block
-    requires { IsTable t.now }
+fn encrypt_with(t: &Sbox, key: Block, block: Block) -> Block
     ensures { block_octets result ≡ cipher (block_octets key) (block_octets block) }
 {
     let mut k = key;
     let mut s = add_round_key(block, key);
     let mut rc = 1u8;
-    let mut n = 0u8;
-    while n < ROUNDS {
+    for n in 0u8..ROUNDS {
         k = next_key(t, k, rc);
         s = add_round_key(mix_shift(t, s), k);
         rc = double(rc);
-        n += 1;
     }
     last_round(t, s, next_key(t, k, rc))
 }

@@ -1,6 +1,6 @@
 -- Where a visit's bar and the axis' marks stand, from their ticks. Definitions, and the laws of their branches.
 -- Assumes nothing.
-use Rattle.std.specs.Prelude.{ℕ, ◌+◌, ◌-◌, ◌*◌, ◌/◌, ◌%◌, leb, ltb, eqb}
+use Rattle.std.specs.Prelude.{ℕ, ◌+◌, ◌-◌, ◌*◌, ◌/◌, ◌%◌, max, leb, eqb}
 use Rattle.laws.specs.Tests.{pick}
 
 -- an axis of 1,000: a tick stands as far along it as it is far in the span, rounded down; the span's end and what is
@@ -10,7 +10,7 @@ across_of tick span = pick (leb span tick) 1000 (tick * 1000 / span)
 
 -- a bar is at least 2 wide
 unfoldable pub wide_of : ℕ → ℕ → ℕ
-wide_of from to = pick (ltb (to - from) 2) 2 (to - from)
+wide_of from to = max (to - from) 2
 
 -- the first of three steps that is at least the span's twelfth; a fourth where none is
 unfoldable pub fit_of : ℕ → ℕ → ℕ → ℕ → ℕ → ℕ

@@ -1,7 +1,7 @@
 -- Laws of the definitions in Axis.
 use Rattle.std.specs.Prelude.{ℕ, ◌+◌, ◌-◌, ◌*◌, ◌/◌, ◌%◌, ◌≤◌, ◌<◌, ◌≡◌}
 use Rattle.std.proofs.Math.Path.{sym}
-use Rattle.std.proofs.Common.{ap, ◌∙◌, div-lt_iff_lt-mul, mod-lt, arith, eq-eqb, ne_eqb, le-leb, lt-ltb, le-ltb}
+use Rattle.std.proofs.Common.{ap, ◌∙◌, div-lt_iff_lt-mul, mod-lt, arith, eq-eqb, ne_eqb, le-leb}
 use Rattle.std.proofs.lemmas.Bool.{lt-leb}
 use Rattle.laws.specs.TestsLaws.{pick_true, pick-false}
 use Rattle.bars.specs.Axis.{across_of, wide_of, fit_of, step_of, first_of}
@@ -17,14 +17,6 @@ across-in tick span h =
     let p : 0 < span = omega arith in
     let q : tick * 1000 / span < 1000 = (div-lt_iff_lt-mul {k = span} {x = tick * 1000} {y = 1000} p).1 (omega arith) in
     (sym (pick-false 1000 (tick * 1000 / span) (lt-leb span tick h)), omega (arith, q))
-
-pub wide-least : (from to : ℕ) → to - from < 2 → 2 ≡ wide_of from to
-unfolding wide_of
-wide-least from to h = sym (pick_true 2 (to - from) (lt-ltb (to - from) 2 h))
-
-pub wide-more : (from to : ℕ) → 2 ≤ to - from → to - from ≡ wide_of from to
-unfolding wide_of
-wide-more from to h = sym (pick-false 2 (to - from) (le-ltb (to - from) 2 h))
 
 pub bar-so : (a b : ℕ) {from to w : ℕ} → from ≡ a → to ≡ b → w ≡ wide_of from to → (190 + from ≡ 190 + a)
     × (w ≡ wide_of a b)

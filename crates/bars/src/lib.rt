@@ -1,29 +1,16 @@
-// The service record as a picture (man/visits.1): the rows that are kept for it in a lent block, the search among
-// them, and where a visit's bar and the axis' marks stand, from their ticks.
+// The service record as a picture (man/visits.1): the rows that are kept for it, the search among them, and where a
+// visit's bar and the axis' marks stand, from their ticks.
 #![tactic(auto)]
 
-ghost use Rattle.std.specs.Prelude.{◌+◌, ◌-◌, ◌*◌, ◌/◌, ◌%◌, ◌≤◌, ◌<◌, ◌≡◌, ◌&&◌, ◌||◌, leb};
-ghost use Rattle.laws.specs.Tests.{pick};
-ghost use Rattle.octets.specs.Numbers.{number_at};
+ghost use Rattle.std.specs.Prelude.{◌+◌, ◌-◌, ◌*◌, ◌/◌, ◌%◌, ◌≤◌, ◌<◌, ◌≡◌, ◌&&◌, leb, position, replicate};
 ghost use Rattle.bars.specs.Axis.{across_of, wide_of, fit_of, step_of, first_of};
-ghost use Rattle.bars.specs.Kept.{word_put, four_put, row_put, kept_in, row_at, is_of, next_in};
+ghost use Rattle.bars.specs.Kept.{kept_in, is_of, holds};
 
 use stays::Row;
 use texts::Text;
-use visit::Visit;
 
-// As many visits as a picture has, at most; octets of a kept row, and of all.
+// As many visits as a picture has, at most.
 pub const MOST: usize = 4096;
-
-pub const ROW: usize = 64;
-
-pub const SIZE: usize = 262144;
-
-// Octets of a number in it.
-const WORD: usize = 8;
-
-// No handle: that of any monitor.
-pub const ANY: u64 = 16;
 
 // Where the axis begins, how wide it is, and how wide a bar is at least.
 pub const LEFT: u64 = 190;
@@ -55,16 +42,11 @@ pub fn across(tick: u32, span: u32) -> u64
 }
 
 // How wide a bar from one place to another is: seen in any case.
+#[tactic(auto, unfolding(crate::specs::Axis::wide_of))]
 fn wide(from: u64, to: u64) -> u64
     ensures { result ≡ wide_of from to }
 {
-    if to < from {
-        return LEAST;
-    }
-    if to - from < LEAST {
-        return LEAST;
-    }
-    to - from
+    to.saturating_sub(from).max(LEAST)
 }
 
 // A row's bar on the axis of a span.
@@ -123,118 +105,63 @@ pub fn first(from: u32, step: u64) -> u64
 pub fn shorter(t: Text, n: usize) -> Text
     ensures { (result.octets ≡ t.octets) × (result.count ≡ t.count - n) }
 {
-    let octets = t.octets;
-    if t.count < n {
-        return Text { octets, count: 0 };
-    }
     Text {
-        octets,
-        count: t.count - n,
+        count: t.count.saturating_sub(n),
+        ..t
     }
 }
 
-// A number of 8 octets put at an index.
-fn put_word(block: &mut [u8], at: usize, v: u64)
-    ensures { block.new ≡ word_put block.old at v }
-{
-    octets::put64(block, at, v);
+// The rows that are kept, each in its place.
+#[derive(Drop)]
+pub struct Kept {
+    pub rows: [Option<Row>; MOST],
 }
 
-// Four of them.
-fn put_four(block: &mut [u8], at: usize, a: u64, b: u64, c: u64, d: u64)
-    requires { at ≤ 262208 }
-    ensures { block.new ≡ four_put block.old at a b c d }
-{
-    put_word(block, at, a);
-    put_word(block, at + WORD, b);
-    put_word(block, at + 2 * WORD, c);
-    put_word(block, at + 3 * WORD, d);
-}
-
-// A row put at an index.
-fn put_row(block: &mut [u8], at: usize, row: Row)
-    requires { at ≤ 262144 }
-    ensures { block.new ≡ row_put block.old at row }
-{
-    let v = row.visit;
-    put_four(block, at, v.key, v.packets, v.sum, v.frame as u64);
-    put_four(
-        block,
-        at + 4 * WORD,
-        v.tick as u64,
-        row.frame as u64,
-        row.tick as u64,
-        row.how as u64,
-    );
-}
-
-// A row kept in its place, where there is one.
-pub fn keep(block: &mut [u8], i: u64, row: Row)
-    ensures { block.new ≡ kept_in block.old i row }
-{
-    if i < MOST as u64 {
-        put_row(block, i as usize * ROW, row);
+impl Kept {
+    // No row.
+    pub fn new() -> Kept
+        ensures { result.rows ≡ replicate 4096 None }
+    {
+        Kept { rows: [None; MOST] }
     }
-}
 
-// The key of the row in a place.
-fn key_at(block: &[u8], i: usize) -> u64
-    requires { i < 4096 }
-    ensures { result ≡ number_at 8 block.now (i * 64) }
-{
-    octets::get64(block, i * ROW)
-}
-
-// The row in a place.
-pub fn row_at(block: &[u8], i: usize) -> Row
-    ensures { result ≡ row_at block.now i }
-{
-    let at = i % MOST * ROW;
-    let visit = Visit {
-        here: true,
-        key: octets::get64(block, at),
-        frame: octets::get32(block, at + 3 * WORD),
-        tick: octets::get32(block, at + 4 * WORD),
-        packets: octets::get64(block, at + WORD),
-        sum: octets::get64(block, at + 2 * WORD),
-    };
-    Row {
-        visit,
-        frame: octets::get32(block, at + 5 * WORD),
-        tick: octets::get32(block, at + 6 * WORD),
-        how: octets::get8(block, at + 7 * WORD),
-    }
-}
-
-// Whether a key is one of a device and a handle, or of a device and any.
-fn is_of(key: u64, device: u64, handle: u64) -> bool
-    ensures { result ≡ is_of device handle key }
-{
-    let own = key % visit::DEVICES == device;
-    let same = key / visit::DEVICES == handle;
-    own & ((handle == ANY) | same)
-}
-
-fn least(a: usize, b: usize) -> usize
-    ensures { (result ≡ pick (leb a b) a b) × (result ≤ b) }
-{
-    if a <= b {
-        return a;
-    }
-    b
-}
-
-// The first place from i on, before n, of a row of a device and a handle; n where there is none.
-pub fn next(block: &[u8], i: usize, n: usize, device: u64, handle: u64) -> usize
-    ensures { result ≡ next_in block.now i n device handle }
-{
-    let end = least(n, MOST);
-    let mut k = i;
-    while k < end {
-        if is_of(key_at(block, k), device, handle) {
-            return k;
+    // A row kept in its place, where there is one.
+    pub fn keep(&mut self, i: u64, row: Row)
+        ensures { self.new.rows ≡ kept_in self.old.rows i row }
+    {
+        if i < MOST as u64 {
+            self.rows[i as usize] = Some(row);
         }
-        k += 1;
     }
-    n
+}
+
+// Whether a row is one of a device and a handle, or of a device and any.
+#[tactic(auto, unfolding(crate::specs::Kept::is_of))]
+pub fn is_of(row: &Row, device: u64, handle: Option<u64>) -> bool
+    ensures { result ≡ is_of device handle row.now.visit.key }
+{
+    let key = row.visit.key;
+    let own = key % visit::DEVICES == device;
+    match handle {
+        Some(h) => own & (key / visit::DEVICES == h),
+        None => own,
+    }
+}
+
+// Whether a place has one.
+#[tactic(auto, unfolding(crate::specs::Kept::holds))]
+fn holds(place: &Option<Row>, device: u64, handle: Option<u64>) -> bool
+    ensures { result ≡ holds device handle place.now }
+{
+    match place {
+        Some(row) => is_of(row, device, handle),
+        None => false,
+    }
+}
+
+// The first place of a row of a device and a handle.
+pub fn next(rows: &[Option<Row>], device: u64, handle: Option<u64>) -> Option<usize>
+    ensures { result ≡ position (holds device handle) rows.now }
+{
+    rows.iter().position(|place| holds(place, device, handle))
 }

@@ -22,7 +22,7 @@ ghost use Rattle.model.specs.Types.{device};
 ghost use Rattle.wholes.specs.Engine.{engine, begin, add_whole};
 ghost use Rattle.wholes.specs.Index.{mask_for, handles_of};
 ghost use Rattle.wholes.specs.Layout.{whole_size};
-ghost use Rattle.index.specs.Asked.{watch_of, watch_count as watch_count, lowest_in};
+ghost use Rattle.index.specs.Asked.{watch_of, watch_count, lowest_in};
 ghost use Rattle.replays.specs.Into.{replay_into, replay_to};
 ghost use Rattle.walks.specs.Walk.{behind};
 ghost use Rattle.wholes.specs.Engine.{block_in};
@@ -83,7 +83,7 @@ pub extern "C" fn bournejade_begin(state: &mut [u8; Whole::SIZE], opcode: u16, p
     ensures state_after { state.new ≡ begin opcode prefix.now }
 {
     let answer = index::put_fresh(state, opcode, prefix);
-    numbers::start_number(answer)
+    numbers::number(answer)
 }
 
 // The number of the last executed frame, as the block has it.
@@ -157,7 +157,7 @@ pub extern "C" fn bournejade_add_edition(
         (add_whole state.old (record { from = number; prefix = prefix.now })) }
 {
     let r = engine::add(state, number, prefix);
-    numbers::answer_number(r)
+    numbers::number(r)
 }
 
 // Writes the line of a frame, for the journal: 0, or 3, 4.
@@ -194,7 +194,7 @@ pub extern "C" fn bournejade_restore(state: &mut [u8; Whole::SIZE], image: &[u8]
     ensures state_after { state.new ≡ block_in (is_image_on image.now) image.now }
 {
     let answer = engine::restore(state, image);
-    numbers::load_number(answer)
+    numbers::number(answer)
 }
 
 // Replays the whole lines of a piece of journal into one output: 0 at the end of the last one, or the refusal that

@@ -19,7 +19,7 @@ ghost use Rattle.model.specs.Types.{device};
 ghost use Rattle.wholes.specs.Engine.{engine, begin, add_whole};
 ghost use Rattle.wholes.specs.Index.{mask_for, handles_of};
 ghost use Rattle.wholes.specs.Layout.{whole_size};
-ghost use Rattle.index.specs.Asked.{watch_of, watch_count as watch_count, lowest_in};
+ghost use Rattle.index.specs.Asked.{watch_of, watch_count, lowest_in};
 ghost use Rattle.replays.specs.Into.{replay_into, replay_to};
 ghost use Rattle.walks.specs.Walk.{behind};
 ghost use Rattle.wholes.specs.Engine.{block_in};

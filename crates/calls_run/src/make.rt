@@ -2,10 +2,7 @@
 // write a line, restore, fail over, add an edition of the prefix, take up a block.
 use super::seen;
 use super::seen::Tally;
-use engine::Loaded;
-use index::{Watch, Whole};
-use refusals::Wrote;
-use state::Start;
+use index::Whole;
 
 // Octets of a block.
 const SIZE: usize = Whole::SIZE;
@@ -16,19 +13,14 @@ const NUMBER: usize = 4;
 // The block of a state that a call returned is the next call's.
 fn hold(block: &mut [u8; Whole::SIZE], state: Whole) {
     let held = state.block;
-    parts::copy(block, 0, &held);
+    *block = held;
 }
 
 // Starts with settings.
 pub(super) fn start(block: &mut [u8; Whole::SIZE], opcode: u16, prefix: &[u8], t: Tally) -> Tally {
     let begun = Whole::fresh(opcode, prefix);
-    let answer = begun.answer;
-    let state = begun.state;
-    hold(block, state);
-    match answer {
-        Start::Fresh => seen::bare(t, 0),
-        Start::Refused(x) => seen::bare(t, refusals::number_of(x)),
-    }
+    hold(block, begun.state);
+    seen::bare(t, begun.answer)
 }
 
 // Gives a frame as octets.
@@ -69,29 +61,19 @@ pub(super) fn write_line(frame: &[u8], out: &mut [u8], t: Tally) -> Tally {
     seen::answered(t, out, r)
 }
 
-// Restores an image: the number of the refusal, 0 for none.
-fn load(block: &mut [u8; Whole::SIZE], text: &[u8]) -> u8 {
-    let restored = engine::load(text);
-    let answer = restored.answer;
-    let state = restored.state;
-    hold(block, state);
-    match answer {
-        Loaded::Accepted => 0,
-        Loaded::Rejected(x) => refusals::number_of(x),
-    }
-}
-
 // Restores an image.
 pub(super) fn restore(block: &mut [u8; Whole::SIZE], text: &[u8], t: Tally) -> Tally {
-    seen::bare(t, load(block, text))
+    let restored = engine::load(text);
+    hold(block, restored.state);
+    seen::bare(t, restored.answer)
 }
 
 // Restores the image that was saved at an output's start. What is seen of it is the refusal alone.
 fn restore_saved(block: &mut [u8; Whole::SIZE], out: &[u8], n: usize, t: Tally) -> Tally {
-    if out.len() < n {
-        return seen::closed(t, seen::took(seen::opened(t), out, n), 0);
+    match out.get(..n) {
+        Some(text) => restore(block, text, t),
+        None => seen::closed(t, seen::took(seen::opened(t), out, n), 0),
     }
-    restore(block, &out[..n], t)
 }
 
 // Saves an image and restores it.
@@ -99,94 +81,70 @@ pub(super) fn fail_over(block: &mut [u8; Whole::SIZE], out: &mut [u8], t: Tally)
     seen::mark(out);
     let r = engine::save(block, out);
     match r {
-        Wrote::Done(n) => restore_saved(block, out, n, t),
-        Wrote::Refused(_) => seen::answered(t, out, r),
+        Ok(n) => restore_saved(block, out, n, t),
+        Err(_) => seen::answered(t, out, r),
     }
 }
 
 // Asks which monitors watch a device: two octets, how many and the lowest handle, or none.
-pub(super) fn ask(block: &[u8; Whole::SIZE], device: &[u8], t: Tally) -> Tally {
+pub(super) fn ask(block: &[u8; Whole::SIZE], device: &[u8], t: Tally) -> Option<Tally> {
     if device.len() != Whole::DEVICE {
-        return seen::end();
+        return None;
     }
-    let mut address = [0u8; 6];
-    parts::copy(&mut address, 0, &device[1..]);
-    let w = index::ask(block, device[0], &address);
-    match w {
-        Watch::By {
-            count: n,
-            lowest: h,
-        } => {
-            let said = [(n % 256) as u8, (h % 256) as u8];
-            seen::closed(t, seen::took(seen::opened(t), &said, 2), 0)
+    let (kind, rest) = device.split_first()?;
+    let address = rest.first_chunk::<6>()?;
+    match index::ask(block, *kind, address) {
+        Some(w) => {
+            let said = [(w.count % 256) as u8, (w.lowest % 256) as u8];
+            Some(seen::closed(t, seen::took(seen::opened(t), &said, 2), 0))
         }
-        Watch::Nobody => seen::bare(t, 0),
+        None => Some(seen::bare(t, Ok(()))),
     }
 }
 
 // Adds an edition of the prefix: its number in four octets, then the prefix.
-pub(super) fn add(block: &mut [u8; Whole::SIZE], given: &[u8], t: Tally) -> Tally {
-    if given.len() < NUMBER {
-        return seen::end();
-    }
-    let number = octets::get32(given, 0);
-    let r = engine::add(block, number, &given[NUMBER..]);
-    match r {
-        Wrote::Done(_) => seen::bare(t, 0),
-        Wrote::Refused(x) => seen::bare(t, refusals::number_of(x)),
-    }
+pub(super) fn add(block: &mut [u8; Whole::SIZE], given: &[u8], t: Tally) -> Option<Tally> {
+    let (number, prefix) = given.split_first_chunk::<NUMBER>()?;
+    let r = engine::add(block, u32::from_le_bytes(*number), prefix);
+    Some(seen::bare(t, r.map(|_| ())))
 }
 
-// Where a packed block goes on: at which octet of the block, and whether a number of zeros is next.
+// What the next octet of a packed block is, and at which octet of the block it goes on: an octet, or how many zeros
+// stand there.
 #[derive(Clone, Copy)]
-struct Place {
-    at: usize,
-    zeros: bool,
+enum Place {
+    Octet(usize),
+    Zeros(usize),
 }
 
 // How far n octets after an index are, in a block.
 fn after(at: usize, n: u8) -> usize {
-    (at % SIZE + n as usize) % SIZE
+    (at % SIZE + usize::from(n)) % SIZE
 }
 
 // Lays one octet of a packed block: a 0 and a number stand for so many zeros, any other octet for itself.
 fn lay(block: &mut [u8; Whole::SIZE], x: u8, p: Place) -> Place {
-    let at = p.at;
-    if p.zeros {
-        return Place {
-            at: after(at, x),
-            zeros: false,
-        };
-    }
-    if x == 0 {
-        return Place {
-            at: at,
-            zeros: true,
-        };
-    }
-    octets::put8(block, at, x);
-    Place {
-        at: after(at, 1),
-        zeros: false,
+    match p {
+        Place::Zeros(at) => Place::Octet(after(at, x)),
+        Place::Octet(at) if x == 0 => Place::Zeros(at),
+        Place::Octet(at) => {
+            octets::put8(block, at, x);
+            Place::Octet(after(at, 1))
+        }
     }
 }
 
 // Lays a packed block over zeros.
 fn unpack(block: &mut [u8; Whole::SIZE], packed: &[u8]) {
-    let mut p = Place {
-        at: 0,
-        zeros: false,
-    };
-    let mut i = 0;
-    while i < packed.len() {
-        p = lay(block, packed[i], p);
-        i += 1;
+    let mut p = Place::Octet(0);
+    for x in packed {
+        p = lay(block, *x, p);
     }
 }
 
 // Takes up a block, whatever its octets.
 pub(super) fn adopt(block: &mut [u8; Whole::SIZE], packed: &[u8], t: Tally) -> Tally {
-    parts::fill(block, 0, SIZE, 0);
+    block.fill(0);
     unpack(block, packed);
-    seen::bare(t, 0)
+    seen::bare(t, Ok(()))
 }

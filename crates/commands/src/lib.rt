@@ -4,7 +4,7 @@
 
 mod replies;
 
-ghost use Rattle.std.specs.Prelude.{ℕ, ◌+◌, ◌-◌, ◌*◌, ◌≤◌, ◌<◌, ◌≡◌, true, length};
+ghost use Rattle.std.specs.Prelude.{ℕ, ◌+◌, ◌-◌, ◌*◌, ◌≤◌, ◌<◌, ◌≡◌, true, length, ltb, is_some, unwrap_or};
 ghost use Rattle.laws.specs.Put.{put};
 ghost use Rattle.model.specs.Monitors.{monitor_of};
 ghost use Rattle.model.specs.Types.{Model};
@@ -24,6 +24,7 @@ ghost use Rattle.model.specs.Layout.{extra_size, most_condition, second_type_in,
 ghost use Rattle.sessions.specs.Machine.{answer_room};
 
 use state::State;
+use statuses::Status;
 
 // Whether the monitor row of a handle is in use.
 fn busy(s: &[u8], h: usize) -> bool
@@ -38,25 +39,21 @@ fn live(s: &[u8], h: u8) -> bool
     requires { length s.now ≡ block_size }
     ensures { result ≡ live_at s.now h }
 {
-    if h < State::HANDLES {
-        return busy(s, h as usize);
-    }
-    false
+    h < State::HANDLES && busy(s, h as usize)
 }
 
-// The lowest handle that is not live; 16 where all are.
-fn free_handle(s: &[u8]) -> usize
+// The lowest handle that is not live, where there is one.
+fn free_handle(s: &[u8]) -> Option<usize>
     requires { length s.now ≡ block_size }
-    ensures { result ≡ lowest s.now most_monitors 0 }
+    ensures handle { unwrap_or result most_monitors ≡ lowest s.now most_monitors 0 }
+    ensures room { is_some result ≡ ltb (lowest s.now most_monitors 0) most_monitors }
 {
-    let mut h = 0;
-    while h < State::MONITORS {
+    for h in 0..State::MONITORS {
         if !busy(s, h) {
-            return h;
+            return Some(h);
         }
-        h += 1;
     }
-    State::MONITORS
+    None
 }
 
 // Writes A1's fields in a monitor's row, from the parameters of 03 or 0F, whose condition type stands at an index;
@@ -121,10 +118,8 @@ fn compact(s: &mut [u8], count: usize, h: u8) -> usize
     ensures { Compacted h count s.old s.new result }
 {
     let mut k = 0;
-    let mut i = 0;
-    while i < count {
+    for i in 0..count {
         k = keep_row(s, i, k, h);
-        i += 1;
     }
     k
 }
@@ -167,11 +162,10 @@ fn read_features(s: &[u8], params: &[u8], out: &mut [u8]) -> usize
         out.new result }
 {
     let opcode = octets::get16(s, State::OPCODE_AT);
-    let status = statuses::read_status(params);
-    if status == 0 {
-        return replies::reply_features(s, out, opcode);
+    match statuses::read_status(params) {
+        Ok(()) => replies::reply_features(s, out, opcode),
+        Err(status) => replies::reply(out, opcode, status, 0x00),
     }
-    replies::reply(out, opcode, status, 0x00)
 }
 
 // 03 and 0F: adds a monitor under the lowest handle not live.
@@ -182,15 +176,16 @@ fn add_monitor(s: &mut [u8], params: &[u8], sub: u8, out: &mut [u8]) -> usize
         out.new result }
 {
     let opcode = octets::get16(s, State::OPCODE_AT);
-    let h = free_handle(s);
-    let room = h < State::MONITORS;
-    let status = statuses::add_status(params, room);
-    if status == 0 {
-        let at = statuses::type_at(sub);
-        put_monitor(s, h, params, at);
-        return replies::reply_handle(out, opcode, 0, sub, h as u8);
+    let free = free_handle(s);
+    match statuses::add_status(params, free.is_some()) {
+        Ok(()) => {
+            let h = free.unwrap();
+            let at = statuses::type_at(sub);
+            put_monitor(s, h, params, at);
+            replies::reply_handle(out, opcode, 0, sub, h as u8)
+        }
+        Err(status) => replies::reply_handle(out, opcode, status.code(), sub, 0),
     }
-    replies::reply_handle(out, opcode, status, sub, 0)
 }
 
 // 04: cancels a monitor.
@@ -202,12 +197,13 @@ fn cancel_monitor(s: &mut [u8], params: &[u8], out: &mut [u8]) -> usize
     let opcode = octets::get16(s, State::OPCODE_AT);
     let h = octets::get8(params, 1);
     let found = live(s, h);
-    let status = statuses::cancel_status(params, found);
-    if status == 0 {
-        cancel(s, h);
-        return replies::reply_done(out, opcode, 0x04);
+    match statuses::cancel_status(params, found) {
+        Ok(()) => {
+            cancel(s, h);
+            replies::reply_done(out, opcode, 0x04)
+        }
+        Err(status) => replies::reply(out, opcode, status, 0x04),
     }
-    replies::reply(out, opcode, status, 0x04)
 }
 
 // 05: sets the filter.
@@ -217,12 +213,13 @@ fn enable_filter(s: &mut [u8], params: &[u8], out: &mut [u8]) -> usize
         out.new result }
 {
     let opcode = octets::get16(s, State::OPCODE_AT);
-    let status = statuses::enable_status(params, s[State::FILTER_AT]);
-    if status == 0 {
-        s[State::FILTER_AT] = octets::get8(params, 1);
-        return replies::reply_done(out, opcode, 0x05);
+    match statuses::enable_status(params, s[State::FILTER_AT]) {
+        Ok(()) => {
+            s[State::FILTER_AT] = octets::get8(params, 1);
+            replies::reply_done(out, opcode, 0x05)
+        }
+        Err(status) => replies::reply(out, opcode, status, 0x05),
     }
-    replies::reply(out, opcode, status, 0x05)
 }
 
 // Executes a command, but for the position.
@@ -244,7 +241,8 @@ fn execute(s: &mut [u8], params: &[u8], out: &mut [u8]) -> usize
     if sub == 0x05 {
         return enable_filter(s, params, out);
     }
-    replies::reply(out, octets::get16(s, State::OPCODE_AT), 0x01, sub)
+    let opcode = octets::get16(s, State::OPCODE_AT);
+    replies::reply(out, opcode, Status::Unknown, sub)
 }
 
 // Executes the vendor command with these parameters, the first of them the sub-opcode: changes the block, writes the

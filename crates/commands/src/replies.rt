@@ -4,11 +4,13 @@ ghost use Rattle.std.specs.Prelude.{◌+◌, ◌≤◌, ◌≡◌, [], ◌∷◌
 ghost use Rattle.laws.specs.Put.{put};
 ghost use Rattle.model.specs.Commands.{table, answer_in};
 ghost use Rattle.model.specs.Events.{complete};
+ghost use Rattle.statuses.specs.Codes.{code};
 ghost use Rattle.commands.specs.Replies.{Replied, head_of, prefix_in, features_of};
 ghost use Rattle.model.specs.Layout.{return_most, block_size};
 ghost use Rattle.sessions.specs.Machine.{answer_room};
 
 use state::State;
+use statuses::Status;
 
 // Writes what comes before n return parameters.
 fn put_head(out: &mut [u8], opcode: u16, n: u8)
@@ -21,13 +23,14 @@ fn put_head(out: &mut [u8], opcode: u16, n: u8)
     octets::put16(out, 3, opcode);
 }
 
-// Writes an answer with a status and a sub-opcode.
-pub(super) fn reply(out: &mut [u8], opcode: u16, status: u8, sub: u8) -> usize
+// Writes an answer of refusal that has a status and the sub-opcode alone.
+pub(super) fn reply(out: &mut [u8], opcode: u16, status: Status, sub: u8) -> usize
     requires { answer_room ≤ length out.old }
-    ensures { Replied out.old out.new result (complete opcode (status ∷ sub ∷ [])) }
+    ensures { Replied out.old out.new result (complete opcode (code status ∷ sub ∷ [])) }
 {
     put_head(out, opcode, 2);
-    out[5] = status;
+    let octet = status.code();
+    out[5] = octet;
     out[6] = sub;
     7
 }

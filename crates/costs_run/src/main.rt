@@ -5,10 +5,6 @@
 // vectors and the answers from the independent implementation.
 #![tactic(auto)]
 
-ghost use Rattle.std.specs.Prelude.{◌≤◌, ◌≡◌, length};
-
-use refusals::Wrote;
-
 // Octets of a vector, and the characters of its line.
 const VECTOR: usize = 129;
 
@@ -28,52 +24,31 @@ const TEXT: usize = 31;
 // So many vectors are read at most.
 const MOST: usize = 1000000;
 
-fn sign(found: bool) -> u8 {
-    if found {
-        return b'1';
-    }
-    b'0'
-}
-
-fn answer(v: &[u8])
-    requires { length v.now ≡ 129 }
-{
+fn answer(v: &[u8; VECTOR]) {
     let c = CONDITION_AT + octets::at_most(v[0], CONDITION);
     let a = ADV_AT + octets::at_most(v[65], TEXT);
     let s = SCAN_AT + octets::at_most(v[97], TEXT);
     let m = advert::match_cost(&v[CONDITION_AT..c], &v[ADV_AT..a], &v[SCAN_AT..s]);
-    let front = [sign(m.found), b' '];
-    io::write_all(1, &front);
+    io::write_all(1, &[b'0' + u8::from(m.found), b' ']);
     io::print_decimal(1, m.comparisons as u64);
     io::write_all(1, b"\n");
 }
 
-// One line; whether it held a vector.
-fn vector(text: &[u8]) -> bool {
+// One line; nothing where it holds no vector.
+fn vector(text: &[u8]) -> Option<()> {
     let mut octets = [0u8; VECTOR];
-    let got = reader::take_text(text, &mut octets);
-    match got {
-        Wrote::Done(n) => {
-            if n == VECTOR {
-                answer(&octets);
-            }
-            n == VECTOR
-        }
-        Wrote::Refused(_) => false,
+    if reader::take_text(text, &mut octets).ok()? != VECTOR {
+        return None;
     }
+    answer(&octets);
+    Some(())
 }
 
 fn main() {
     let mut buffer = [0u8; LINE];
-    let mut k = 0;
-    while k < MOST {
-        let n = io::read_full(0, &mut buffer);
-        if n < LINE {
+    for _ in 0..MOST {
+        if io::read_full(0, &mut buffer) < LINE || vector(&buffer).is_none() {
             return;
         }
-        if !vector(&buffer) {
-            return;
-        }
-        k += 1;
     }
 }

@@ -1,20 +1,18 @@
 -- Laws of the definitions in Given.
-use Rattle.std.specs.Prelude.{ℕ, suc, ◌+◌, ◌*◌, ◌/◌, ◌%◌, ◌≤◌, ◌<◌, ◌≡◌, Bool, ◌&&◌, drop}
+use Rattle.std.specs.Prelude.{ℕ, suc, ◌+◌, ◌*◌, ◌/◌, ◌%◌, ◌≤◌, ◌<◌, ◌≡◌, Bool, ◌&&◌, eqb}
 use Rattle.std.proofs.Math.Path.{sym, ap}
-use Rattle.std.proofs.Common.{◌∙◌, arith, add-one, drop_of_length-le, drop-cons}
+use Rattle.std.proofs.Common.{◌∙◌, arith, eq-eqb, ne_eqb}
 use Rattle.std.proofs.Math.Bool.{true, false}
 use mathlib.Core.List.{List}
 use Rattle.std.proofs.Math.ListN.{get_or}
-use Rattle.laws.specs.TestsLaws.{and-not-left}
-use Rattle.laws.specs.Loops.{some as some_of}
-use Rattle.laws.specs.LoopsLaws.{some-step, some-stop, some-nil}
+use Rattle.laws.specs.TestsLaws.{and-not-left, cases_eq}
 use Rattle.octets.specs.Little.{little, value}
 use Rattle.rule.specs.Engine.{find}
 use Rattle.model.specs.Types.{Model, Packet, Pair, device_of, watched}
 use Rattle.model.specs.Frames.{has_packet, packet_of}
 use Rattle.model.specs.Sound.{sound_model}
 use Rattle.model.specs.Block.{padded}
-use Rattle.model.specs.Watch.{is_pair, holds, is_reason}
+use Rattle.model.specs.Watch.{is_pair, is_reason}
 use Rattle.model.specs.Layout.{count_at, most_monitors, most_pairs, pair_size, pairs_at}
 use Rattle.blocks.specs.FactsLaws.{sound-facts}
 use Rattle.blocks.specs.Bounds.{Fits}
@@ -84,44 +82,15 @@ module _ (m : Model) (s : List ℕ) (i : ℕ) (p : Packet) (acts : List ℕ) (de
       ∙ sym (wants-reason m.mons p q
       ∙ ap (λ (b : Bool). b && reason_by (mark (find m.mons q.handle) p) p q) (same_true p g.sent q f v))
 
--- the search: what is left at row i has the answer
-module _ (m : Model) (s : List ℕ) (n : ℕ) (p : Packet) (h key i : ℕ) (w : Holding m s n) (x : Sought p h key)
-    (q : holds m.pairs h (device_of p) ≡ holds (drop i m.pairs) h (device_of p)) where
-  at_pair : i < n → AtPair m s i
-  at_pair b = record { measured = w.measured; block = w.block; within = omega (arith, w.count) }
-
-  key-at : (b : i < n) (k : ℕ) → k ≡ little 8 s (pairs_at + pair_size * i)
-      → k ≡ (get_or m.pairs i no_pair).handle + 256 * value (watched (get_or m.pairs i no_pair))
-  unfolding pair_at
-  key-at b k e =
-      e ∙ ap (λ (l : List ℕ). little 8 l (pairs_at + pair_size * i)) w.block
-      ∙ key-pairs m w.measured i no_pair (at_pair b).within (pair_fits (at_pair b))
-
-  pub search-hit : (k : ℕ) → i < n → k ≡ little 8 s (pairs_at + pair_size * i) → k ≡ key
-      → true ≡ holds m.pairs h (device_of p)
-  unfolding holds pair_at
-  search-hit k b e y =
-      let g : Pair = get_or m.pairs i no_pair in
-      let t : is_pair h (device_of p) g ≡ true =
-      pair-true p x.sent h g (pair_fits (at_pair b)) x.low (sym (key-at b k e) ∙ y ∙ x.number) in
-      sym (q ∙ ap (λ (l : List Pair). some_of (is_pair h (device_of p)) l) (drop-cons m.pairs i no_pair
-      (at_pair b).within)
-      ∙ some-stop (is_pair h (device_of p)) g (drop (suc i) m.pairs) t)
-
-  pub search-miss : (k : ℕ) → i < n → k ≡ little 8 s (pairs_at + pair_size * i) → (k ≡ key → ⊥)
-      → holds m.pairs h (device_of p) ≡ holds (drop (i + 1) m.pairs) h (device_of p)
-  unfolding holds
-  search-miss k b e y =
-      let g : Pair = get_or m.pairs i no_pair in
-      let t : is_pair h (device_of p) g ≡ false =
-      pair-false p x.sent h g (λ z. y (key-at b k e ∙ z ∙ sym x.number)) in
-      q ∙ ap (λ (l : List Pair). some_of (is_pair h (device_of p)) l) (drop-cons m.pairs i no_pair (at_pair b).within)
-      ∙ some-step (is_pair h (device_of p)) g (drop (suc i) m.pairs) t
-      ∙ ap (λ (j : ℕ). some_of (is_pair h (device_of p)) (drop j m.pairs)) (sym (add-one i))
-
-  pub search-end : n ≤ i → false ≡ holds m.pairs h (device_of p)
-  unfolding holds
-  search-end b =
-      sym (q ∙ ap (λ (l : List Pair). some_of (is_pair h (device_of p)) l)
-      (drop_of_length-le m.pairs {i = i} (omega (arith, w.count)))
-      ∙ some-nil (is_pair h (device_of p)))
+-- whether pair i is the one that is sought, by its key
+pub key-tells : (m : Model) (s : List ℕ) (i : ℕ) (p : Packet) (h key k : ℕ) → AtPair m s i → Sought p h key
+    → k ≡ little 8 s (pairs_at + pair_size * i) → eqb k key ≡ is_pair h (device_of p) (pair_at m i)
+unfolding pair_at
+key-tells m s i p h key k w x e =
+    let g : Pair = get_or m.pairs i no_pair in
+    let r : k ≡ g.handle + 256 * value (watched g) =
+    e ∙ ap (λ (l : List ℕ). little 8 l (pairs_at + pair_size * i)) w.block
+    ∙ key-pairs m w.measured i no_pair w.within (pair_fits w) in
+    cases_eq k key
+    (λ (y : k ≡ key). eq-eqb k key y ∙ sym (pair-true p x.sent h g (pair_fits w) x.low (sym r ∙ y ∙ x.number)))
+    (λ (y : k ≡ key → ⊥). ne_eqb k key y ∙ sym (pair-false p x.sent h g (λ z. y (r ∙ z ∙ sym x.number))))

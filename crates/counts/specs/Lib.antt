@@ -10,3 +10,4 @@ pub mod TicksLaws
 pub mod Turns
 pub mod Frames
 pub mod FramesLaws
+pub mod AnyLaws

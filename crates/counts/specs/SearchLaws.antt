@@ -82,32 +82,6 @@ module _ (m : Model) (s : List ℕ) (i : ℕ) (p : Packet) (acts : List ℕ) (de
       told-own m s i p acts dev k w g e a (omega (arith, is)) (o ∙ ap (λ (j : ℕ). get_or acts j 0) (sym v)) r in
       x ∙ sym (ap (λ (b : Bool). b && is_reason m.mons p (pair_at m i)) (eq-eqb (pair_at m i).handle h u))
 
--- the search: what is left at pair i has the answer
-module _ (m : Model) (s : List ℕ) (n : ℕ) (p : Packet) (h i : ℕ) (w : Holding m s n)
-    (q : wanted m p h ≡ some_of (wants_for m p h) (drop i m.pairs)) where
-  pub at_pair : i < n → AtPair m s i
-  at_pair b = record { measured = w.measured; block = w.block; within = omega (arith, w.count) }
-
-  pub wanted-hit : i < n → true ≡ wants_for m p h (pair_at m i) → true ≡ wanted m p h
-  unfolding pair_at
-  wanted-hit b t =
-      sym (q ∙ ap (λ (l : List Pair). some_of (wants_for m p h) l) (drop-cons m.pairs i no_pair (at_pair b).within)
-      ∙ some-stop (wants_for m p h) (get_or m.pairs i no_pair) (drop (suc i) m.pairs) (sym t))
-
-  pub wanted-miss : i < n → false ≡ wants_for m p h (pair_at m i)
-      → wanted m p h ≡ some_of (wants_for m p h) (drop (i + 1) m.pairs)
-  unfolding pair_at
-  wanted-miss b t =
-      q ∙ ap (λ (l : List Pair). some_of (wants_for m p h) l) (drop-cons m.pairs i no_pair (at_pair b).within)
-      ∙ some-step (wants_for m p h) (get_or m.pairs i no_pair) (drop (suc i) m.pairs) (sym t)
-      ∙ ap (λ (j : ℕ). some_of (wants_for m p h) (drop j m.pairs)) (sym (add-one i))
-
-  pub wanted-end : n ≤ i → false ≡ wanted m p h
-  wanted-end b =
-      sym (q ∙ ap (λ (l : List Pair). some_of (wants_for m p h) l)
-      (drop_of_length-le m.pairs {i = i} (omega (arith, w.count)))
-      ∙ some-nil (wants_for m p h))
-
 -- whether a pair keeps the packet
 module _ (m : Model) (s : List ℕ) (i : ℕ) (p : Packet) (acts : List ℕ) (dev k : ℕ) (w : AtPair m s i)
     (g : Given m.mons p acts dev)

@@ -9,6 +9,7 @@ use Rattle.std.proofs.Math.Option.{Option, none, some}
 use native.Mathlib.Omega.{arith}
 use Rattle.std.proofs.Math.ListN.{length, get_or, length-append}
 use borrow.Author.Tests.{le-ltb, le-leb, lt-leb, eq-eqb, ne_eqb}
+use Rattle.std.specs.Int.{from_bool}
 use Rattle.laws.specs.Tests.{pick}
 use Rattle.laws.specs.TestsLaws.{and-not-left, and-not-right}
 use Rattle.laws.specs.Loops.{some as some_of, keep, only}
@@ -264,31 +265,15 @@ pub windows-is : (m : Model) (h : ℕ) → windows m h ≡ length (keep (closed_
 unfolding windows closed_for
 windows-is m h = refl
 
--- the loop that looks for one
-module _ (m : Model) (s : List ℕ) (n : ℕ) (h i : ℕ) (w : Holding m s n)
-    (q : watching m h ≡ some_of (watched_for m h) (drop i m.pairs)) where
-  pub at_pair : i < n → AtPair m s i
-  at_pair b = record { measured = w.measured; block = w.block; within = omega (arith, w.count) }
+-- a test as a number
+pub from-one : (t : Bool) (k : ℕ) → k ≡ from_bool t → k ≡ one t
+unfolding one pick
+from-one true k e = e
+from-one false k e = e
 
-  pub watching-hit : i < n → true ≡ watched_for m h (pair_at m i) → true ≡ watching m h
-  unfolding pair_at
-  watching-hit b t =
-      sym (q ∙ ap (λ (l : List Pair). some_of (watched_for m h) l) (drop-cons m.pairs i no_pair (at_pair b).within)
-      ∙ some-stop (watched_for m h) (get_or m.pairs i no_pair) (drop (suc i) m.pairs) (sym t))
-
-  pub watching-miss : i < n → false ≡ watched_for m h (pair_at m i)
-      → watching m h ≡ some_of (watched_for m h) (drop (i + 1) m.pairs)
-  unfolding pair_at
-  watching-miss b t =
-      q ∙ ap (λ (l : List Pair). some_of (watched_for m h) l) (drop-cons m.pairs i no_pair (at_pair b).within)
-      ∙ some-step (watched_for m h) (get_or m.pairs i no_pair) (drop (suc i) m.pairs) (sym t)
-      ∙ ap (λ (j : ℕ). some_of (watched_for m h) (drop j m.pairs)) (sym (add-one i))
-
-  pub watching-end : n ≤ i → false ≡ watching m h
-  watching-end b =
-      sym (q ∙ ap (λ (l : List Pair). some_of (watched_for m h) l)
-      (drop_of_length-le m.pairs {i = i} (omega (arith, w.count)))
-      ∙ some-nil (watched_for m h))
+pub from-least : (t : Bool) (k : ℕ) → k ≡ from_bool t → k ≤ 1
+from-least true k e = omega arith
+from-least false k e = omega arith
 
 -- the loop that counts
 one_only : (t : Bool) (x : Pair) → one t ≡ length (only t x)

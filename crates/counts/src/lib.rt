@@ -13,23 +13,13 @@ ghost use Rattle.model.specs.Types.{Model};
 ghost use Rattle.model.specs.Block.{padded};
 ghost use Rattle.model.specs.Sound.{sound_model};
 ghost use Rattle.totals.specs.Gains.{wide_row};
-ghost use Rattle.months.specs.Counts.{one, rows_added};
+ghost use Rattle.months.specs.Counts.{rows_added};
 ghost use Rattle.counts.specs.Frames.{Adds};
 ghost use Rattle.model.specs.Layout.{block_size};
 ghost use Rattle.model.specs.Frames.{frame_of, packet as packet_frame, packet_of, is_packet, is_scanned, tick as a_tick};
 
 use state::State;
 use totals::{Gain, Row};
-
-// A test as a number.
-fn flag(t: bool) -> usize
-    ensures { (result ≡ one t) × (result ≤ 1) }
-{
-    if t {
-        return 1;
-    }
-    0
-}
 
 // The gains of a payload of kind 02.
 fn of_packet(s: &[u8], payload: &[u8]) -> [Gain; Row::TABLE]

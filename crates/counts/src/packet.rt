@@ -70,12 +70,10 @@ fn count_weak(s: &[u8], n: usize, acts: &[u8], dev: u64, least: u8) -> usize
         × ((m : Model) (p : Packet) → Holding m s.now n → Given m.mons p acts.now dev
         → least ≡ level p.rssi → result ≡ weak p.rssi (map (packet_move m.mons p) m.pairs)) }
 {
+    // Kept: a loop; std's law of `filter` and `count` asks what the test says of every number, and it says it of a pair.
     let mut k = 0;
-    let mut i = 0;
-    while i < n {
-        let t = is_weak(s, i, acts, dev, least);
-        k += super::flag(t);
-        i += 1;
+    for i in 0..n {
+        k += usize::from(is_weak(s, i, acts, dev, least));
     }
     k
 }
@@ -202,13 +200,10 @@ fn turn_all(
 {
     let mut gains = totals::no_gains();
     let mut left = room;
-    let mut h = 0;
-    while h < State::MONITORS {
+    for h in 0..State::MONITORS {
         let turn = turn_at(s, n, h, acts[h], dev, payload, left);
-        let gain = turn.gain;
-        gains[h] = gain;
+        gains[h] = turn.gain;
         left = turn.left;
-        h += 1;
     }
     gains
 }

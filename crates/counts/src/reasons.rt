@@ -3,7 +3,7 @@ ghost use Rattle.std.specs.Prelude.{ℕ, ◌+◌, ◌-◌, ◌*◌, ◌≤◌, �
 ghost use Rattle.octets.specs.Numbers.{number_at};
 ghost use Rattle.model.specs.Types.{Model, Packet, device_of};
 ghost use Rattle.model.specs.Frames.{packet_of};
-ghost use Rattle.model.specs.Watch.{holds};
+ghost use Rattle.model.specs.Watch.{holds, is_pair};
 ghost use Rattle.model.specs.Layout.{block_size, most_monitors, most_pairs, pair_size, pairs_at};
 ghost use Rattle.marks.specs.Fields.{Framed};
 ghost use Rattle.packets.specs.Moves.{AtPair, pair_at};
@@ -21,20 +21,22 @@ pub(super) fn key_at(s: &[u8], i: usize) -> u64
     octets::get64(s, State::PAIRS_AT + State::PAIR_ROW * i)
 }
 
+// Whether pair i has that key.
+fn has_key(s: &[u8], i: usize, key: u64) -> bool
+    requires { (length s.now ≡ block_size) × (i < most_pairs) }
+    ensures { (m : Model) (p : Packet) (h : ℕ) → AtPair m s.now i → Sought p h key
+        → result ≡ is_pair h (device_of p) (pair_at m i) }
+{
+    key_at(s, i) == key
+}
+
 // Whether a pair with that key is among the n pairs held.
 pub(super) fn is_held(s: &[u8], n: usize, key: u64) -> bool
     requires { (length s.now ≡ block_size) × (n ≤ most_pairs) }
     ensures { (m : Model) (p : Packet) (h : ℕ) → Holding m s.now n → Sought p h key
         → result ≡ holds m.pairs h (device_of p) }
 {
-    let mut i = 0;
-    while i < n {
-        if key_at(s, i) == key {
-            return true;
-        }
-        i += 1;
-    }
-    false
+    (0..n).any(|i| has_key(s, i, key))
 }
 
 // Whether pair i has that key and is a reason for the packet's report.
@@ -57,12 +59,5 @@ pub(super) fn is_wanted(s: &[u8], n: usize, key: u64, a: u8, payload: &[u8]) -> 
         → Given m.mons (packet_of payload.now) acts dev → h < most_monitors → key ≡ h + 256 * dev
         → a ≡ get_or acts h 0 → result ≡ wanted m (packet_of payload.now) h }
 {
-    let mut i = 0;
-    while i < n {
-        if is_own_reason(s, i, key, a, payload) {
-            return true;
-        }
-        i += 1;
-    }
-    false
+    (0..n).any(|i| is_own_reason(s, i, key, a, payload))
 }

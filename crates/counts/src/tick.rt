@@ -123,14 +123,7 @@ fn is_watching(s: &[u8], n: usize, h: usize) -> bool
     requires { (length s.now ≡ block_size) × (n ≤ most_pairs) }
     ensures { (m : Model) → Holding m s.now n → result ≡ watching m h }
 {
-    let mut i = 0;
-    while i < n {
-        if is_watched(s, i, h) {
-            return true;
-        }
-        i += 1;
-    }
-    false
+    (0..n).any(|i| is_watched(s, i, h))
 }
 
 // How many windows of handle h close with a report.
@@ -139,12 +132,10 @@ fn count_closed(s: &[u8], n: usize, h: usize) -> usize
     ensures { (result ≤ n)
         × ((m : Model) → Known m s.now → Holding m s.now n → result ≡ windows m h) }
 {
+    // Kept: a loop; std's law of `filter` and `count` asks what the test says of every number, and it says it of a pair.
     let mut k = 0;
-    let mut i = 0;
-    while i < n {
-        let t = is_closed(s, i, h);
-        k += super::flag(t);
-        i += 1;
+    for i in 0..n {
+        k += usize::from(is_closed(s, i, h));
     }
     k
 }
@@ -154,13 +145,10 @@ fn gain_at(s: &[u8], n: usize, h: usize) -> Gain
     requires { (length s.now ≡ block_size) × (n ≤ most_pairs) }
     ensures { (m : Model) → Known m s.now → Holding m s.now n → wide_row result ≡ row_in m a_tick h }
 {
-    let reports = count_closed(s, n, h) as u8;
-    let w = is_watching(s, n, h);
-    let ticks = super::flag(w) as u8;
     Gain {
         packets: 0,
-        reports,
-        ticks,
+        reports: count_closed(s, n, h) as u8,
+        ticks: u8::from(is_watching(s, n, h)),
         level: 128,
     }
 }
@@ -173,11 +161,8 @@ pub(super) fn gains_of(s: &[u8]) -> [Gain; Row::TABLE]
 {
     let n = octets::at_most(s[State::COUNT_AT], State::PAIRS);
     let mut gains = totals::no_gains();
-    let mut h = 0;
-    while h < State::MONITORS {
-        let gain = gain_at(s, n, h);
-        gains[h] = gain;
-        h += 1;
+    for h in 0..State::MONITORS {
+        gains[h] = gain_at(s, n, h);
     }
     gains
 }

@@ -11,7 +11,6 @@ use Rattle.totals.specs.declared.Row.{Row}
 use Rattle.totals.specs.Two.{every_two, map_two}
 use Rattle.totals.specs.Table.{table_rows, row_fits, row_sum}
 use Rattle.totals.specs.Join.{join_of}
-use Rattle.totals.proofs.JoinLaws.{join-fits}
 use Rattle.sessions.specs.Machine.{Machine, text, Outcome, refused, done}
 use Rattle.sessions.specs.Session.{Entry, entries, answer}
 use Rattle.sessions.specs.Saved.{Replayed, resume, with_answer, replay_lines}
@@ -19,6 +18,7 @@ use Rattle.model.specs.Types.{Model}
 use Rattle.model.specs.Frames.{Body}
 use Rattle.blocks.specs.FactsLaws.{sound-facts}
 use Rattle.failover.specs.Demand3.{replay_adds as adds_entries, ran_in}
+use Rattle.cuts.specs.JoinsLaws.{join-fits}
 use Rattle.months.specs.Month.{month}
 use Rattle.months.proofs.MonthLaws.{length-month, month-cut}
 use Rattle.months.specs.Counted.{Tallied}

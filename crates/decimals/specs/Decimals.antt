@@ -1,9 +1,7 @@
 -- Numbers in decimal, written and read. Definitions alone.
-use Rattle.std.specs.Prelude.{ℕ, zero, suc, ◌+◌, ◌-◌, ◌*◌, ◌/◌, ◌%◌, Bool, ◌&&◌, List, [], ◌∷◌, ◌++◌, leb, ltb, length}
+use Rattle.std.specs.Prelude.{ℕ, zero, suc, ◌+◌, ◌-◌, ◌*◌, ◌/◌, ◌%◌, Bool, ◌&&◌, List, [], ◌∷◌, ◌++◌, leb, ltb, length, Option, Some, None}
 use Rattle.laws.specs.Tests.{pick}
 use Rattle.laws.specs.Loops.{every}
-use Rattle.decimals.specs.declared.Number.{Number}
-use Rattle.decimals.specs.declared.Number.TheVariants.{Is, Not}
 
 -- a number in decimal, of at most k + 1 digits, no zero in front
 unfoldable pub decimal_in : ℕ → ℕ → List ℕ
@@ -38,8 +36,8 @@ unfoldable pub is_number : List ℕ → Bool
 is_number word = leb 1 (length word) && (every is_digit word && leb (value_from 0 word) last)
 
 -- the number that a word is
-unfoldable pub number_of : List ℕ → Number
-number_of word = pick (is_number word) (Is (value_from 0 word)) Not
+unfoldable pub number_of : List ℕ → Option ℕ
+number_of word = pick (is_number word) (Some (value_from 0 word)) None
 
 -- the same as a loop reads it: once above the greatest number a value stays there
 unfoldable pub grown : ℕ → ℕ → ℕ
@@ -49,5 +47,5 @@ unfoldable pub grown_from : ℕ → List ℕ → ℕ
 grown_from v [] = v
 grown_from v (c ∷ cs) = grown_from (grown v c) cs
 
-unfoldable pub number_from : ℕ → Number
-number_from v = pick (leb v last) (Is v) Not
+unfoldable pub number_from : ℕ → Option ℕ
+number_from v = pick (leb v last) (Some v) None

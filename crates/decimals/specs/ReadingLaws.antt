@@ -1,11 +1,10 @@
 -- A word read as a number. Assumes nothing.
-use Rattle.std.specs.Prelude.{ℕ, ◌+◌, ◌-◌, ◌*◌, ◌≤◌, ◌<◌, ◌≡◌, refl, Bool, true, false, ◌&&◌, List, [], ◌∷◌, leb, length, drop, get_or}
+use Rattle.std.specs.Prelude.{ℕ, ◌+◌, ◌-◌, ◌*◌, ◌≤◌, ◌<◌, ◌≡◌, refl, Bool, true, false, ◌&&◌, List, [], ◌∷◌, leb, length, drop, get_or, Some, None}
 use Rattle.std.proofs.Common.{sym, ap, ◌∙◌, subst, arith, le-leb, leb-true, leb-false, drop_of_length-le, drop-cons, add-one}
 use Rattle.std.proofs.lemmas.Bool.{false≢true, lt-leb}
 use Rattle.laws.specs.Tests.{pick}
 use Rattle.laws.specs.TestsLaws.{pick_true, pick-false, and_left, and_right, and_both, and-not-left, and-not-right}
 use Rattle.laws.specs.Loops.{every}
-use Rattle.decimals.specs.declared.Number.TheVariants.{Is, Not}
 use Rattle.decimals.specs.Decimals.{last, top, is_digit, value_from, is_number, number_of, grown, grown_from, number_from}
 
 -- a digit more
@@ -85,35 +84,35 @@ unfolding number_from number_of is_number
 read_number word h = go (every is_digit word && leb (value_from 0 word) last) refl
   where
     go : (b : Bool) → (every is_digit word && leb (value_from 0 word) last) ≡ b
-        → pick (leb (grown_from 0 word) last) (Is (grown_from 0 word)) Not
+        → pick (leb (grown_from 0 word) last) (Some (grown_from 0 word)) None
         ≡ pick (leb 1 (length word) && (every is_digit word && leb (value_from 0 word) last))
-        (Is (value_from 0 word)) Not
+        (Some (value_from 0 word)) None
     go true e =
         let v : grown_from 0 word ≡ value_from 0 word = (read-so 0 word true e).0 refl in
         let t : leb (value_from 0 word) last ≡ true = and_right (every is_digit word) (leb (value_from 0 word) last) e in
-        ap (λ (n : ℕ). pick (leb n last) (Is n) Not) v ∙ pick_true (Is (value_from 0 word)) Not t
-        ∙ sym (pick_true (Is (value_from 0 word)) Not (and_both (le-leb 1 (length word) (omega arith)) e))
+        ap (λ (n : ℕ). pick (leb n last) (Some n) None) v ∙ pick_true (Some (value_from 0 word)) None t
+        ∙ sym (pick_true (Some (value_from 0 word)) None (and_both (le-leb 1 (length word) (omega arith)) e))
     go false e =
         let f : last < grown_from 0 word = (read-so 0 word false e).1 refl in
-        pick-false (Is (grown_from 0 word)) Not (lt-leb (grown_from 0 word) last f)
-        ∙ sym (pick-false (Is (value_from 0 word)) Not
+        pick-false (Some (grown_from 0 word)) None (lt-leb (grown_from 0 word) last f)
+        ∙ sym (pick-false (Some (value_from 0 word)) None
         (and-not-right (leb 1 (length word)) (every is_digit word && leb (value_from 0 word) last) e))
 
-pub read-empty : (word : List ℕ) → length word ≡ 0 → Not ≡ number_of word
+pub read-empty : (word : List ℕ) → length word ≡ 0 → None ≡ number_of word
 unfolding number_of is_number
 read-empty word h =
-    sym (pick-false (Is (value_from 0 word)) Not
+    sym (pick-false (Some (value_from 0 word)) None
     (and-not-left (leb 1 (length word)) (every is_digit word && leb (value_from 0 word) last)
     (lt-leb 1 (length word) (omega arith))))
 
 -- the number by a value
-pub number-far : (v : ℕ) → last < v → Not ≡ number_from v
+pub number-far : (v : ℕ) → last < v → None ≡ number_from v
 unfolding number_from
-number-far v h = sym (pick-false (Is v) Not (lt-leb v last h))
+number-far v h = sym (pick-false (Some v) None (lt-leb v last h))
 
-pub number_is : (v w : ℕ) → v ≤ last → w ≡ v → Is w ≡ number_from v
+pub number_is : (v w : ℕ) → v ≤ last → w ≡ v → Some w ≡ number_from v
 unfolding number_from
-number_is v w h e = ap Is e ∙ sym (pick_true (Is v) Not (le-leb v last h))
+number_is v w h e = ap Some e ∙ sym (pick_true (Some v) None (le-leb v last h))
 
 -- the loop over a word
 pub value_on : (word : List ℕ) (i v r : ℕ) → i < length word → grown_from v (drop i word) ≡ grown_from 0 word

@@ -16,13 +16,6 @@ const NINE: u8 = b'9';
 // The greatest number that is read: that of 32 bits.
 const LAST: u64 = 0xFFFFFFFF;
 
-// What a word is read as.
-#[derive(Clone, Copy)]
-pub enum Number {
-    Is(u32),
-    Not,
-}
-
 // A digit.
 fn digit(n: u64) -> u8
     ensures { result ≡ 48 + n % 10 }
@@ -73,39 +66,36 @@ fn grown(value: u64, c: u8) -> u64
     if value > LAST {
         return u64::MAX;
     }
-    value * 10 + (c - ZERO) as u64
+    value * 10 + u64::from(c - ZERO)
 }
 
 // The value of a word's digits.
 fn value_of(word: &[u8]) -> u64
     ensures { result ≡ grown_from 0 word.now }
 {
-    let n = word.len();
     let mut value: u64 = 0;
-    let mut i = 0;
-    while i < n {
-        value = grown(value, word[i]);
-        i += 1;
+    for c in word {
+        value = grown(value, *c);
     }
     value
 }
 
 // The number by a value.
-fn number_of(value: u64) -> Number
+fn number_of(value: u64) -> Option<u32>
     ensures { result ≡ number_from value }
 {
     if value > LAST {
-        return Number::Not;
+        return None;
     }
-    Number::Is(value as u32)
+    Some(value as u32)
 }
 
 // The number of 32 bits that a word is: digits alone, one or more.
-pub fn read(word: &[u8]) -> Number
+pub fn read(word: &[u8]) -> Option<u32>
     ensures { result ≡ number_of word.now }
 {
     if word.len() == 0 {
-        return Number::Not;
+        return None;
     }
     number_of(value_of(word))
 }

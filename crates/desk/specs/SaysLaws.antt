@@ -1,13 +1,12 @@
 -- Laws of the definitions in Says.
-use Rattle.std.specs.Prelude.{ℕ, ◌≡◌, List, [], ◌++◌, take}
+use Rattle.std.specs.Prelude.{ℕ, ◌≡◌, List, [], ◌++◌, take, Option, Some, None}
 use Rattle.std.proofs.Common.{sym, ap, ◌∙◌, eq-eqb, ne_eqb}
 use Rattle.laws.specs.TestsLaws.{pick_true, pick-false}
 use Rattle.decimals.specs.Decimals.{decimal}
 use Rattle.model.specs.Quoted.{codes}
 use Rattle.texts.specs.Text.{room}
 use Rattle.texts.specs.JoinedLaws.{joined}
-use Rattle.index.specs.declared.Watch.{Watch}
-use Rattle.index.specs.declared.Watch.TheVariants.{By, Nobody}
+use Rattle.index.specs.declared.Watchers.{Watchers}
 use Rattle.desk.specs.Says.{word_of, by_text, sentence_of}
 
 pub word-one : (n : ℕ) (s : List ℕ) {r : List ℕ} → n ≡ 1 → r ≡ take room (s ++ codes " monitor")
@@ -34,14 +33,14 @@ by-so n h o a b c z e f g q =
     (joined ((codes "watched by " ++ decimal n) ++ word_of n) (codes ", lowest handle " ++ decimal h)
     (joined (codes "watched by " ++ decimal n) (word_of n) y f) g) q
 
-pub said-by : (w : Watch) (n h : ℕ) {r : List ℕ} → w ≡ By n h → r ≡ take room (by_text n h)
+pub said-by : (w : Option Watchers) (x : Watchers) {r : List ℕ} → w ≡ Some x → r ≡ take room (by_text x.count x.lowest)
     → r ≡ take room (sentence_of w)
 unfolding sentence_of
-said-by w n h e q = q ∙ sym (ap (λ (x : Watch). take room (sentence_of x)) e)
+said-by w x e q = q ∙ sym (ap (λ (o : Option Watchers). take room (sentence_of o)) e)
 
-pub said-nobody : (w : Watch) (o : List ℕ) {r : List ℕ} → w ≡ Nobody → o ≡ []
+pub said-nobody : (w : Option Watchers) (o : List ℕ) {r : List ℕ} → w ≡ None → o ≡ []
     → r ≡ take room (o ++ codes "watched by no monitor\n") → r ≡ take room (sentence_of w)
 unfolding sentence_of
 said-nobody w o e z q =
     q ∙ ap (λ (l : List ℕ). take room (l ++ codes "watched by no monitor\n")) z
-    ∙ sym (ap (λ (x : Watch). take room (sentence_of x)) e)
+    ∙ sym (ap (λ (x : Option Watchers). take room (sentence_of x)) e)

@@ -1,6 +1,6 @@
 -- An address as people write it: six pairs of hexadecimal digits, the most significant octet first, with colons
 -- between them. Definitions, and the laws of reading them. Assumes nothing.
-use Rattle.std.specs.Prelude.{ℕ, ◌+◌, ◌-◌, ◌*◌, ◌%◌, Bool, ◌&&◌, List, [], ◌∷◌, leb, ltb, eqb, length}
+use Rattle.std.specs.Prelude.{ℕ, ◌+◌, ◌-◌, ◌*◌, ◌%◌, Bool, ◌&&◌, List, [], ◌∷◌, leb, ltb, eqb, length, Option, Some, None}
 use Rattle.laws.specs.Tests.{pick, sames}
 use Rattle.octets.specs.Numbers.{number_at}
 use Rattle.model.specs.Quoted.{codes}
@@ -35,6 +35,10 @@ is_address t =
 unfoldable pub address_in : List ℕ → List ℕ
 address_in t = octet_at t 15 ∷ octet_at t 12 ∷ octet_at t 9 ∷ octet_at t 6 ∷ octet_at t 3 ∷ octet_at t 0 ∷ []
 
+-- the address that a text is
+unfoldable pub address_of : List ℕ → Option (List ℕ)
+address_of t = pick (is_address t) (Some (address_in t)) None
+
 -- "type public or random"
-unfoldable pub type_of : List ℕ → ℕ
-type_of w = pick (sames w (codes "public")) 0 (pick (sames w (codes "random")) 1 2)
+unfoldable pub type_of : List ℕ → Option ℕ
+type_of w = pick (sames w (codes "public")) (Some 0) (pick (sames w (codes "random")) (Some 1) None)

@@ -1,5 +1,5 @@
 -- Laws of the definitions in Written.
-use Rattle.std.specs.Prelude.{ℕ, ◌+◌, ◌-◌, ◌*◌, ◌%◌, ◌≤◌, ◌<◌, ◌≡◌, Bool, true, false, ◌&&◌, List, [], ◌∷◌, length}
+use Rattle.std.specs.Prelude.{ℕ, ◌+◌, ◌-◌, ◌*◌, ◌%◌, ◌≤◌, ◌<◌, ◌≡◌, Bool, true, false, ◌&&◌, List, [], ◌∷◌, length, Some, None}
 use Rattle.std.proofs.Common.{sym, ◌∙◌, arith}
 use Rattle.std.proofs.Math.Path.{ap}
 use borrow.Author.Tests.{le-leb, lt-leb, lt-ltb, le-ltb}
@@ -8,7 +8,7 @@ use Rattle.laws.specs.Tests.{pick, sames}
 use Rattle.laws.specs.TestsLaws.{pick_true, pick-false}
 use Rattle.octets.specs.Numbers.{number_at}
 use Rattle.model.specs.Quoted.{codes}
-use Rattle.desk.specs.Written.{digit_of, char_at, is_pair, is_colon, octet_at, is_address, address_in, type_of}
+use Rattle.desk.specs.Written.{digit_of, char_at, is_pair, is_colon, octet_at, is_address, address_in, address_of, type_of}
 
 -- the branches of a digit
 module _ (c : ℕ) where
@@ -65,17 +65,17 @@ module _ (c : ℕ) where
       )
 
 -- the branches of a type
-pub type-public : (w : List ℕ) → sames w (codes "public") ≡ true → 0 ≡ type_of w
+pub type-public : (w : List ℕ) → sames w (codes "public") ≡ true → Some 0 ≡ type_of w
 unfolding type_of
-type-public w e = sym (pick_true 0 _ e)
+type-public w e = sym (pick_true (Some 0) _ e)
 
-pub type-random : (w : List ℕ) → sames w (codes "public") ≡ false → sames w (codes "random") ≡ true → 1 ≡ type_of w
+pub type-random : (w : List ℕ) → sames w (codes "public") ≡ false → sames w (codes "random") ≡ true → Some 1 ≡ type_of w
 unfolding type_of
-type-random w e f = sym (pick-false 0 _ e ∙ pick_true 1 2 f)
+type-random w e f = sym (pick-false (Some 0) _ e ∙ pick_true (Some 1) None f)
 
-pub type-other : (w : List ℕ) → sames w (codes "public") ≡ false → sames w (codes "random") ≡ false → 2 ≡ type_of w
+pub type-other : (w : List ℕ) → sames w (codes "public") ≡ false → sames w (codes "random") ≡ false → None ≡ type_of w
 unfolding type_of
-type-other w e f = sym (pick-false 0 _ e ∙ pick-false 1 2 f)
+type-other w e f = sym (pick-false (Some 0) _ e ∙ pick-false (Some 1) None f)
 
 -- what the parts of a text are read as
 module _ (t : List ℕ) (i : ℕ) where
@@ -114,3 +114,12 @@ pub octets-so : (t : List ℕ) {a b c d e f : ℕ} → a ≡ octet_at t 15 → b
     → f ≡ octet_at t 0 → ◌≡◌ {A = List ℕ} (a ∷ b ∷ c ∷ d ∷ e ∷ f ∷ []) (address_in t)
 unfolding address_in
 octets-so t pa pb pc pd pe pf = rw (pa, pb, pc, pd, pe, pf)
+
+-- the two ways of an address
+pub address-some : (t : List ℕ) {l : List ℕ} → is_address t ≡ true → l ≡ address_in t → Some l ≡ address_of t
+unfolding address_of
+address-some t {l} e q = ap Some q ∙ sym (pick_true (Some (address_in t)) None e)
+
+pub address-none : (t : List ℕ) → is_address t ≡ false → None ≡ address_of t
+unfolding address_of
+address-none t e = sym (pick-false (Some (address_in t)) None e)

@@ -4,18 +4,11 @@
 
 ghost use Rattle.std.specs.Prelude.{◌+◌, ◌≤◌, ◌≡◌, ◌++◌, ◌∷◌, [], take};
 ghost use Rattle.texts.specs.Text.{room, told};
-ghost use Rattle.desk.specs.Written.{digit_of, is_pair, is_colon, octet_at, is_address, address_in, type_of};
+ghost use Rattle.desk.specs.Written.{digit_of, is_pair, is_colon, octet_at, is_address, address_of, type_of};
 ghost use Rattle.desk.specs.Says.{word_of, by_text, sentence_of};
 
-use index::Watch;
-use texts::{Text, words};
-
-// An address: whether a text is one, and its octets, the least significant first.
-#[derive(Clone, Copy)]
-pub struct Address {
-    pub good: bool,
-    pub octets: [u8; 6],
-}
+use index::Watchers;
+use texts::Text;
 
 // Characters of an address: six pairs of digits, five colons.
 const LONG: usize = 17;
@@ -85,34 +78,34 @@ fn is_address(text: &[u8]) -> bool
     (text.len() == LONG) & first & middle & last
 }
 
-// The address that a text is, as people write it: the most significant octet first. Of a text that is none the octets
-// say nothing.
-pub fn address_of(text: &[u8]) -> Address
-    ensures { (result.good ≡ is_address text.now) × (result.octets ≡ address_in text.now) }
+// The address that a text is, as people write it, the most significant octet first: its octets, the least significant
+// first. None of a text that is no address.
+pub fn address_of(text: &[u8]) -> Option<[u8; 6]>
+    ensures { result ≡ address_of text.now }
 {
+    if !is_address(text) {
+        return None;
+    }
     let a = octet_at(text, 15);
     let b = octet_at(text, 12);
     let c = octet_at(text, 9);
     let d = octet_at(text, 6);
     let e = octet_at(text, 3);
     let f = octet_at(text, 0);
-    Address {
-        good: is_address(text),
-        octets: [a, b, c, d, e, f],
-    }
+    Some([a, b, c, d, e, f])
 }
 
-// The address type of a word: 0 public, 1 random, 2 for any other word.
-pub fn type_of(word: &[u8]) -> u8
+// The address type of a word: 0 public, 1 random, none for any other word.
+pub fn type_of(word: &[u8]) -> Option<u8>
     ensures { result ≡ type_of word.now }
 {
     if parts::same(word, b"public") {
-        return 0;
+        return Some(0);
     }
     if parts::same(word, b"random") {
-        return 1;
+        return Some(1);
     }
-    2
+    None
 }
 
 // So many monitors, behind a text.
@@ -120,29 +113,26 @@ fn counted(t: Text, n: u32) -> Text
     ensures { told result ≡ take room (told t ++ word_of n) }
 {
     if n == 1 {
-        return words::with(t, b" monitor");
+        return t.with(b" monitor");
     }
-    words::with(t, b" monitors")
+    t.with(b" monitors")
 }
 
 // So many monitors, and the lowest of their handles, on a line.
 fn by(n: u32, h: u32) -> Text
     ensures { told result ≡ take room (by_text n h) }
 {
-    let t = words::said(words::blank(), b"watched by ", n as u64);
+    let t = Text::blank().said(b"watched by ", n as u64);
     let u = counted(t, n);
-    words::with(words::said(u, b", lowest handle ", h as u64), b"\n")
+    u.said(b", lowest handle ", h as u64).with(b"\n")
 }
 
 // Which monitors watch a device, in words on a line.
-pub fn sentence(w: Watch) -> Text
+pub fn sentence(w: Option<Watchers>) -> Text
     ensures { told result ≡ take room (sentence_of w) }
 {
     match w {
-        Watch::By {
-            count: n,
-            lowest: h,
-        } => by(n, h),
-        Watch::Nobody => words::with(words::blank(), b"watched by no monitor\n"),
+        Some(x) => by(x.count, x.lowest),
+        None => Text::blank().with(b"watched by no monitor\n"),
     }
 }

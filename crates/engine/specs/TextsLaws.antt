@@ -1,6 +1,6 @@
 -- A frame given as its line is judged as its octets are. Document 01, Lines ("A frame may be given as octets or as
 -- its line, with the same result"). Assumes nothing.
-use Rattle.std.specs.Prelude.{ℕ, zero, suc, ◌+◌, ◌-◌, ◌≤◌, ◌<◌, ◌≡◌, refl, Bool, true, false, ◌&&◌, List, [], ◌∷◌, ◌++◌, leb, length, take, drop}
+use Rattle.std.specs.Prelude.{ℕ, zero, suc, ◌+◌, ◌-◌, ◌≤◌, ◌<◌, ◌≡◌, refl, Bool, true, false, ◌&&◌, List, [], ◌∷◌, ◌++◌, leb, length, take, drop, Ok, Err}
 use Rattle.std.proofs.Common.{sym, ap, ◌∙◌, zero-add, arith, leb-true, leb-false, length-drop, take_all}
 use Rattle.std.proofs.lemmas.Bool.{false≢true, lt-leb}
 use Rattle.std.proofs.Math.Option.{Option, none, some}
@@ -17,8 +17,6 @@ use Rattle.lines.specs.FrameLaws.{frame-most}
 use Rattle.reader.specs.Answers.{take_text}
 use Rattle.reader.specs.AnswersLaws.{take-read}
 use Rattle.refusals.specs.declared.Refusal.{Refusal}
-use Rattle.refusals.specs.declared.Wrote.{Wrote}
-use Rattle.refusals.specs.declared.Wrote.TheVariants.{Done, Refused}
 use Rattle.sessions.specs.Machine.{Outcome, refused, octets, text}
 use Rattle.sessions.specs.Session.{judge}
 use Rattle.model.specs.Frames.{frame_of, read_raw, read}
@@ -45,13 +43,13 @@ long-frame raw h = go (is_frame raw) refl
     go true e = let b : length raw ≤ most_frame = frame-most raw e in absurd (omega arith)
 
 -- a text that does not hold octets enough for a frame, or is none, is not read, and is refused by 4
-pub text-none : (t : List ℕ) (n : ℕ) (x : Refusal) → take_text t n ≡ Refused x → most_frame ≤ n → read text t ≡ none
+pub text-none : (t : List ℕ) (n : ℕ) (x : Refusal) → take_text t n ≡ Err x → most_frame ≤ n → read text t ≡ none
 unfolding take_text read
 text-none t n x e h = go (is_text t) refl (leb (length (octets_in t)) n) refl e
   where
     go : (a : Bool) → is_text t ≡ a → (b : Bool) → leb (length (octets_in t)) n ≡ b
-        → pick (a && b) (Done (length (octets_in t)))
-        (Refused Rattle.refusals.specs.declared.Refusal.TheVariants.NotLine) ≡ Refused x
+        → pick (a && b) (Ok (length (octets_in t)))
+        (Err Rattle.refusals.specs.declared.Refusal.TheVariants.NotLine) ≡ Err x
         → pick a (read_raw (octets_in t)) none ≡ none
     go false p b q z = pick-false (read_raw (octets_in t)) none refl
     go true p false q z =
@@ -60,19 +58,19 @@ text-none t n x e h = go (is_text t) refl (leb (length (octets_in t)) n) refl e
         (long-frame (octets_in t)
         (let g : n < length (octets_in t) = leb-false (length (octets_in t)) n q in omega arith))
     go true p true q z = let c : ◌≡◌ {A = ℕ} 0 1 =
-        (clash (sym (pick_true (Done (length (octets_in t)))
-        (Refused Rattle.refusals.specs.declared.Refusal.TheVariants.NotLine) refl) ∙ z)) in absurd (omega arith)
+        (clash (sym (pick_true (Ok (length (octets_in t)))
+        (Err Rattle.refusals.specs.declared.Refusal.TheVariants.NotLine) refl) ∙ z)) in absurd (omega arith)
       where
-        clash : Done (length (octets_in t)) ≡ Refused x → ◌≡◌ {A = ℕ} 0 1
+        clash : Ok (length (octets_in t)) ≡ Err x → ◌≡◌ {A = ℕ} 0 1
         clash w = cc
 
-pub line-unread : (s t : List ℕ) (n : ℕ) (x : Refusal) → take_text t n ≡ Refused x → most_frame ≤ n
+pub line-unread : (s t : List ℕ) (n : ℕ) (x : Refusal) → take_text t n ≡ Err x → most_frame ≤ n
     → judge (with_index (index_on s)) s (read text t) ≡ refused 4
 unfolding judge
 line-unread s t n x e h = ap (judge (with_index (index_on s)) s) (text-none t n x e h)
 
 -- a text that was read is judged as its octets
-pub line_read : (s t : List ℕ) (n k : ℕ) → take_text t n ≡ Done k
+pub line_read : (s t : List ℕ) (n k : ℕ) → take_text t n ≡ Ok k
     → judge (with_index (index_on s)) s (read octets (octets_in t)) ≡ judge (with_index (index_on s)) s (read text t)
 unfolding read
 line_read s t n k e =

@@ -12,7 +12,7 @@ ghost use Rattle.engine.specs.Calls.{Called};
 ghost use Rattle.engine.specs.Loose.{index_on, sound_loose};
 
 use super::executes;
-use refusals::Wrote;
+use refusals::Refusal;
 use state::State;
 
 // The edition in force at a number, written into the head, where one begins.
@@ -26,7 +26,7 @@ fn turn_to(s: &mut [u8], begins: bool, n: u64)
 
 // A frame as octets, on a block that is sound but for its index. A refusal puts the head back. There is one place
 // that judges, so that the steps need no stack of their own behind this function's.
-pub(super) fn judge(s: &mut [u8], frame: &[u8], out: &mut [u8]) -> Wrote
+pub(super) fn judge(s: &mut [u8], frame: &[u8], out: &mut [u8]) -> Result<usize, Refusal>
     requires { (sound_loose s.old ≡ true) × (length s.old ≡ whole_size) × (answer_room ≤ length out.old) }
     ensures { Called
         (judged (with_index (index_on s.old)) s.old (read as_octets frame.now))

@@ -5,6 +5,8 @@ use Rattle.lines.specs.Hex.{hex_of}
 use Rattle.model.specs.Quoted.{codes}
 use Rattle.names.specs.Names.{Row, named}
 use Rattle.words.specs.Pieces.{named_or}
+use Rattle.fields.specs.declared.terms.Fault.{Fault}
+use Rattle.fields.specs.declared.terms.Fault.TheVariants.{Empty, Long, NoDigits, NoKind, ShortFrame, NoFrame, NoForm}
 
 -- AD types (Assigned Numbers of the Bluetooth SIG)
 unfoldable pub ad_rows : List Row
@@ -82,19 +84,14 @@ unfoldable pub sub_text : ℕ → List ℕ
 sub_text x = named_or sub_rows "sub-opcode 0x" x
 
 -- why a line is none
-unfoldable pub why_rows : List Row
-why_rows =
-    record { number = 1; name = "empty" }
-    ∷ record { number = 2; name = "too long" }
-    ∷ record { number = 3; name = "not upper-case hexadecimal" }
-    ∷ record { number = 4; name = "no known kind" }
-    ∷ record { number = 5; name = "under 5 octets" }
-    ∷ record { number = 6; name = "payload not of its kind's form" }
-    ∷ record { number = 7; name = "not of its kind's form" }
-    ∷ []
-
-unfoldable pub why_text : ℕ → List ℕ
-why_text x = named why_rows x
+unfoldable pub why_text : Fault → List ℕ
+why_text Empty = codes "empty"
+why_text Long = codes "too long"
+why_text NoDigits = codes "not upper-case hexadecimal"
+why_text NoKind = codes "no known kind"
+why_text ShortFrame = codes "under 5 octets"
+why_text NoFrame = codes "payload not of its kind's form"
+why_text NoForm = codes "not of its kind's form"
 
 -- whether the filter is on; a start or a stop
 unfoldable pub switch_text : ℕ → List ℕ

@@ -86,12 +86,9 @@ fn character(out: &mut [u8; ROOM], at: usize, c: u8) -> usize
 fn characters(out: &mut [u8; ROOM], at: usize, s: &[u8]) -> usize
     ensures { Says out.old at (characters_text s.now) out.new result }
 {
-    let n = s.len();
     let mut end = at;
-    let mut i = 0;
-    while i < n {
-        end = character(out, end, s[i]);
-        i += 1;
+    for c in s {
+        end = character(out, end, *c);
     }
     end
 }
@@ -137,7 +134,7 @@ fn uuids(out: &mut [u8; ROOM], at: usize, s: &[u8], k: usize) -> usize
     let mut end = at;
     let mut i = 0;
     while i < n {
-        let e = i + words::least(k, n - i);
+        let e = i + k.min(n - i);
         end = next_uuid(out, end, &s[i..e]);
         i = e;
     }
@@ -226,6 +223,7 @@ pub fn structures(out: &mut [u8; ROOM], at: usize, s: &[u8]) -> usize
     let n = s.len();
     let mut end = at;
     let mut i = 0;
+    // Kept: a walk, for a structure says itself how long it is.
     while i < n {
         let e = i + size(s, i);
         end = structure(out, end, &s[i..e]);

@@ -47,6 +47,7 @@ fn patterns(out: &mut [u8; ROOM], at: usize, s: &[u8]) -> usize
     let n = s.len();
     let mut end = at;
     let mut i = 0;
+    // Kept: a walk, for a pattern says itself how long it is.
     while i < n {
         let e = i + data::size(s, i);
         end = pattern(out, end, &s[i..e]);

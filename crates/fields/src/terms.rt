@@ -58,13 +58,33 @@ const COMMANDS: [u8; 89] = *b"\x00\x0Dread features\
 \x0F\x18add a monitor, version 2";
 
 // Why a line is none.
-const REASONS: [u8; 132] = *b"\x01\x05empty\
-\x02\x08too long\
-\x03\x1Anot upper-case hexadecimal\
-\x04\x0Dno known kind\
-\x05\x0Eunder 5 octets\
-\x06\x1Epayload not of its kind's form\
-\x07\x16not of its kind's form";
+#[derive(Clone, Copy)]
+pub enum Fault {
+    Empty,
+    Long,
+    NoDigits,
+    NoKind,
+    ShortFrame,
+    NoFrame,
+    NoForm,
+}
+
+impl Fault {
+    // In words.
+    fn text(self) -> &'static [u8]
+        ensures { result.now ≡ why_text self }
+    {
+        match self {
+            Fault::Empty => b"empty",
+            Fault::Long => b"too long",
+            Fault::NoDigits => b"not upper-case hexadecimal",
+            Fault::NoKind => b"no known kind",
+            Fault::ShortFrame => b"under 5 octets",
+            Fault::NoFrame => b"payload not of its kind's form",
+            Fault::NoForm => b"not of its kind's form",
+        }
+    }
+}
 
 // An AD type.
 pub fn ad(out: &mut [u8; ROOM], at: usize, x: u8) -> usize
@@ -95,10 +115,10 @@ pub fn sub(out: &mut [u8; ROOM], at: usize, x: u8) -> usize
 }
 
 // Why a line is none.
-pub fn why(out: &mut [u8; ROOM], at: usize, x: u8) -> usize
+pub fn why(out: &mut [u8; ROOM], at: usize, x: Fault) -> usize
     ensures { Says out.old at (why_text x) out.new result }
 {
-    words::put(out, at, names::find(&REASONS, x))
+    words::put(out, at, x.text())
 }
 
 // A refusal in words.

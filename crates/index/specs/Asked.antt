@@ -1,20 +1,19 @@
 -- What asking answers. Document 02, T-02: "Asking gives how many monitors watch it and the lowest such handle, or
 -- that there is none." Document 01, What form each place takes: "ones and trailing zeros of the 16-bit handle mask of
 -- a device". Assumes nothing.
-use Rattle.std.specs.Prelude.{ℕ, suc, List, [], ◌∷◌, length}
-use Rattle.index.specs.declared.Watch.{Watch}
-use Rattle.index.specs.declared.Watch.TheVariants.{By, Nobody}
+use Rattle.std.specs.Prelude.{ℕ, suc, List, [], ◌∷◌, length, Option, Some, None}
+use Rattle.index.specs.declared.Watchers.{Watchers}
 
 -- how many handles there are and the lowest, or that there is none
-unfoldable pub watch_of : List ℕ → Watch
-watch_of [] = Nobody
-watch_of (h ∷ hs) = By (suc (length hs)) h
+unfoldable pub watch_of : List ℕ → Option Watchers
+watch_of [] = None
+watch_of (h ∷ hs) = Some (record { count = suc (length hs); lowest = h })
 
 -- the values of what asking answers: how many, 0 where there is none; the lowest handle, 0 where there is none
-unfoldable pub watch_count : Watch → ℕ
-watch_count (By count lowest) = count
-watch_count Nobody = 0
+unfoldable pub watch_count : Option Watchers → ℕ
+watch_count (Some w) = w.count
+watch_count None = 0
 
-unfoldable pub lowest_in : Watch → ℕ
-lowest_in (By count lowest) = lowest
-lowest_in Nobody = 0
+unfoldable pub lowest_in : Option Watchers → ℕ
+lowest_in (Some w) = w.lowest
+lowest_in None = 0

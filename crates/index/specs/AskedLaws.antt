@@ -1,12 +1,11 @@
 -- Laws of the definitions in Asked.
-use Rattle.std.specs.Prelude.{ℕ, zero, suc, ◌+◌, ◌/◌, ◌%◌, ◌^◌, ◌<◌, ◌≡◌, refl, length}
+use Rattle.std.specs.Prelude.{ℕ, zero, suc, ◌+◌, ◌/◌, ◌%◌, ◌^◌, ◌<◌, ◌≡◌, refl, length, Option, Some, None}
 use Rattle.std.proofs.Common.{sym, ap, ◌∙◌, pow-suc, add-zero, zero-add, arith, eq-eqb, ne_eqb}
 use Rattle.std.specs.Int.Count.{ones, ones_step, count_trailing_zeros}
 use Rattle.laws.specs.Tests.{pick}
 use Rattle.laws.specs.TestsLaws.{cases_eq}
 use Rattle.wholes.specs.Index.{handles_from, handles_of}
-use Rattle.index.specs.declared.Watch.{Watch}
-use Rattle.index.specs.declared.Watch.TheVariants.{By, Nobody}
+use Rattle.index.specs.declared.Watchers.{Watchers}
 use Rattle.index.specs.Asked.{watch_of, watch_count, lowest_in}
 
 -- a bit is 0 or 1
@@ -36,7 +35,7 @@ length-handles (suc k) h m l =
     (λ b. rw (ne_eqb (m % 2) 1 (λ q. omega arith)) (omega arith))
 
 -- what is said of a mask that is not 0: how many ones, and the place of the lowest
-watched-by : (k h m : ℕ) → m < 2 ^ k → (m ≡ 0 → ⊥) → watch_of (handles_from k h m) ≡ By (ones m) (h + count_trailing_zeros k m)
+watched-by : (k h m : ℕ) → m < 2 ^ k → (m ≡ 0 → ⊥) → watch_of (handles_from k h m) ≡ Some (record { count = ones m; lowest = h + count_trailing_zeros k m })
 unfolding handles_from watch_of count_trailing_zeros pick
 watched-by zero h m l n = absurd (n (omega arith))
 watched-by (suc k) h m l n =
@@ -52,18 +51,18 @@ watched-by (suc k) h m l n =
     (watched-by k (h + 1) (m / 2) (half k m l) (λ q. n (omega arith)) ∙ rw (c, a)))
 
 -- the same of sixteen bits
-pub mask-watched : (m : ℕ) → m < 65536 → (m ≡ 0 → ⊥) → By (ones m) (count_trailing_zeros 16 m) ≡ watch_of (handles_of m)
+pub mask-watched : (m : ℕ) → m < 65536 → (m ≡ 0 → ⊥) → Some (record { count = ones m; lowest = count_trailing_zeros 16 m }) ≡ watch_of (handles_of m)
 unfolding handles_of
 mask-watched m h n = sym (watched-by 16 0 m h n ∙ rw (zero-add (count_trailing_zeros 16 m)))
 
-pub mask-nobody : (m : ℕ) → m ≡ 0 → Nobody ≡ watch_of (handles_of m)
+pub mask-nobody : (m : ℕ) → m ≡ 0 → None ≡ watch_of (handles_of m)
 unfolding handles_of handles_from watch_of pick
 mask-nobody m z = rw z
 
-pub told-by : (w : Watch) (count lowest : ℕ) → w ≡ By count lowest → (count ≡ watch_count w) × (lowest ≡ lowest_in w)
+pub told-by : (o : Option Watchers) (w : Watchers) → o ≡ Some w → (w.count ≡ watch_count o) × (w.lowest ≡ lowest_in o)
 unfolding watch_count lowest_in
-told-by w count lowest e = (sym (ap watch_count e), sym (ap lowest_in e))
+told-by o w e = (sym (ap watch_count e), sym (ap lowest_in e))
 
-pub told-nobody : (w : Watch) → w ≡ Nobody → (0 ≡ watch_count w) × (0 ≡ lowest_in w)
+pub told-nobody : (o : Option Watchers) → o ≡ None → (0 ≡ watch_count o) × (0 ≡ lowest_in o)
 unfolding watch_count lowest_in
-told-nobody w e = (sym (ap watch_count e), sym (ap lowest_in e))
+told-nobody o e = (sym (ap watch_count e), sym (ap lowest_in e))

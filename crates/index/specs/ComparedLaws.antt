@@ -1,5 +1,5 @@
 -- Laws of the definitions in Compared.
-use Rattle.std.specs.Prelude.{ℕ, zero, suc, ◌+◌, ◌-◌, ◌*◌, ◌/◌, ◌%◌, ◌≤◌, ◌<◌, ◌≡◌, refl, Bool, true, false, ◌&&◌, eqb, take, get_or}
+use Rattle.std.specs.Prelude.{ℕ, zero, suc, ◌+◌, ◌-◌, ◌*◌, ◌/◌, ◌%◌, ◌≤◌, ◌<◌, ◌≡◌, refl, Bool, true, false, ◌&&◌, eqb, take, get_or, Option, Some, None}
 use Rattle.std.proofs.Math.Path.{sym, ap}
 use Rattle.std.proofs.Common.{◌∙◌, subst, inl, inr, eq-eqb, eqb-true, length-append, length-take, take-append-drop, length-take-le, take_at, drop_at, take_all, take-take, get_or-take}
 use Rattle.std.proofs.lemmas.Bool.{false≢true}
@@ -36,9 +36,9 @@ use Rattle.index.specs.BuiltTurns.{index-snoc, pair-next, more}
 use Rattle.index.specs.Once.{once}
 use Rattle.index.specs.OnceLaws.{once-none, once_more, once-held, once-high}
 use Rattle.index.specs.SlotsLaws.{slotted-none}
-use Rattle.index.specs.Walk.{row_number, row_mask, device_number, mask_number, Tallied, Walked, Strange, Bad, Stepped, stopped}
+use Rattle.index.specs.Walk.{row_number, row_mask, device_number, mask_number, Tallied, Walked, Strange, Bad, Stepped}
 use Rattle.index.specs.WalkLaws.{entry-numbers, entry-masks, number-at}
-use Rattle.index.specs.Compared.{Walks, pairs_of}
+use Rattle.index.specs.Compared.{Fails, Walks, pairs_of}
 
 -- the devices of an index stay where they are as pairs follow
 noted-keeps : (d : List ℕ) (h : ℕ) (es : List IndexEntry) (j : ℕ) → j < length es
@@ -162,7 +162,7 @@ module _ (ps : List ℕ) (l : length ps ≡ pairs_size) (o : every is_octet ps �
 
     module _ (t : List ℕ) (k : ℕ) (masks slots : List ℕ) (w : Walked (index_of (pairs_of i ps)) k t masks slots)
         (z : once (pairs_of i ps) ≡ true)
-        (key : ℕ) (e : key ≡ little 8 ps (pair_size * i)) {r : ℕ} {masks' slots' : List ℕ}
+        (key : ℕ) (e : key ≡ little 8 ps (pair_size * i)) (r : Option ℕ) (masks' slots' : List ℕ)
         (f : (es : List IndexEntry) (d : List ℕ) → Walked es k t masks slots → Seven d → key / 256 ≡ value d
         → Stepped r es d (key % 256) t masks' slots') where
       stepped : Stepped r (index_of (pairs_of i ps)) (watched q) q.handle t masks' slots'
@@ -172,35 +172,30 @@ module _ (ps : List ℕ) (l : length ps ≡ pairs_size) (o : every is_octet ps �
           (f (index_of (pairs_of i ps)) (watched q) w p.0 p.1)
 
       -- a pair that is none, or stands in no table there
-      pub walk-stops : r ≡ stopped → {ms : List ℕ} → Walks (pairs_of n ps) t ms stopped
-      walk-stops u = go stepped
+      pub walk-stops : r ≡ None → Fails (pairs_of n ps) t
+      walk-stops u = go (subst (λ (x : Option ℕ). Stepped x (index_of (pairs_of i ps)) (watched q) q.handle t masks'
+          slots') u stepped)
         where
-          go : Stepped r (index_of (pairs_of i ps)) (watched q) q.handle t masks' slots' → {ms : List ℕ}
-              → Walks (pairs_of n ps) t ms stopped
-          go (inl x) =
-              inl (
-                refl,
-                λ v y. bad-not (pairs_of i ps) q (map pair_in (drop (suc i) (take n rs))) t
-                    (subst (All Known) split known)
-                    (subst (λ (m : List Pair). length m ≤ most_pairs) split (let a = few-pairs n ps in omega arith))
-                    x.1
-                    (v ∙ ap (λ (m : List Pair). entry_table (index_of m)) split) (ap once (sym split) ∙ y),
-              )
-          go (inr x) = absurd (let a = x.0.tally.count in let d = x.0.tally.most in omega arith)
+          go : Bad (index_of (pairs_of i ps)) (watched q) q.handle t → Fails (pairs_of n ps) t
+          go x = λ v y. bad-not (pairs_of i ps) q (map pair_in (drop (suc i) (take n rs))) t
+              (subst (All Known) split known)
+              (subst (λ (m : List Pair). length m ≤ most_pairs) split (let a = few-pairs n ps in omega arith))
+              x
+              (v ∙ ap (λ (m : List Pair). entry_table (index_of m)) split) (ap once (sym split) ∙ y)
 
       -- one more
-      pub walk-goes : (r ≡ stopped → ⊥) → Walked (index_of (pairs_of (i + 1) ps)) r t masks' slots'
+      pub walk-goes : (j : ℕ) → r ≡ Some j → Walked (index_of (pairs_of (i + 1) ps)) j t masks' slots'
           × (once (pairs_of (i + 1) ps) ≡ true)
-      walk-goes u = go stepped
+      walk-goes j u = go (subst (λ (x : Option ℕ). Stepped x (index_of (pairs_of i ps)) (watched q) q.handle t masks'
+          slots') u stepped)
         where
           next : pairs_of (i + 1) ps ≡ pairs_of i ps ++ (q ∷ [])
           next = more ps l o i (omega arith)
 
-          go : Stepped r (index_of (pairs_of i ps)) (watched q) q.handle t masks' slots'
-              → Walked (index_of (pairs_of (i + 1) ps)) r t masks' slots' × (once (pairs_of (i + 1) ps) ≡ true)
-          go (inl x) = absurd (u x.0)
-          go (inr x) = (
-            subst (λ (m : List IndexEntry). Walked m r t masks' slots')
+          go : Stepped (Some j) (index_of (pairs_of i ps)) (watched q) q.handle t masks' slots'
+              → Walked (index_of (pairs_of (i + 1) ps)) j t masks' slots' × (once (pairs_of (i + 1) ps) ≡ true)
+          go x = (
+            subst (λ (m : List IndexEntry). Walked m j t masks' slots')
                 (sym (ap index_of next ∙ index-snoc (pairs_of i ps) q)) x.0,
             ap once next ∙ once_more (pairs_of i ps) q z x.1
                 (sym (mask-holds (watched q) q.handle x.1 (pairs_of i ps)) ∙ x.2),
@@ -419,24 +414,21 @@ module _ (qs : List Pair) (t masks : List ℕ) (r : ℕ) where
   abbrev own : List ℕ
   own = entry_table (index_of qs) ++ (length (index_of qs) ∷ [])
 
-  pub walks-few : Walks qs t masks r → (r ≡ stopped → ⊥) → r ≤ most_pairs
-  walks-few (inl x) n = absurd (n x.0)
-  walks-few (inr x) n = let a = x.0.count in let b = x.0.most in omega arith
+  pub walks-few : Walks qs t masks (Some r) → r ≤ most_pairs
+  walks-few x = let a = x.0.count in let b = x.0.most in omega arith
 
-  pub walks-stop : (c : ℕ) → Walks qs t masks r → r ≡ stopped → false ≡ (sames own (t ++ (c ∷ [])) && once qs)
-  walks-stop c (inl x) e =
+  pub walks-stop : (c : ℕ) → Fails qs t → false ≡ (sames own (t ++ (c ∷ [])) && once qs)
+  walks-stop c x =
       not-both (sames own (t ++ (c ∷ []))) (once qs)
-      (λ a o. x.1 (sym
+      (λ a o. x (sym
       (snoc-same (entry_table (index_of qs)) t (length (index_of qs)) c (sames-eq own (t ++ (c ∷ [])) a))) o)
-  walks-stop c (inr x) e = absurd (let a = x.0.count in let b = x.0.most in omega arith)
 
-  pub walks-end : length t ≡ entries_size → every is_octet t ≡ true → (c m : ℕ) {x y : Bool} → Walks qs t masks r
-      → (r ≡ stopped → ⊥)
+  pub walks-end : length t ≡ entries_size → every is_octet t ≡ true → (c m : ℕ) {x y : Bool}
+      → Walks qs t masks (Some r)
       → x ≡ sames (map row_mask (take r (rows entry_size most_pairs t))) (take r masks) → m ≡ length t - entry_size * r
       → y ≡ every is_zero (take m (drop (entry_size * r) t))
       → (eqb c r && (x && y)) ≡ (sames own (t ++ (c ∷ [])) && once qs)
-  walks-end l o c m (inl z) n p k q = absurd (n z.0)
-  walks-end l o c m (inr z) n p k q =
+  walks-end l o c m z p k q =
       table_same (index_of qs) r t masks l o z.0 c p
       (q ∙ ap (every is_zero)
       (take_all m (drop (entry_size * r) t)

@@ -1,7 +1,7 @@
 -- The walk over the pairs with the entries of a table that stands there already: nothing is copied. Each pair finds
 -- its entry or is the first of the next one, and its handle goes into a mask beside that entry; in the end the masks
 -- are compared. Document 02, T-02. Assumes nothing.
-use Rattle.std.specs.Prelude.{ℕ, ◌+◌, ◌*◌, ◌≤◌, ◌<◌, ◌≡◌, ◌⊎◌, true, false, List, map, length, take}
+use Rattle.std.specs.Prelude.{ℕ, ◌+◌, ◌*◌, ◌≤◌, ◌<◌, ◌≡◌, ◌⊎◌, true, false, List, map, length, take, Option, Some, None}
 use Rattle.laws.specs.Rows.{rows}
 use Rattle.octets.specs.Little.{little, value}
 use Rattle.rule.specs.Base.{All}
@@ -47,12 +47,8 @@ Strange es d h t = (noted d h es ≡ with_entry es d (bit_of h)) × (little 7 t 
 abbrev pub Bad : List IndexEntry → List ℕ → ℕ → List ℕ → Type 0
 Bad es d h t = (most_monitors ≤ h) ⊎ (((h < most_monitors) × (has_bit h (mask_of d es) ≡ true)) ⊎ Strange es d h t)
 
--- the answer where a pair is such
-abbrev pub stopped : ℕ
-stopped = most_pairs + 1
-
--- one pair more, or one that is such
-abbrev pub Stepped : ℕ → List IndexEntry → List ℕ → ℕ → List ℕ → List ℕ → List ℕ → Type 0
-Stepped r es d h t masks slots =
-    ((r ≡ stopped) × Bad es d h t)
-    ⊎ (Walked (noted d h es) r t masks slots × (h < most_monitors) × (has_bit h (mask_of d es) ≡ false))
+-- one pair more, or one that is such, for which nothing is answered
+abbrev pub Stepped : Option ℕ → List IndexEntry → List ℕ → ℕ → List ℕ → List ℕ → List ℕ → Type 0
+Stepped None es d h t masks slots = Bad es d h t
+Stepped (Some k) es d h t masks slots =
+    Walked (noted d h es) k t masks slots × (h < most_monitors) × (has_bit h (mask_of d es) ≡ false)

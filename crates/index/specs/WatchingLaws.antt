@@ -32,7 +32,6 @@ use Rattle.wholes.proofs.SizesLaws.{all_known, index-fits, index-length, length-
 use Rattle.wholes.proofs.LaidLaws.{rows-front, whole-good, whole-held}
 use Rattle.wholes.specs.Watched.{mask_of}
 use Rattle.wholes.proofs.WatchedLaws.{from, handles-held}
-use Rattle.index.specs.declared.Watch.{Watch}
 use Rattle.index.specs.Asked.{watch_of}
 use Rattle.index.specs.Table.{Tabled}
 use Rattle.index.specs.TableLaws.{table-rows}

@@ -21,7 +21,8 @@ ghost use Rattle.index.specs.Asked.{watch_of};
 ghost use Rattle.index.specs.InPlace.{table_in, Stands};
 ghost use Rattle.index.specs.Renewed.{indexed_once, is_moved, followed, renewed};
 
-use state::{Start, State};
+use refusals::Refusal;
+use state::State;
 
 // The octet that opens an event of a pair.
 const EVENT: u8 = 0xFF;
@@ -35,17 +36,18 @@ pub struct Whole {
 }
 
 // What starting gives: the whole block, and whether the settings were refused.
+// Kept: by document 01 refused settings hand back the blank state, so it stands beside the answer.
 #[derive(Clone, Copy)]
 pub struct Opened {
-    pub answer: Start,
+    pub answer: Result<(), Refusal>,
     pub state: Whole,
 }
 
-// How many monitors watch a device and the lowest of their handles, or that there is none.
+// The monitors that watch a device: how many there are, and the lowest of their handles.
 #[derive(Clone, Copy)]
-pub enum Watch {
-    By { count: u32, lowest: u32 },
-    Nobody,
+pub struct Watchers {
+    pub count: u32,
+    pub lowest: u32,
 }
 
 impl Whole {
@@ -116,7 +118,7 @@ fn put_first(s: &mut [u8])
 
 // The fresh state with these settings, in a lent whole block; the blank one and refusal 9 where they are out of
 // range. A block of another length is left as it is.
-pub fn put_fresh(s: &mut [u8], opcode: u16, prefix: &[u8]) -> Start
+pub fn put_fresh(s: &mut [u8], opcode: u16, prefix: &[u8]) -> Result<(), Refusal>
     ensures { (result ≡ settings_of opcode prefix.now)
         × (s.new ≡ begun_block s.old opcode prefix.now) }
 {
@@ -143,16 +145,16 @@ pub fn put_blank(s: &mut [u8])
 }
 
 // What a mask says: how many handles it has and the lowest, or that there is none.
-fn told(mask: u16) -> Watch
+fn told(mask: u16) -> Option<Watchers>
     ensures { result ≡ watch_of (handles_of mask) }
 {
     if mask == 0 {
-        return Watch::Nobody;
+        return None;
     }
-    Watch::By {
-        count: u16::count_ones(mask),
-        lowest: u16::trailing_zeros(mask),
-    }
+    Some(Watchers {
+        count: mask.count_ones(),
+        lowest: mask.trailing_zeros(),
+    })
 }
 
 // A device as a number of 7 octets.
@@ -177,7 +179,7 @@ fn mask_for(s: &[u8], kind: u8, address: &[u8]) -> u16
 
 // Which monitors watch a device (address type and address)? It reads the index alone: the first of at most 64 entries
 // for that device answers, whatever the block's octets are.
-pub fn ask(s: &[u8; Whole::SIZE], kind: u8, address: &[u8; 6]) -> Watch
+pub fn ask(s: &[u8; Whole::SIZE], kind: u8, address: &[u8; 6]) -> Option<Watchers>
     ensures { result ≡ watch_of (handles_of (mask_for (device kind address.now) s.now)) }
 {
     told(mask_for(s, kind, address))
@@ -208,8 +210,7 @@ fn note_all(s: &mut [u8], n: usize) -> usize
 {
     let mut seen = [0u64; table::MARKS];
     let mut k = 0;
-    let mut i = 0;
-    while i < n {
+    for i in 0..n {
         let key = table::key_at(&s[State::PAIRS_AT..State::COUNT_AT], i);
         let h = (key % 256) as u8;
         k = table::note_marked(
@@ -219,7 +220,6 @@ fn note_all(s: &mut [u8], n: usize) -> usize
             key / 256,
             h,
         );
-        i += 1;
     }
     k
 }

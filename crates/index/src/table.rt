@@ -33,12 +33,10 @@ pub(super) fn place(table: &[u8], k: usize, dev: u64) -> usize
     requires { (length table.now ≡ entries_size) × (k ≤ most_pairs) }
     ensures { (result ≤ k) × (result ≡ place_in dev (take k (rows entry_size most_pairs table.now))) }
 {
-    let mut j = 0;
-    while j < k {
+    for j in 0..k {
         if device_at(table, j) == dev {
             return j;
         }
-        j += 1;
     }
     k
 }

@@ -21,9 +21,6 @@ use state::State;
 // A slot for each mark of a device: the place of the first entry that has it plus 1, or 0.
 const SLOTS: usize = 256;
 
-// More entries than there may be: the answer where a pair stands in no such table.
-const STOPPED: usize = State::PAIRS + 1;
-
 // The place of a device among the first k entries, k where it has none; then its mark has a slot as if entry k were
 // its own.
 fn place_by(table: &[u8], slots: &mut [u8], k: usize, dev: u64) -> usize
@@ -48,9 +45,9 @@ fn place_by(table: &[u8], slots: &mut [u8], k: usize, dev: u64) -> usize
 }
 
 // A pair, by its key, among the first k entries: its handle goes into the mask beside its entry, which is one of them
-// or the next. Answers how many there are then. It stops where the handle is none or stands there already, and where
+// or the next. Answers how many there are then; nothing where the handle is none or stands there already, and where
 // the next entry is another device's.
-fn note_once(table: &[u8], masks: &mut [u16], slots: &mut [u8], k: usize, key: u64) -> usize
+fn note_once(table: &[u8], masks: &mut [u16], slots: &mut [u8], k: usize, key: u64) -> Option<usize>
     requires { (length table.now ≡ entries_size) × (length masks.old ≡ most_pairs) × (length slots.old ≡ marks)
         × (k < most_pairs) × Slotted table.now k slots.old }
     ensures { (es : List IndexEntry) (d : List ℕ) → Walked es k table.now masks.old slots.old
@@ -60,44 +57,39 @@ fn note_once(table: &[u8], masks: &mut [u16], slots: &mut [u8], k: usize, key: u
     let h = (key % 256) as u8;
     let dev = key / 256;
     if State::HANDLES <= h {
-        return STOPPED;
+        return None;
     }
     let bit = table::bit_of(h);
     let j = place_by(table, slots, k, dev);
     if j == k {
         if table::device_at(table, k) != dev {
-            return STOPPED;
+            return None;
         }
         masks[k] = bit;
-        return k + 1;
+        return Some(k + 1);
     }
     let mask = masks[j];
     if (mask >> h) % 2 == 1 {
-        return STOPPED;
+        return None;
     }
     masks[j] = mask | bit;
-    k
+    Some(k)
 }
 
-// The first n pairs so, into lent masks. Answers how many entries they have.
-fn walk(table: &[u8], pairs: &[u8], masks: &mut [u16], n: usize) -> usize
+// The first n pairs so, into lent masks. Answers how many entries they have, nothing where one stands in no such
+// table.
+fn walk(table: &[u8], pairs: &[u8], masks: &mut [u16], n: usize) -> Option<usize>
     requires { (length table.now ≡ entries_size) × (length pairs.now ≡ pairs_size)
         × (length masks.old ≡ most_pairs) × (n ≤ most_pairs) }
     ensures { Walks (pairs_of n pairs.now) table.now masks.new result }
 {
     let mut slots = [0u8; SLOTS];
     let mut k = 0;
-    let mut i = 0;
-    while i < n {
+    for i in 0..n {
         let key = table::key_at(pairs, i);
-        let next = note_once(table, masks, &mut slots, k, key);
-        if next == STOPPED {
-            return STOPPED;
-        }
-        k = next;
-        i += 1;
+        k = note_once(table, masks, &mut slots, k, key)?;
     }
-    k
+    Some(k)
 }
 
 // Whether the masks of the first k entries are those gathered.
@@ -107,13 +99,11 @@ fn is_gathered(table: &[u8], masks: &[u16], k: usize) -> bool
         ≡ sames (map row_mask (take k (rows entry_size most_pairs table.now))) (take k masks.now) }
 {
     let mut all = true;
-    let mut j = 0;
-    while j < k {
+    for j in 0..k {
         let from = Whole::ENTRY * j;
         let to = from + Whole::ENTRY;
         let mask = octets::get16(&table[from..to], Whole::MASK_AT);
         all = all & (mask == masks[j]);
-        j += 1;
     }
     all
 }
@@ -128,10 +118,9 @@ pub(super) fn is_table(table: &[u8], count: u8, pairs: &[u8], n: usize) -> bool
         && once (pairs_of n pairs.now)) }
 {
     let mut masks = [0u16; State::PAIRS];
-    let k = walk(table, pairs, &mut masks, n);
-    if k == STOPPED {
+    let Some(k) = walk(table, pairs, &mut masks, n) else {
         return false;
-    }
+    };
     let same = is_gathered(table, &masks, k);
     let from = Whole::ENTRY * k;
     let behind = soundness::zeros(&table[from..]);

@@ -15,11 +15,13 @@ use Rattle.model.specs.Quoted.{codes}
 use Rattle.names.specs.NamesLaws.{is_short, named-most}
 use Rattle.texts.specs.Words.{pair_of}
 use Rattle.words.specs.Pieces.{part_of, device_of}
-use Rattle.fields.specs.Names.{ad_rows, ad_text, event_rows, event_text, status_rows, status_text, sub_rows, sub_text, why_rows, why_text, switch_text, change_word, prefix_text}
+use Rattle.fields.specs.Names.{ad_rows, ad_text, event_rows, event_text, status_rows, status_text, sub_rows, sub_text, why_text, switch_text, change_word, prefix_text}
 use Rattle.fields.specs.Cuts.{cut_from, each, all_of}
 use Rattle.fields.specs.Data.{size_of, is_whole, is_plain, character_text, characters_text, quoted_text, uuid_size, next_of, uuid_in, uuids_text, plain_text, headed_text, company_text, special_text, value_text, structure_text, structures_text}
 use Rattle.fields.specs.Monitors.{pattern_text, patterns_text, unknown_text, is_uuid, single_text, condition_text, sampling_text, limits_text, bit_text, reserved_text, options_text, filtering_text, peer_of, peer_text}
 use Rattle.lengths.specs.PiecesLaws.{by, digits, number-long, part-most, dbm-most, device-most, uuid-most, uuid-some, named-or-most}
+use Rattle.fields.specs.declared.terms.Fault.{Fault}
+use Rattle.fields.specs.declared.terms.Fault.TheVariants.{Empty, Long, NoDigits, NoKind, ShortFrame, NoFrame, NoForm}
 
 -- names
 pub ad-most : (x : ℕ) → length (ad_text x) ≤ 25
@@ -38,9 +40,15 @@ pub sub-most : (x : ℕ) → length (sub_text x) ≤ 24
 unfolding sub_text sub_rows every is_short codes
 sub-most x = named-or-most sub_rows "sub-opcode 0x" 24 x refl (omega arith)
 
-pub why-most : (x : ℕ) → length (why_text x) ≤ 30
-unfolding why_text why_rows every is_short codes
-why-most x = named-most why_rows 30 x refl
+pub why-most : (x : Fault) → length (why_text x) ≤ 30
+unfolding why_text codes
+why-most Empty = omega arith
+why-most Long = omega arith
+why-most NoDigits = omega arith
+why-most NoKind = omega arith
+why-most ShortFrame = omega arith
+why-most NoFrame = omega arith
+why-most NoForm = omega arith
 
 pub switch-most : (x : ℕ) → length (switch_text x) ≤ 3
 unfolding switch_text codes

@@ -1,5 +1,5 @@
 -- No line has more words than the room of an output: the words of a line are all written. Assumes nothing.
-use Rattle.std.specs.Prelude.{ℕ, ◌+◌, ◌-◌, ◌*◌, ◌≤◌, ◌≡◌, ◌&&◌, ◌||◌, List, leb, ltb, eqb, length, take, drop}
+use Rattle.std.specs.Prelude.{ℕ, ◌+◌, ◌-◌, ◌*◌, ◌≤◌, ◌≡◌, ◌&&◌, ◌||◌, List, leb, ltb, eqb, length, take, drop, Option, Some, None}
 use Rattle.std.proofs.Common.{ap, ◌∙◌, arith, leb-true, length-append, length-drop, take_all}
 use Rattle.laws.specs.Put.{put}
 use Rattle.laws.specs.TestsLaws.{and_right}
@@ -13,9 +13,10 @@ use Rattle.words.specs.Pieces.{part_of, device_of}
 use Rattle.shown.specs.Commands.{raw_text, add_text, add2_text, cancel_text, enable_text, parameters_text, command_text, returned_text, complete_text}
 use Rattle.shown.specs.Frames.{heard_text, packet_text, scanned_text, frame_text, change_text, report_text}
 use Rattle.shown.specs.Image.{head_text, edition_text, added_text, monitor_text, counts_text, pair_text, end_text, image_text, begins}
-use Rattle.shown.specs.Line.{is_kind, line_text, no_line, octets_why, octets_text, is_digits, why_no_text, text_words, refusal_in, is_refusal, refused_text, words_of}
+use Rattle.shown.specs.Line.{is_kind, line_text, no_line, octets_why, said_of, octets_text, is_digits, why_no_text, text_words, refusal_in, is_refusal, refused_text, refused_in, words_of}
 use Rattle.lengths.specs.PiecesLaws.{by, digits, number-long, part-most, part-within, parts_within, dbm-most, sum-most, device-most}
 use Rattle.lengths.specs.FieldsLaws.{event-most, status-most, sub-most, why-most, switch-most, change-most, prefix-most, structures-most, condition-most, limits-most, peer-most}
+use Rattle.fields.specs.declared.terms.Fault.{Fault}
 
 -- commands
 raw-most : (s : List ℕ) → length (raw_text s) ≤ 2 * length s + 13
@@ -222,24 +223,33 @@ line-most s =
     (λ q. by (eqb (number_at 1 s 0) 14) _ _ (27 * length s + 500) (λ u. complete-most s)
     (λ u. by (eqb (number_at 1 s 0) 255) _ _ (27 * length s + 500) (λ v. change-text-most s) (λ v. report-most s))))
 
-no-line-most : (why : ℕ) → length (no_line why) ≤ 42
+no-line-most : (why : Fault) → length (no_line why) ≤ 42
 unfolding no_line codes
 no-line-most why = let a = why-most why in simp length-append (omega arith)
 
+said-most : (s : List ℕ) (why : Option Fault) → length (said_of s why) ≤ 27 * length s + 500
+unfolding said_of
+said-most s None = line-most s
+said-most s (Some why) = let a = no-line-most why in omega arith
+
 octets-most : (s : List ℕ) → length (octets_text s) ≤ 27 * length s + 500
 unfolding octets_text
-octets-most s = by (eqb (octets_why s) 0) _ _ (27 * length s + 500) (λ e. line-most s)
-    (λ e. let a = no-line-most (octets_why s) in omega arith)
+octets-most s = said-most s (octets_why s)
 
 refused-most : (x : ℕ) → length (refused_text x) ≤ 76
 unfolding refused_text codes
 refused-most x = let a = digits x in let b = refusal-most x in simp length-append (omega arith)
 
+refused-in-most : (x : Option ℕ) → length (refused_in x) ≤ 76
+unfolding refused_in
+refused-in-most None = omega arith
+refused-in-most (Some x) = refused-most x
+
 -- a text that is a line has at most 263 octets, so at most 7,601 characters of words
 pub words-most : (text : List ℕ) → length (words_of text) ≤ 7601
 unfolding words_of text_words is_digits
 words-most text =
-    by (is_refusal text) _ _ 7601 (λ e. let a = refused-most (refusal_in text) in omega arith)
+    by (is_refusal text) _ _ 7601 (λ e. let a = refused-in-most (refusal_in text) in omega arith)
     (λ e. by (is_text text && leb (length (octets_in text)) 263) _ _ 7601
     (λ q. let h = leb-true (length (octets_in text)) 263
     (and_right (is_text text) (leb (length (octets_in text)) 263) q) in let a = octets-most (octets_in text) in omega

@@ -3,49 +3,21 @@
 // from the document by hand.
 #![tactic(auto)]
 
-use refusals::{Refusal, Wrote};
-
-// What a lent output holds before a call; it stands there still where nothing was written.
-const MARK: u8 = 238;
-
-fn mark(out: &mut [u8]) {
-    let mut i = 0;
-    while i < out.len() {
-        out[i] = MARK;
-        i += 1;
-    }
-}
-
-// Tells where an octet from an index on is no longer the mark.
-fn show_changed(out: &[u8], from: usize) {
-    let mut i = from;
-    while i < out.len() {
-        if out[i] != MARK {
-            io::write_all(1, b"changed\n");
-            return;
-        }
-        i += 1;
-    }
-}
-
-fn show_number(r: Refusal) {
-    let n = refusals::number_of(r);
-    io::print_decimal(1, n as u64);
-    io::write_all(1, b"\n");
-}
+use refusals::Refusal;
+use vectors::MARK;
 
 // What a call wrote into a marked output, or the number of its refusal.
-fn show_answer(w: Wrote, out: &[u8]) {
+fn show_answer(w: Result<usize, Refusal>, out: &[u8]) {
     match w {
-        Wrote::Done(n) => {
-            if n <= out.len() {
-                io::write_all(1, &out[..n]);
+        Ok(n) => {
+            if let Some((written, rest)) = out.split_at_checked(n) {
+                io::write_all(1, written);
+                vectors::show_changed(rest);
             }
-            show_changed(out, n);
         }
-        Wrote::Refused(r) => {
-            show_number(r);
-            show_changed(out, 0);
+        Err(r) => {
+            vectors::show_number(r);
+            vectors::show_changed(out);
         }
     }
 }
@@ -53,62 +25,52 @@ fn show_answer(w: Wrote, out: &[u8]) {
 // Octets written as a line into the lent octets.
 fn write_into(label: &[u8], octets: &[u8], out: &mut [u8]) {
     io::write_all(1, label);
-    mark(out);
-    let w = lines::write_line(octets, out);
-    show_answer(w, out);
+    out.fill(MARK);
+    show_answer(lines::write_line(octets, out), out);
 }
 
 fn show_written(label: &[u8], octets: &[u8], room: usize) {
     let mut out = io::buffer();
-    if room <= 4096 {
-        write_into(label, octets, &mut out[..room]);
+    if let Some(lent) = out.get_mut(..room) {
+        write_into(label, octets, lent);
     }
 }
 
 // The octets that a line held, written again.
 fn show_line(label: &[u8], octets: &[u8], n: usize) {
-    if n <= octets.len() {
-        show_written(label, &octets[..n], 527);
-        show_changed(octets, n);
+    if let Some((held, rest)) = octets.split_at_checked(n) {
+        show_written(label, held, 527);
+        vectors::show_changed(rest);
     }
 }
 
-fn show_frame(label: &[u8], octets: &[u8; 263], w: Wrote) {
+fn show_frame(label: &[u8], octets: &[u8; 263], w: Result<usize, Refusal>) {
     match w {
-        Wrote::Done(n) => show_line(label, octets, n),
-        Wrote::Refused(r) => {
+        Ok(n) => show_line(label, octets, n),
+        Err(r) => {
             io::write_all(1, label);
-            show_number(r);
+            vectors::show_number(r);
         }
     }
 }
 
 // The first n octets where they are a frame's.
-fn frame_of(octets: &[u8], n: usize) -> Wrote {
-    if n <= octets.len() {
-        if lines::is_frame(&octets[..n]) {
-            return Wrote::Done(n);
-        }
+fn frame_of(octets: &[u8], n: usize) -> Result<usize, Refusal> {
+    match octets.get(..n) {
+        Some(frame) if lines::is_frame(frame) => Ok(n),
+        _ => Err(Refusal::NotLine),
     }
-    Wrote::Refused(Refusal::NotLine)
 }
 
 // A text read as the line of a frame.
-fn read_frame(text: &[u8], octets: &mut [u8]) -> Wrote {
-    let w = reader::take_text(text, octets);
-    match w {
-        Wrote::Done(n) => frame_of(octets, n),
-        Wrote::Refused(r) => Wrote::Refused(r),
-    }
-}
-
-fn marked_frame() -> [u8; 263] {
-    [MARK; 263]
+fn read_frame(text: &[u8], octets: &mut [u8]) -> Result<usize, Refusal> {
+    let n = reader::take_text(text, octets)?;
+    frame_of(octets, n)
 }
 
 // A line read, and its octets written again.
 fn show_read(label: &[u8], text: &[u8]) {
-    let mut octets = marked_frame();
+    let mut octets = [MARK; 263];
     let w = read_frame(text, &mut octets);
     show_frame(label, &octets, w);
 }
@@ -116,46 +78,38 @@ fn show_read(label: &[u8], text: &[u8]) {
 // The text of octets read as a line.
 fn read_text_of(label: &[u8], octets: &[u8], text: &mut [u8]) {
     if lines::put_text(text, 0, octets) {
-        let n = octets.len();
-        if n <= 264 {
-            let end = 2 * n + 1;
-            if end <= text.len() {
-                show_read(label, &text[..end]);
-            }
+        if let Some(line) = text.get(..2 * octets.len() + 1) {
+            show_read(label, line);
         }
     }
 }
 
 fn show_text_of(label: &[u8], octets: &[u8]) {
-    let mut text = io::buffer();
-    read_text_of(label, octets, &mut text[..529]);
+    let mut text = [0u8; 529];
+    read_text_of(label, octets, &mut text);
 }
 
 // The octets that a text held, written again.
 fn put_again(octets: &[u8], out: &mut [u8]) {
-    if octets.len() <= 264 {
-        mark(out);
-        let end = 2 * octets.len() + 1;
-        if lines::put_text(out, 0, octets) {
-            show_answer(Wrote::Done(end), out);
-        }
+    out.fill(MARK);
+    if lines::put_text(out, 0, octets) {
+        show_answer(Ok(2 * octets.len() + 1), out);
     }
 }
 
 fn text_again(octets: &[u8], n: usize) {
-    let mut out = io::buffer();
-    if n <= octets.len() {
-        put_again(&octets[..n], &mut out[..527]);
-        show_changed(octets, n);
+    let mut out = [0u8; 527];
+    if let Some((held, rest)) = octets.split_at_checked(n) {
+        put_again(held, &mut out);
+        vectors::show_changed(rest);
     }
 }
 
 fn take_into(text: &[u8], octets: &mut [u8]) {
-    mark(octets);
-    let w = reader::take_text(text, octets);
-    match w {
-        Wrote::Done(n) => text_again(octets, n),
-        Wrote::Refused(r) => show_number(r),
+    octets.fill(MARK);
+    match reader::take_text(text, octets) {
+        Ok(n) => text_again(octets, n),
+        Err(r) => vectors::show_number(r),
     }
 }
 
@@ -163,8 +117,8 @@ fn take_into(text: &[u8], octets: &mut [u8]) {
 fn show_text(label: &[u8], text: &[u8], room: usize) {
     let mut octets = io::buffer();
     io::write_all(1, label);
-    if room <= 4096 {
-        take_into(text, &mut octets[..room]);
+    if let Some(lent) = octets.get_mut(..room) {
+        take_into(text, lent);
     }
 }
 
@@ -272,17 +226,22 @@ fn texts() {
     show_text(b"into 2 octets: ", b"AF0101\n", 2);
 }
 
-// The number of every refusal.
+// The number of every refusal that a line or an image can meet.
 fn numbers() {
-    show_number(Refusal::Seen);
-    show_number(Refusal::Gap);
-    show_number(Refusal::Short);
-    show_number(Refusal::NotLine);
-    show_number(Refusal::BadPayload);
-    show_number(Refusal::OtherOpcode);
-    show_number(Refusal::Unsound);
-    show_number(Refusal::BadSettings);
-    show_number(Refusal::NotImage);
+    let refusals = [
+        Refusal::Seen,
+        Refusal::Gap,
+        Refusal::Short,
+        Refusal::NotLine,
+        Refusal::BadPayload,
+        Refusal::OtherOpcode,
+        Refusal::Unsound,
+        Refusal::BadSettings,
+        Refusal::NotImage,
+    ];
+    for r in refusals {
+        vectors::show_number(r);
+    }
 }
 
 fn main() {

@@ -1,7 +1,8 @@
 -- Laws of the definitions in Keyed.
-use Rattle.std.specs.Prelude.{ℕ, ◌+◌, ◌*◌, ◌<◌, ◌≡◌, refl, Bool, true, false, ◌&&◌, List, eqb, length, take, drop, get_or, set}
+use Rattle.std.specs.Prelude.{ℕ, ◌+◌, ◌*◌, ◌<◌, ◌≡◌, refl, Bool, true, false, ◌&&◌, List, eqb, length, take, drop, get_or, set, Option, Some, None}
 use Rattle.std.proofs.Common.{sym, ap, ap₂, ◌∙◌, arith, get_or-set_same, get_or-set_other, eqb-true}
 use Rattle.std.proofs.lemmas.Bool.{false≢true}
+use Rattle.std.specs.Int.{from_bool}
 use Rattle.laws.specs.Tests.{pick}
 use Rattle.laws.specs.TestsLaws.{and_left, cases-le}
 use Rattle.laws.specs.Rows.{row}
@@ -20,20 +21,33 @@ use Rattle.marks.proofs.MonitorsLaws.{row_field, row-condition, alike-matches}
 use Rattle.model.specs.Layout.{condition_at, condition_length_at, condition_room, monitor_size, monitors_at, most_monitors}
 use Rattle.marks.specs.Keyed.{private_of, KeyAt, Keyed, Told, ToldAll}
 
-pub told_at_lem : {private : Bool} (m s a l : List ℕ) (h : ℕ) → h < most_monitors → ToldAll private m s a l
+pub told_at_lem : (met : Option (List Bool)) (s a l : List ℕ) (h : ℕ) → h < most_monitors → ToldAll met s a l
     → (get_or a h 0 ≡ 0 → ⊥)
-    → Told private m s l h
-told_at_lem m s a l h b t n = record { is = t.is; keyed = λ e. t.keyed e h b n }
+    → Told met s l h
+told_at_lem None s a l h b t n = record { is = t.is; keyed = t.keyed }
+told_at_lem (Some m) s a l h b t n = record { is = t.is; keyed = t.keyed h b n }
+
+-- an octet that is 0 is no handle's that is asked
+pub flag-some : (t : Bool) → t ≡ true → flag t ≡ 0 → ⊥
+unfolding flag
+flag-some true n e = omega arith
+flag-some false n e = absurd (false≢true n)
+
+-- a test as a number
+pub flag-from : {x : ℕ} (t : Bool) → x ≡ from_bool t → x ≡ flag t
+unfolding flag
+flag-from true e = e
+flag-from false e = e
 
 -- one handle more
-pub keyed-turn : (m s a l : List ℕ) (h x : ℕ) → h < length m → Keyed m s a l h
+pub keyed-turn : (m : List Bool) (s a l : List ℕ) (h : ℕ) (x : Bool) → h < length m → Keyed m s a l h
     → ((get_or a h 0 ≡ 0 → ⊥) → KeyAt s h
-    → x ≡ flag (meets_condition (monitor_in (row monitor_size h (drop monitors_at s))).1 (packet_of l)))
+    → x ≡ meets_condition (monitor_in (row monitor_size h (drop monitors_at s))).1 (packet_of l))
     → Keyed (set m h x) s a l (h + 1)
 keyed-turn m s a l h x b f e j k n q =
     cases-le h j
-    (λ z. let i : j ≡ h = omega arith in rw i (get_or-set_same m h x 0 b ∙ e (rw i at n) (rw i at q)))
-    (λ z. get_or-set_other m h j x 0 (λ i. omega arith) ∙ f j z n q)
+    (λ z. let i : j ≡ h = omega arith in rw i (get_or-set_same m h x false b ∙ e (rw i at n) (rw i at q)))
+    (λ z. get_or-set_other m h j x false (λ i. omega arith) ∙ f j z n q)
 
 -- the match of a key is that of the address
 key-matches : (s : List ℕ) (h : ℕ) (l : List ℕ) → KeyAt s h
@@ -79,10 +93,10 @@ key-none s h l k p =
     (eqb (hash_of a) (ah (key_of key) (prand_of a))) p)
 
 -- what was found for an alike row
-pub key-alike : (s l : List ℕ) (j h : ℕ) {x : ℕ} → Alike s j h → KeyAt s h
-    → (KeyAt s j → x ≡ flag (meets_condition (monitor_in (row monitor_size j (drop monitors_at s))).1 (packet_of l)))
-    → x ≡ flag (meets_condition (monitor_in (row monitor_size h (drop monitors_at s))).1 (packet_of l))
+pub key-alike : (s l : List ℕ) (j h : ℕ) {x : Bool} → Alike s j h → KeyAt s h
+    → (KeyAt s j → x ≡ meets_condition (monitor_in (row monitor_size j (drop monitors_at s))).1 (packet_of l))
+    → x ≡ meets_condition (monitor_in (row monitor_size h (drop monitors_at s))).1 (packet_of l)
 unfolding monitor_in monitor_from
 key-alike s l j h a k f =
     f (sym (row_field s j 5 (omega arith)) ∙ a.kinds ∙ row_field s h 5 (omega arith) ∙ k)
-    ∙ ap flag (alike-matches s j h (packet_of l) a)
+    ∙ alike-matches s j h (packet_of l) a

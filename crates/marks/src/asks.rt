@@ -3,6 +3,7 @@
 ghost use Rattle.std.specs.Prelude.{◌<◌, ◌≡◌, length};
 ghost use Rattle.model.specs.Level.{level};
 ghost use Rattle.marks.specs.Asked.{ask_at, reach_of};
+ghost use Rattle.marks.specs.Marks.{flag};
 ghost use Rattle.model.specs.Layout.{block_size, most_monitors};
 
 use state::State;
@@ -18,12 +19,12 @@ pub(super) fn reach_of(may: bool, rssi: u8) -> u16
     0
 }
 
-// Whether a handle is asked, as 1 or 0: its pair of the packet's device is held, or the packet may start one and
-// reaches its high threshold.
-pub(super) fn ask_at(s: &[u8], h: usize, held: u8, reach: u16) -> u8
+// Whether a handle is asked: its pair of the packet's device is held, or the packet may start one and reaches its high
+// threshold.
+pub(super) fn ask_at(s: &[u8], h: usize, held: u8, reach: u16) -> bool
     requires { (length s.now ≡ block_size) × (h < most_monitors) }
-    ensures { result ≡ ask_at s.now h held reach }
+    ensures { flag result ≡ ask_at s.now h held reach }
 {
     let high = state::level_of(s[State::MONITORS_AT + State::MONITOR_ROW * h + State::HIGH_AT]);
-    super::bit((held != 0) | ((high as u16) < reach))
+    (held != 0) | ((high as u16) < reach)
 }

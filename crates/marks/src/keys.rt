@@ -1,11 +1,10 @@
 // Monitors with a key (document 02, T-03): which of those that are asked resolve a private address. The cipher runs
 // once a key.
-ghost use Rattle.std.specs.Prelude.{◌+◌, ◌≤◌, ◌<◌, ◌≡◌, true, length, get_or, drop};
+ghost use Rattle.std.specs.Prelude.{◌+◌, ◌<◌, ◌≡◌, true, length, get_or, drop, IfSome};
 ghost use Rattle.laws.specs.Rows.{row};
 ghost use Rattle.model.specs.Frames.{packet_of};
 ghost use Rattle.model.specs.Monitors.{meets_condition};
 ghost use Rattle.model.specs.Image.{monitor_in};
-ghost use Rattle.marks.specs.Marks.{flag};
 ghost use Rattle.marks.specs.Fields.{Framed};
 ghost use Rattle.marks.specs.Monitors.{Alike};
 ghost use Rattle.marks.specs.Asked.{asked_of};
@@ -38,33 +37,20 @@ fn same_condition(s: &[u8], j: usize, h: usize) -> bool
     parts::same(&s[from..from + n], &s[begin..begin + m])
 }
 
-// The same of a handle j that is asked.
-fn is_alike(s: &[u8], ask: u8, j: usize, h: usize) -> bool
-    requires { (length s.now ≡ block_size) × (j < most_monitors) × (h < most_monitors) }
-    ensures { result ≡ true → (ask ≡ 0 → ⊥) × Alike s.now j h }
-{
-    if ask == 0 {
-        return false;
-    }
-    same_condition(s, j, h)
-}
-
-// The first handle up to h that is asked and has the type and the condition of h: h itself where no other does.
-fn first_alike(s: &[u8], held: &[u8], reach: u16, h: usize) -> usize
+// The first handle before h that is asked and has the type and the condition of h.
+fn first_alike(s: &[u8], held: &[u8], reach: u16, h: usize) -> Option<usize>
     requires { (length s.now ≡ block_size) × (length held.now ≡ most_monitors) × (h < most_monitors) }
-    ensures { (result ≤ h)
-        × (result < h → (get_or (asked_of held.now s.now reach) result 0 ≡ 0 → ⊥)
-        × Alike s.now result h) }
+    ensures { IfSome result
+        (λ j. (j < h) × (get_or (asked_of held.now s.now reach) j 0 ≡ 0 → ⊥) × Alike s.now j h) }
 {
-    let mut j = 0;
-    while j < h {
-        let ask = asks::ask_at(s, j, held[j], reach);
-        if is_alike(s, ask, j, h) {
-            return j;
+    for j in 0..h {
+        if asks::ask_at(s, j, held[j], reach) {
+            if same_condition(s, j, h) {
+                return Some(j);
+            }
         }
-        j += 1;
     }
-    h
+    None
 }
 
 // Whether a random address is resolved by the key at a handle.
@@ -81,43 +67,40 @@ fn resolved_at(s: &[u8], h: usize, payload: &[u8]) -> bool
     resolve::resolves(&s[from..to], &payload[2..8])
 }
 
-// Whether the key at a handle that is asked resolves the packet's address, as 1 or 0; met has it of the keys before.
-// What was found for a key is not worked out again for another handle with the same key.
-fn met_key(met: &[u8], s: &[u8], held: &[u8], reach: u16, h: usize, payload: &[u8]) -> u8
+// Whether the key at a handle that is asked resolves the packet's address; met has it of the keys before. What was
+// found for a key is not worked out again for another handle with the same key.
+fn met_key(met: &[bool], s: &[u8], held: &[u8], reach: u16, h: usize, payload: &[u8]) -> bool
     requires { (length met.now ≡ most_monitors) × (length s.now ≡ block_size) × (length held.now ≡ most_monitors)
         × (h < most_monitors)
         × Framed payload.now × (private_of payload.now ≡ true)
         × Keyed met.now s.now (asked_of held.now s.now reach) payload.now h }
     ensures { (get_or (asked_of held.now s.now reach) h 0 ≡ 0 → ⊥) → KeyAt s.now h
-        → result ≡ flag (meets_condition (monitor_in (row monitor_size h (drop monitors_at s.now))).1
-        (packet_of payload.now)) }
+        → result ≡ meets_condition (monitor_in (row monitor_size h (drop monitors_at s.now))).1
+        (packet_of payload.now) }
 {
-    if asks::ask_at(s, h, held[h], reach) == 0 {
-        return 0;
+    if !asks::ask_at(s, h, held[h], reach) {
+        return false;
     }
     let at = State::MONITORS_AT + State::MONITOR_ROW * h;
     if s[at + State::TYPE_AT] != advert::IRK {
-        return 0;
+        return false;
     }
-    let j = first_alike(s, held, reach, h);
-    if j < h {
-        return met[j];
+    match first_alike(s, held, reach, h) {
+        Some(j) => met[j],
+        None => resolved_at(s, h, payload),
     }
-    super::bit(resolved_at(s, h, payload))
 }
 
 // The same of every handle with a key that is asked.
-pub(super) fn met_keys(met: &mut [u8], s: &[u8], held: &[u8], reach: u16, payload: &[u8])
-    requires { (length met.old ≡ most_monitors) × (length s.now ≡ block_size) × (length held.now ≡ most_monitors)
-        × Framed payload.now
+pub(super) fn met_keys(s: &[u8], held: &[u8], reach: u16, payload: &[u8]) -> [bool; State::MONITORS]
+    requires { (length s.now ≡ block_size) × (length held.now ≡ most_monitors) × Framed payload.now
         × (private_of payload.now ≡ true) }
-    ensures { Keyed met.new s.now (asked_of held.now s.now reach)
-        payload.now most_monitors }
+    ensures { Keyed result s.now (asked_of held.now s.now reach) payload.now most_monitors }
 {
-    let mut h = 0;
-    while h < State::MONITORS {
-        let m = met_key(met, s, held, reach, h, payload);
+    let mut met = [false; State::MONITORS];
+    for h in 0..State::MONITORS {
+        let m = met_key(&met, s, held, reach, h, payload);
         met[h] = m;
-        h += 1;
     }
+    met
 }

@@ -7,7 +7,7 @@ mod asks;
 mod keys;
 mod options;
 
-ghost use Rattle.std.specs.Prelude.{◌+◌, ◌≤◌, ◌<◌, ◌≡◌, length, drop};
+ghost use Rattle.std.specs.Prelude.{◌+◌, ◌<◌, ◌≡◌, true, length, drop};
 ghost use Rattle.laws.specs.Rows.{row};
 ghost use Rattle.model.specs.Frames.{packet_of};
 ghost use Rattle.marks.specs.Marks.{flag};
@@ -22,15 +22,6 @@ ghost use Rattle.model.specs.Layout.{block_size, monitor_size, monitors_at, most
 
 use state::State;
 
-fn bit(t: bool) -> u8
-    ensures { (result ≡ flag t) × (result ≤ 1) }
-{
-    if t {
-        return 1;
-    }
-    0
-}
-
 // What the octet of a packet that matches has beside the tests.
 pub const MATCHED: u8 = 0x40;
 
@@ -42,13 +33,13 @@ fn row_bits(high: u8, low: u8, sampling: u8, rssi: u8, filtering: u8, event: u8)
     let l = state::level_of(rssi);
     let lowest = state::level_of(low);
     let highest = state::level_of(high);
-    let good = bit(lowest < l);
-    let windowed = bit((1 <= sampling) & (sampling <= 254));
-    let strong = bit(highest <= l);
+    let good = u8::from(lowest < l);
+    let windowed = u8::from((1 <= sampling) & (sampling <= 254));
+    let strong = u8::from(highest <= l);
     let through = state::lets_through(filtering, event);
-    let instant = bit((sampling == 0) & through);
+    let instant = u8::from((sampling == 0) & through);
     let sifts = filtering % 2;
-    let told = bit(through);
+    let told = u8::from(through);
     good + 2 * windowed + 4 * strong + 8 * instant + 16 * sifts + 32 * told + MATCHED
 }
 
@@ -75,36 +66,41 @@ fn matches_at(s: &[u8], h: usize, payload: &[u8], scan: usize) -> bool
     )
 }
 
-// Whether the monitor of a handle is in use (its interval is not 0) and the packet meets its condition, as 1 or 0;
-// for an address that keys resolve met has it of the handles with a key, and no key resolves another.
-fn met_at(met: &[u8], s: &[u8], h: usize, payload: &[u8], scan: usize, private: bool) -> u8
-    requires { (length met.now ≡ most_monitors) × (length s.now ≡ block_size) × (h < most_monitors)
-        × Framed payload.now
-        × (scan ≡ scan_at payload.now) × Told private met.now s.now payload.now h }
-    ensures { result
+// Whether the monitor of a handle is in use (its interval is not 0) and the packet meets its condition; for an address
+// that keys resolve met has it of the handles with a key, and no key resolves another.
+fn met_at(
+    met: &Option<[bool; State::MONITORS]>,
+    s: &[u8],
+    h: usize,
+    payload: &[u8],
+    scan: usize,
+) -> bool
+    requires { (length s.now ≡ block_size) × (h < most_monitors) × Framed payload.now
+        × (scan ≡ scan_at payload.now) × Told met.now s.now payload.now h }
+    ensures { flag result
         ≡ met_row (row monitor_size h (drop monitors_at s.now)) (packet_of payload.now) }
 {
     let at = State::MONITORS_AT + State::MONITOR_ROW * h;
     if s[at + State::INTERVAL_AT] == 0 {
-        return 0;
+        return false;
     }
     if s[at + State::TYPE_AT] == advert::IRK {
-        if private {
-            return met[h];
-        }
-        return 0;
+        return match met {
+            Some(found) => found[h],
+            None => false,
+        };
     }
-    bit(matches_at(s, h, payload, scan))
+    matches_at(s, h, payload, scan)
 }
 
 // The octet of a handle by its condition alone, from whether its monitor is in use and the condition met.
-fn mark_at(s: &[u8], h: usize, payload: &[u8], met: u8) -> u8
+fn mark_at(s: &[u8], h: usize, payload: &[u8], met: bool) -> u8
     requires { (length s.now ≡ block_size) × (h < most_monitors) × Framed payload.now
-        × (met ≡ met_row (row monitor_size h (drop monitors_at s.now)) (packet_of payload.now)) }
+        × (flag met ≡ met_row (row monitor_size h (drop monitors_at s.now)) (packet_of payload.now)) }
     ensures { result
         ≡ met_mark (row monitor_size h (drop monitors_at s.now)) (packet_of payload.now) }
 {
-    if met == 0 {
+    if !met {
         return 0;
     }
     let at = State::MONITORS_AT + State::MONITOR_ROW * h;
@@ -120,51 +116,46 @@ fn mark_at(s: &[u8], h: usize, payload: &[u8], met: u8) -> u8
 
 // The same of a handle that is asked, 0 of another.
 fn mark_asked(
-    met: &[u8],
+    met: &Option<[bool; State::MONITORS]>,
     s: &[u8],
     h: usize,
     payload: &[u8],
     scan: usize,
-    private: bool,
-    ask: u8,
+    ask: bool,
 ) -> u8
-    requires { (length met.now ≡ most_monitors) × (length s.now ≡ block_size) × (h < most_monitors)
-        × Framed payload.now
-        × (scan ≡ scan_at payload.now) × ((ask ≡ 0 → ⊥) → Told private met.now s.now payload.now h) }
+    requires { (length s.now ≡ block_size) × (h < most_monitors) × Framed payload.now
+        × (scan ≡ scan_at payload.now) × (ask ≡ true → Told met.now s.now payload.now h) }
     ensures { result
-        ≡ mark_if ask (met_mark (row monitor_size h (drop monitors_at s.now))
+        ≡ mark_if (flag ask) (met_mark (row monitor_size h (drop monitors_at s.now))
         (packet_of payload.now)) }
 {
-    if ask == 0 {
+    if !ask {
         return 0;
     }
-    let m = met_at(met, s, h, payload, scan, private);
+    let m = met_at(met, s, h, payload, scan);
     mark_at(s, h, payload, m)
 }
 
 // The first pass: the octets of the handles that are asked, by their conditions; 0 of the others.
 fn mark_each(
     acts: &mut [u8],
-    met: &[u8],
+    met: &Option<[bool; State::MONITORS]>,
     s: &[u8],
     held: &[u8],
     reach: u16,
     payload: &[u8],
-    private: bool,
 )
-    requires { (length acts.old ≡ most_monitors) × (length met.now ≡ most_monitors) × (length s.now ≡ block_size)
+    requires { (length acts.old ≡ most_monitors) × (length s.now ≡ block_size)
         × (length held.now ≡ most_monitors) × Framed payload.now
-        × ToldAll private met.now s.now (asked_of held.now s.now reach) payload.now }
+        × ToldAll met.now s.now (asked_of held.now s.now reach) payload.now }
     ensures { acts.new
         ≡ met_if (asked_of held.now s.now reach) s.now
         (packet_of payload.now) }
 {
     let scan = scan_at(payload);
-    let mut h = 0;
-    while h < State::MONITORS {
+    for h in 0..State::MONITORS {
         let ask = asks::ask_at(s, h, held[h], reach);
-        acts[h] = mark_asked(met, s, h, payload, scan, private, ask);
-        h += 1;
+        acts[h] = mark_asked(met, s, h, payload, scan, ask);
     }
 }
 
@@ -176,19 +167,16 @@ fn is_private(payload: &[u8]) -> bool
     (payload[1] == 1) & resolve::is_resolvable(&payload[2..8])
 }
 
-// For a resolvable private address the keys of conditions are asked first, so that the cipher runs once a key.
-// Answers whether it is such a one.
-fn find_keys(met: &mut [u8], s: &[u8], held: &[u8], reach: u16, payload: &[u8]) -> bool
-    requires { (length met.old ≡ most_monitors) × (length s.now ≡ block_size) × (length held.now ≡ most_monitors)
-        × Framed payload.now }
-    ensures { ToldAll result met.new s.now (asked_of held.now s.now reach)
-        payload.now }
+// For a resolvable private address the keys of conditions are asked first, so that the cipher runs once a key: which
+// of them resolve it; none for another address.
+fn find_keys(s: &[u8], held: &[u8], reach: u16, payload: &[u8]) -> Option<[bool; State::MONITORS]>
+    requires { (length s.now ≡ block_size) × (length held.now ≡ most_monitors) × Framed payload.now }
+    ensures { ToldAll result s.now (asked_of held.now s.now reach) payload.now }
 {
     if is_private(payload) {
-        keys::met_keys(met, s, held, reach, payload);
-        return true;
+        return Some(keys::met_keys(s, held, reach, payload));
     }
-    false
+    None
 }
 
 // Where the scan response of a packet frame's payload begins. A payload of kind 02 has none: there the RSSI stands.
@@ -250,9 +238,8 @@ pub fn mark_all(acts: &mut [u8], s: &[u8], payload: &[u8]) -> bool
         return false;
     }
     let held = [1u8; State::MONITORS];
-    let mut met = [0u8; State::MONITORS];
-    let private = find_keys(&mut met, s, &held, 0, payload);
-    mark_each(acts, &met, s, &held, 0, payload, private);
+    let met = find_keys(s, &held, 0, payload);
+    mark_each(acts, &met, s, &held, 0, payload);
     options::admit_each(acts, s, payload);
     true
 }
@@ -273,9 +260,8 @@ pub fn mark_held(acts: &mut [u8], s: &[u8], payload: &[u8], held: &[u8], may: bo
         return false;
     }
     let reach = asks::reach_of(may, payload[payload.len() - 1]);
-    let mut met = [0u8; State::MONITORS];
-    let private = find_keys(&mut met, s, held, reach, payload);
-    mark_each(acts, &met, s, held, reach, payload, private);
+    let met = find_keys(s, held, reach, payload);
+    mark_each(acts, &met, s, held, reach, payload);
     options::admit_each(acts, s, payload);
     true
 }

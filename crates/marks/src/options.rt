@@ -90,10 +90,8 @@ pub(super) fn admit_each(acts: &mut [u8], s: &[u8], payload: &[u8])
     ensures { acts.new
         ≡ admitted acts.old s.now (packet_of payload.now) }
 {
-    let mut h = 0;
-    while h < State::MONITORS {
+    for h in 0..State::MONITORS {
         let a = acts[h];
         acts[h] = admit_at(s, h, payload, a);
-        h += 1;
     }
 }

@@ -1,5 +1,5 @@
 -- Laws of the definitions in Outcomes.
-use Rattle.std.specs.Prelude.{ℕ, suc, ◌≤◌, ◌<◌, ◌≡◌, refl, Bool, true, false, not, List, eqb, leb, ltb, length}
+use Rattle.std.specs.Prelude.{ℕ, suc, ◌≤◌, ◌<◌, ◌≡◌, refl, Bool, true, false, not, List, eqb, leb, ltb, length, Ok, Err}
 use Rattle.std.proofs.Math.Path.{sym, ap}
 use Rattle.std.proofs.Common.{◌∙◌, arith, lt-ltb, ne_eqb, leb-false}
 use Rattle.std.proofs.lemmas.Bool.{false≢true}
@@ -25,7 +25,7 @@ use Rattle.engine.specs.Calls.{case_of}
 use Rattle.months.specs.Counts.{rows_added}
 use Rattle.months.specs.Counted.{Tallied, tally, lent_with}
 use Rattle.months.proofs.CountedLaws.{answer-same, adds_read}
-use Rattle.month.specs.declared.Answer.TheVariants.{Done as DoneA, Refused as RefusedA, Passes}
+use Rattle.month.specs.declared.Uncounted.TheVariants.{Refused as RefusedA, Passes}
 use Rattle.month.specs.Outcomes.{adds_in, at, outcome, answer_of, Counts, is_done}
 
 unfoldable number_of : {S : Type 0} → ℕ → Outcome S → ℕ
@@ -78,10 +78,11 @@ never-twelve lent s t = go (not (sound_whole s)) (ltb lent answer_room) (read te
     go false false (some x) e = by x (leb x.num (model_of s).position) (ltb (suc (model_of s).position) x.num) e
 
 pub refused-case : (S : Type 0) (lent k : ℕ) (s t : List ℕ) → answer engine lent s text t ≡ refused k
-    → answer_of {S = S} (refused k) ≡ RefusedA (case_of k)
+    → answer_of {S = S} (refused k) ≡ Err (RefusedA (case_of k))
 unfolding answer_of number_of
 refused-case S lent k s t e =
-    pick-false Passes (RefusedA (case_of k)) (ne_eqb k passes (λ z. never-twelve lent s t (ap (number_of 0) e ∙ z)))
+    ap Err
+    (pick-false Passes (RefusedA (case_of k)) (ne_eqb k passes (λ z. never-twelve lent s t (ap (number_of 0) e ∙ z))))
 
 -- what is known of an executed line: its state is sound and below the last number, and it was read
 pub record Ran (s t : List ℕ) : Type 0 where
@@ -139,7 +140,7 @@ module _ (n : ℕ) (s t out : List ℕ) (l : List Row) where
   read-adds x e = ap (adds_read engine adds_in s) e
 
   -- refused as without rows
-  pub counts-refused : (k : ℕ) → plain ≡ refused k → Counts n s t out l (RefusedA (case_of k)) l s out
+  pub counts-refused : (k : ℕ) → plain ≡ refused k → Counts n s t out l (Err (RefusedA (case_of k))) l s out
   unfolding tally state_after written
   counts-refused k e =
       let o : outcome n (length out) s l t ≡ refused k = whole ∙ ap (tally l given) e in
@@ -152,7 +153,7 @@ module _ (n : ℕ) (s t out : List ℕ) (l : List Row) where
 
   -- executed and counted
   pub counts-done : (s' a : List ℕ) → plain ≡ done s' a → every_two row_fits l given ≡ true
-      → Counts n s t out l (DoneA (length a)) (map_two row_sum l given) s' (put out 0 a)
+      → Counts n s t out l (Ok (length a)) (map_two row_sum l given) s' (put out 0 a)
   unfolding tally state_after written answer_of
   counts-done s' a e f =
       let o : outcome n (length out) s l t ≡ done (at s' (map_two row_sum l given)) a =
@@ -166,7 +167,7 @@ module _ (n : ℕ) (s t out : List ℕ) (l : List Row) where
 
   -- refused by 12
   pub counts-passes : (s' a : List ℕ) → plain ≡ done s' a → every_two row_fits l given ≡ false
-      → Counts n s t out l Passes l s out
+      → Counts n s t out l (Err Passes) l s out
   unfolding tally state_after written answer_of pick
   counts-passes s' a e f =
       let o : outcome n (length out) s l t ≡ refused passes = whole ∙ ap (tally l given) e ∙ pick-false _ _ f in

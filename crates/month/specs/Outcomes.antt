@@ -1,7 +1,7 @@
 -- What a counted line answers and leaves in the block, the output and the rows. Document 02, T-09 ("Refusals: 3 also
 -- for a table not of sixteen rows; 12, a total would pass 64 bits .., comes last; either leaves state and rows
 -- unchanged"). Assumes nothing.
-use Rattle.std.specs.Prelude.{ℕ, ◌≡◌, Bool, true, false, List, eqb, length}
+use Rattle.std.specs.Prelude.{ℕ, ◌≡◌, Bool, true, false, List, eqb, length, Result, Ok, Err}
 use Rattle.laws.specs.Tests.{pick}
 use Rattle.laws.specs.Put.{put}
 use Rattle.totals.specs.declared.Row.{Row}
@@ -14,8 +14,8 @@ use Rattle.wholes.specs.Engine.{engine}
 use Rattle.engine.specs.Calls.{case_of}
 use Rattle.months.specs.Counts.{rows_added}
 use Rattle.months.specs.Counted.{Tallied, lent_with, counted}
-use Rattle.month.specs.declared.Answer.{Answer}
-use Rattle.month.specs.declared.Answer.TheVariants.{Done as DoneA, Refused as RefusedA, Passes}
+use Rattle.month.specs.declared.Uncounted.{Uncounted}
+use Rattle.month.specs.declared.Uncounted.TheVariants.{Refused as RefusedA, Passes}
 
 -- what a frame adds, from a block
 unfoldable pub adds_in : List ℕ → Body → List Row
@@ -31,13 +31,13 @@ unfoldable pub outcome : ℕ → ℕ → List ℕ → List Row → List ℕ → 
 outcome n lent s l t = answer (counted engine adds_in) (lent_with n lent) (at s l) text t
 
 -- the answer of an outcome: 12 has a case of its own
-unfoldable pub answer_of : {S : Type 0} → Outcome S → Answer
-answer_of (refused k) = pick (eqb k passes) Passes (RefusedA (case_of k))
-answer_of (done x a) = DoneA (length a)
+unfoldable pub answer_of : {S : Type 0} → Outcome S → Result ℕ Uncounted
+answer_of (refused k) = Err (pick (eqb k passes) Passes (RefusedA (case_of k)))
+answer_of (done x a) = Ok (length a)
 
 -- What a counted line leaves, by its outcome: its answer, the rows, the block, the output with what was written at
 -- its start.
-pub record Counts (n : ℕ) (s t out : List ℕ) (l : List Row) (r : Answer) (rows : List Row)
+pub record Counts (n : ℕ) (s t out : List ℕ) (l : List Row) (r : Result ℕ Uncounted) (rows : List Row)
     (after wrote : List ℕ) : Type 0 where
   pub answer : r ≡ answer_of (outcome n (length out) s l t)
   pub table : rows ≡ (state_after (at s l) (outcome n (length out) s l t)).rows

@@ -11,16 +11,24 @@ mod site;
 
 ghost use Rattle.std.specs.Prelude.{◌≤◌};
 
+use month::Uncounted;
 use outside::STDERR;
-use texts::words;
+use shell::Status;
+use texts::Text;
 use totals::Row;
 
-// The rows so far, whether to go on, and the number of the refusal, 0 for none.
+// The rows so far, and the number of the refusal that stopped the last journal, where one did.
 #[derive(Clone, Copy)]
 pub struct Month {
     pub rows: [Row; Row::TABLE],
-    pub goes: bool,
-    pub number: u8,
+    pub stopped: Option<u8>,
+}
+
+// Why there are no rows: a file failed, and has told its own status, or an image or a join was refused by a number.
+#[derive(Clone, Copy)]
+pub enum End {
+    Failed,
+    Refused(u8),
 }
 
 fn usage() {
@@ -28,7 +36,7 @@ fn usage() {
         STDERR,
         b"usage: month [--csv] [IMAGE JOURNAL ..] [--rows FILE ..]\n",
     );
-    shell::status(shell::USAGE);
+    shell::tell(Status::Usage);
 }
 
 // Writes a word of the command on standard error, behind a mark.
@@ -51,31 +59,27 @@ fn unjoined(rt: &HostRuntime, first: usize, last: usize, h: usize) {
 }
 
 // One site's rows joined to those so far.
-fn with_site(rt: &HostRuntime, all: Month, one: Month, first: usize, last: usize) -> Month {
-    if !one.goes {
-        return one;
-    }
-    let t = all.rows;
-    let d = one.rows;
-    let both = sheets::join(t, d);
-    let u = both.rows;
-    if both.refused < Row::TABLE {
-        unjoined(rt, first, last, both.refused);
-        return Month {
-            rows: u,
-            goes: false,
-            number: rows::PASSES,
-        };
-    }
-    Month {
-        rows: u,
-        goes: true,
-        number: one.number,
+fn with_site(
+    rt: &HostRuntime,
+    all: Month,
+    one: Month,
+    first: usize,
+    last: usize,
+) -> Result<Month, End> {
+    match sheets::join(all.rows, one.rows) {
+        Ok(rows) => Ok(Month {
+            rows,
+            stopped: one.stopped,
+        }),
+        Err(h) => {
+            unjoined(rt, first, last, h);
+            Err(End::Refused(Uncounted::PASSES))
+        }
     }
 }
 
 // The site of an image's name and a journal's, counted.
-fn named(rt: &HostRuntime, first: usize, second: usize, progress: bool) -> Month {
+fn named(rt: &HostRuntime, first: usize, second: usize, progress: bool) -> Result<Month, End> {
     let mut image = io::buffer();
     let n = outside::word(rt, first, &mut image);
     let mut name = io::buffer();
@@ -84,115 +88,127 @@ fn named(rt: &HostRuntime, first: usize, second: usize, progress: bool) -> Month
 }
 
 // The site of a file of rows, read back.
-fn listed(rt: &HostRuntime, at: usize) -> Month {
+fn listed(rt: &HostRuntime, at: usize) -> Result<Month, End> {
     let mut name = io::buffer();
     let n = outside::word(rt, at, &mut name);
     site::read_back(rt, &name[..n])
 }
 
 // The sites counted, in order; the first that does not run through ends it.
-fn pairs(rt: &HostRuntime, first: usize, end: usize, progress: bool) -> Month {
+fn pairs(rt: &HostRuntime, first: usize, end: usize, progress: bool) -> Result<Month, End> {
     let mut all = Month {
         rows: totals::no_rows(),
-        goes: true,
-        number: 0,
+        stopped: None,
     };
     let mut at = first;
     while at < end {
-        if site::ends(all.goes, all.number) {
-            return all;
+        if all.stopped.is_some() {
+            return Ok(all);
         }
-        let one = named(rt, at, at + 1, progress);
-        let next = with_site(rt, all, one, at, at + 1);
-        all = next;
+        let one = named(rt, at, at + 1, progress)?;
+        all = with_site(rt, all, one, at, at + 1)?;
         if end - at < 2 {
-            return all;
+            return Ok(all);
         }
         at += 2;
     }
-    all
+    Ok(all)
 }
 
 // The files of rows behind them, the same.
-fn files(rt: &HostRuntime, before: Month, first: usize, end: usize) -> Month {
+fn files(rt: &HostRuntime, before: Month, first: usize, end: usize) -> Result<Month, End> {
     let mut all = before;
-    let mut at = first;
-    while at < end {
-        if site::ends(all.goes, all.number) {
-            return all;
+    for at in first..end {
+        if all.stopped.is_some() {
+            return Ok(all);
         }
-        let one = listed(rt, at);
-        let next = with_site(rt, all, one, at, at);
-        all = next;
-        at += 1;
+        let one = listed(rt, at)?;
+        all = with_site(rt, all, one, at, at)?;
     }
-    all
+    Ok(all)
 }
 
-// The exit status of rows that were written, or of a refusal's number; a file that failed has told its own.
-fn status_of(goes: bool, number: u8) {
-    if !goes {
-        if number != 0 {
-            shell::status(number);
-        }
-        return;
-    }
-    if number != 0 {
-        shell::status(shell::STOPPED);
-        return;
-    }
-    shell::status(shell::THROUGH);
-}
-
-// Whether a refusal's number was written, where there is one.
+// Whether a refusal's number was written.
 fn put_number(rt: &HostRuntime, number: u8) -> bool {
-    if number == 0 {
-        return true;
-    }
-    let t = words::said(words::blank(), b"", number as u64);
-    shell::show(rt, words::with(t, b"\n"))
+    let t = Text::blank().said(b"", number as u64);
+    shell::show(rt, t.with(b"\n"))
 }
 
-// What is written of them, and the exit status.
-fn show(rt: &HostRuntime, all: Month, csv: bool) {
-    let rows = all.rows;
-    let mut good = true;
-    if all.goes {
-        good = rows::show(rt, rows, csv);
+// The exit status of a refusal's number: a total would pass 64 bits, or an image was refused.
+fn refused(number: u8) -> Status {
+    if number == Uncounted::PASSES {
+        Status::Passes
+    } else {
+        Status::Refused
     }
-    if good {
-        good = put_number(rt, all.number);
+}
+
+// A number written, and the exit status behind it.
+fn show_number(rt: &HostRuntime, number: u8, status: Status) {
+    if put_number(rt, number) {
+        shell::tell(status);
+    } else {
+        shell::tell(Status::Failed);
     }
-    if !good {
-        shell::status(shell::FAILED);
+}
+
+// The rows written, with the number of the refusal that stopped them, and the exit status.
+fn show_rows(rt: &HostRuntime, all: Month, csv: bool) {
+    if !rows::show(rt, all.rows, csv) {
+        shell::tell(Status::Failed);
         return;
     }
-    status_of(all.goes, all.number);
+    match all.stopped {
+        Some(number) => show_number(rt, number, Status::Stopped),
+        None => shell::tell(Status::Through),
+    }
 }
 
-// Where `--rows` stands among the words; their number where it does not.
-fn rows_word(rt: &HostRuntime, first: usize, words: usize) -> usize {
-    let mut at = first;
-    while at < words {
-        if shell::is(rt, at, b"--rows") {
-            return at;
-        }
-        at += 1;
+// What is written of the sites, and the exit status.
+fn show(rt: &HostRuntime, all: Result<Month, End>, csv: bool) {
+    match all {
+        Ok(all) => show_rows(rt, all, csv),
+        Err(End::Refused(number)) => show_number(rt, number, refused(number)),
+        Err(End::Failed) => {}
     }
-    words
+}
+
+// Where `--rows` stands among the words, if it does.
+fn rows_word(rt: &HostRuntime, first: usize, words: usize) -> Option<usize> {
+    for at in first..words {
+        if shell::is(rt, at, b"--rows") {
+            return Some(at);
+        }
+    }
+    None
 }
 
 // How many words are a dash.
 fn dashes(rt: &HostRuntime, first: usize, words: usize) -> u64 {
     let mut count = 0;
-    let mut at = first;
-    while at < words {
+    for at in first..words {
         if shell::is(rt, at, b"-") {
             count = std::num::wrapping_add_u64(count, 1);
         }
-        at += 1;
     }
     count
+}
+
+// The sites counted up to the mark, and the files of rows behind it.
+fn sites(
+    rt: &HostRuntime,
+    first: usize,
+    mark: Option<usize>,
+    words: usize,
+    progress: bool,
+) -> Result<Month, End> {
+    match mark {
+        Some(mark) if mark < words => {
+            let counted = pairs(rt, first, mark, progress)?;
+            files(rt, counted, mark + 1, words)
+        }
+        _ => pairs(rt, first, words, progress),
+    }
 }
 
 fn run(rt: &HostRuntime, first: usize, words: usize, csv: bool, progress: bool) {
@@ -205,12 +221,7 @@ fn run(rt: &HostRuntime, first: usize, words: usize, csv: bool, progress: bool) 
         usage();
         return;
     }
-    let counted = pairs(rt, first, mark, progress);
-    if mark < words {
-        show(rt, files(rt, counted, mark + 1, words), csv);
-        return;
-    }
-    show(rt, counted, csv);
+    show(rt, sites(rt, first, mark, words, progress), csv);
 }
 
 // The options before the names.

@@ -1,17 +1,14 @@
 // Rows written.
-use texts::{Text, words};
+use texts::Text;
 use totals::Row;
-
-// Refusal 12: a total would pass 64 bits.
-pub const PASSES: u8 = 12;
 
 // A sum behind a word.
 fn with_sum(t: Text, word: &[u8], sum: i64) -> Text {
-    let a = words::with(t, word);
+    let a = t.with(word);
     if sum < 0 {
-        return words::said(a, b"-", sheets::size_of(sum));
+        return a.said(b"-", sheets::size_of(sum));
     }
-    words::said(a, b"", sheets::size_of(sum))
+    a.said(b"", sheets::size_of(sum))
 }
 
 // The rows as comma-separated values; whether they were written.
@@ -23,13 +20,13 @@ fn put_text(rt: &HostRuntime, rows: [Row; Row::TABLE]) -> bool {
 
 // One row of the table; the mean is the pair of the sum and the packets.
 fn row_text(h: usize, r: Row) -> Text {
-    let a = words::said(words::blank(), b"handle ", h as u64);
-    let b = words::said(a, b"\tpackets ", r.packets);
-    let c = words::said(b, b"\treports ", r.reports);
-    let d = words::said(c, b"\tticks ", r.ticks);
+    let a = Text::blank().said(b"handle ", h as u64);
+    let b = a.said(b"\tpackets ", r.packets);
+    let c = b.said(b"\treports ", r.reports);
+    let d = c.said(b"\tticks ", r.ticks);
     let e = with_sum(d, b"\trssi sum ", r.sum);
     let f = with_sum(e, b"\tmean ", r.sum);
-    words::with(words::said(f, b"/", r.packets), b"\n")
+    f.said(b"/", r.packets).with(b"\n")
 }
 
 // Whether they were written.
@@ -37,13 +34,10 @@ pub(super) fn show(rt: &HostRuntime, rows: [Row; Row::TABLE], csv: bool) -> bool
     if csv {
         return put_text(rt, rows);
     }
-    let mut h = 0;
-    while h < Row::TABLE {
-        let r = rows[h];
-        if !shell::show(rt, row_text(h, r)) {
+    for h in 0..Row::TABLE {
+        if !shell::show(rt, row_text(h, rows[h])) {
             return false;
         }
-        h += 1;
     }
     true
 }

@@ -26,6 +26,7 @@ pub fn find<'a>(table: &'a [u8], x: u8) -> &'a [u8]
 {
     let n = table.len();
     let mut i = 0;
+    // Kept: a walk, for a row says itself how long its name is.
     while i < n {
         if n - i < 2 {
             return &table[..0];

@@ -11,6 +11,7 @@ use std::fs::File;
 use std::io::{Error, Read};
 
 // The descriptors of the standard streams.
+// Kept: numbers, since the crate io takes descriptors as numbers.
 pub const STDIN: i32 = 0;
 
 pub const STDOUT: i32 = 1;
@@ -18,6 +19,7 @@ pub const STDOUT: i32 = 1;
 pub const STDERR: i32 = 2;
 
 // The system's numbers of errors: a word that is not there, one that is too long, a name that is not UTF-8.
+// Kept: numbers, since std's kinds of errors say other words than the system's, which are printed.
 const EINVAL: i32 = 22;
 
 const ENAMETOOLONG: i32 = 36;
@@ -62,22 +64,16 @@ pub fn put(rt: &HostRuntime, octets: &[u8]) -> bool {
 // How many words the command has, the program's own name among them.
 pub fn word_count(rt: &HostRuntime) -> usize {
     let mut none = [0u8; 1];
-    for i in 0..usize::MAX {
-        if let Err(FillError::NotPresent) = rt.arg(i, &mut none) {
-            return i;
-        }
-    }
-    usize::MAX
+    (0..usize::MAX)
+        .position(|i| matches!(rt.arg(i, &mut none), Err(FillError::NotPresent)))
+        .unwrap_or(usize::MAX)
 }
 
 // Puts a word of the command at the start of the octets, and answers its length: 0 where it is missing or longer.
 pub fn word(rt: &HostRuntime, i: usize, octets: &mut [u8]) -> usize
     ensures { IsPrefixLen result octets.new }
 {
-    match rt.arg(i, octets) {
-        Ok(n) => n,
-        Err(_) => 0,
-    }
+    rt.arg(i, octets).unwrap_or(0)
 }
 
 // The system's error for a word that could not be read.
@@ -145,10 +141,7 @@ pub fn read(rt: &HostRuntime, source: &Source, buf: &mut [u8]) -> Result<usize, 
 pub fn read_some(rt: &HostRuntime, source: &Source, buf: &mut [u8]) -> usize
     ensures { IsPrefixLen result buf.new }
 {
-    match read(rt, source, buf) {
-        Ok(n) => n,
-        Err(_) => 0,
-    }
+    read(rt, source, buf).unwrap_or(0)
 }
 
 // Reads until the buffer is full, the file ends or a read fails: how many octets stand at its start.

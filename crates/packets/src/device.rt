@@ -16,12 +16,10 @@ pub(super) fn first_of(s: &[u8], n: usize, dev: u64) -> usize
     ensures { (result ≤ n)
         × ((m : Model) (p : Packet) → Holding m s.now n → Sender p dev → NoneBelow m.pairs p result) }
 {
-    let mut i = 0;
-    while i < n {
+    for i in 0..n {
         if super::key_at(s, i) / 256 == dev {
             return i;
         }
-        i += 1;
     }
     n
 }
@@ -32,12 +30,10 @@ pub(super) fn end_of(s: &[u8], from: usize, n: usize, dev: u64) -> usize
     ensures { (from ≤ result) × (result ≤ n)
         × ((m : Model) (p : Packet) → Holding m s.now n → Sender p dev → NoneFrom m.pairs p result) }
 {
-    let mut i = n;
-    while from < i {
-        if super::key_at(s, i - 1) / 256 == dev {
-            return i;
+    for i in (from..n).rev() {
+        if super::key_at(s, i) / 256 == dev {
+            return i + 1;
         }
-        i -= 1;
     }
     from
 }
@@ -51,14 +47,12 @@ pub(super) fn held_in(s: &[u8], from: usize, to: usize, dev: u64) -> [u8; State:
         → slice_index result h ≡ flag (holds (take to m.pairs) h (device_of p))) }
 {
     let mut r = [0u8; State::MONITORS];
-    let mut i = from;
-    while i < to {
+    for i in from..to {
         let key = super::key_at(s, i);
         let h = (key % 256) as usize;
         if (key / 256 == dev) & (h < State::MONITORS) {
             r[h] = 1;
         }
-        i += 1;
     }
     r
 }

@@ -165,11 +165,9 @@ fn move_rows(s: &mut [u8], from: usize, to: usize, acts: &[u8], payload: &[u8], 
         × (s.new ≡ padded (after_moves m (packet_of payload.now))) }
 {
     let mut told = false;
-    let mut i = from;
-    while i < to {
+    for i in from..to {
         let reason = move_row(s, i, acts, payload, dev);
         told = told | reason;
-        i += 1;
     }
     told
 }

@@ -12,10 +12,8 @@ fn is_weaker(s: &[u8], level: u8) -> bool
     ensures { result ≡ false → NoneLess s.now level most_pairs }
 {
     let mut some = false;
-    let mut j = 0;
-    while j < State::PAIRS {
+    for j in 0..State::PAIRS {
         some = some | (super::weakest::kept_at(s, j) < level);
-        j += 1;
     }
     some
 }

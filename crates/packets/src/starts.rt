@@ -116,6 +116,7 @@ fn start_full(s: &mut [u8], i: usize, key: u64, rssi: u8, out: &mut [u8], at: us
 
 // A start of a pair that is not held, where there is room or a pair that goes, as of a monitor that filters no
 // duplicates.
+// Kept: that no pair starts is told by no octets written: of a block of no sound state no more is known of a start.
 fn start_new(s: &mut [u8], n: usize, key: u64, rssi: u8, out: &mut [u8], at: usize) -> Turn
     requires { (length s.old ≡ block_size) × (n ≤ most_pairs) × (at + turn_most ≤ length out.old) }
     ensures { (result.held ≤ most_pairs) × (result.wrote ≤ turn_most)
@@ -189,19 +190,16 @@ fn start_at(
         out.new result.wrote
         × (result.told ≡ (starts a h (packet_of payload.now) m.pairs && allowed a))) }
 {
+    let idle = Turn {
+        held: n,
+        wrote: 0,
+        told: false,
+    };
     if a / 4 % 2 != 1 {
-        return Turn {
-            held: n,
-            wrote: 0,
-            told: false,
-        };
+        return idle;
     }
     if held != 0 {
-        return Turn {
-            held: n,
-            wrote: 0,
-            told: false,
-        };
+        return idle;
     }
     let key = h as u64 + 256 * dev;
     let turn = start_new(s, n, key, payload[payload.len() - 1], out, at);
@@ -228,10 +226,8 @@ fn is_start(acts: &[u8]) -> bool
     ensures { result ≡ false → NoStart acts.now most_monitors }
 {
     let mut some = false;
-    let mut h = 0;
-    while h < State::MONITORS {
-        some = some | (acts[h] / 4 % 2 == 1);
-        h += 1;
+    for a in acts {
+        some = some | (*a / 4 % 2 == 1);
     }
     some
 }
@@ -268,13 +264,11 @@ pub(super) fn start_all(
     let mut held = n;
     let mut wrote = 0;
     let mut told = false;
-    let mut h = 0;
-    while h < State::MONITORS {
+    for h in 0..State::MONITORS {
         let turn = start_at(s, held, h, acts[h], under[h], dev, payload, out, wrote);
         held = turn.held;
         wrote += turn.wrote;
         told = told | turn.told;
-        h += 1;
     }
     Turn { held, wrote, told }
 }

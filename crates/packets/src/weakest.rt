@@ -22,15 +22,15 @@ pub(super) fn kept_at(s: &[u8], i: usize) -> u8
     state::level_of(s[State::PAIRS_AT + State::PAIR_ROW * i + State::RSSI_AT])
 }
 
-// The weaker of a pair at an index, of a level, and the one at j, which keeps another: the first where they keep the
-// same.
-fn weaker(i: usize, least: u8, j: usize, kept: u8) -> Weak
-    ensures { (result.at ≡ pick (nat_lt kept least) j i) × (result.least ≡ pick (nat_lt kept least) kept least) }
+// The weaker of a pair and the one at j, which keeps another level: the first where they keep the same.
+fn weaker(w: Weak, j: usize, kept: u8) -> Weak
+    ensures { (result.at ≡ pick (nat_lt kept w.least) j w.at)
+        × (result.least ≡ pick (nat_lt kept w.least) kept w.least) }
 {
-    if kept < least {
+    if kept < w.least {
         return Weak { at: j, least: kept };
     }
-    Weak { at: i, least }
+    w
 }
 
 // Of 64 pairs the first that keeps the smallest RSSI, and its level.
@@ -39,14 +39,12 @@ pub(super) fn weakest(s: &[u8]) -> Weak
     ensures { (result.at < most_pairs) × (result.at ≡ weakest_below s.now most_pairs)
         × (result.least ≡ level_at s.now result.at) }
 {
-    let mut i = 0;
-    let mut least = kept_at(s, 0);
-    let mut j = 0;
-    while j < State::PAIRS {
-        let w = weaker(i, least, j, kept_at(s, j));
-        i = w.at;
-        least = w.least;
-        j += 1;
+    let mut weak = Weak {
+        at: 0,
+        least: kept_at(s, 0),
+    };
+    for j in 0..State::PAIRS {
+        weak = weaker(weak, j, kept_at(s, j));
     }
-    Weak { at: i, least }
+    weak
 }

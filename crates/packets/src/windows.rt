@@ -17,11 +17,7 @@ const NO_EVENT: u8 = 0xFF;
 fn extend(o: u8) -> u64
     ensures { result ≡ extended o }
 {
-    let x = o as u64;
-    if o < 128 {
-        return x;
-    }
-    x + 18446744073709551360
+    u64::from(state::level_of(o)).wrapping_sub(128)
 }
 
 // The packet's event type and data, kept from an index on: the length stands before the data, zeros behind it.
@@ -58,12 +54,8 @@ pub(super) fn gather_at(s: &mut [u8], at: usize, payload: &[u8])
     let last = payload.len() - 1;
     let count = octets::get32(s, at);
     let sum = octets::get64(s, at + 4);
-    octets::put32(s, at, std::num::wrapping_add_u32(count, 1));
-    octets::put64(
-        s,
-        at + 4,
-        std::num::wrapping_add_u64(sum, extend(payload[last])),
-    );
+    octets::put32(s, at, count.wrapping_add(1));
+    octets::put64(s, at + 4, sum.wrapping_add(extend(payload[last])));
     s[at + 12] = payload[last];
     put_latest(s, at + 13, payload);
 }

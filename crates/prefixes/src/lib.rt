@@ -98,12 +98,10 @@ pub fn starts(s: &[u8], n: u64) -> bool
         return false;
     }
     let count = count_of(s);
-    let mut i = 0;
-    while i < count {
+    for i in 0..count {
         if number_at(s, i) as u64 == n {
             return true;
         }
-        i += 1;
     }
     false
 }
@@ -121,14 +119,12 @@ fn is_rising(s: &[u8]) -> bool
     if last != 0 {
         return false;
     }
-    let mut i = 1;
-    while i < count {
+    for i in 1..count {
         let next = number_at(s, i);
         if next <= last {
             return false;
         }
         last = next;
-        i += 1;
     }
     true
 }
@@ -167,12 +163,10 @@ fn is_laid(s: &[u8]) -> bool
     ensures { result ≡ sames (edition_block (listed s.now)) (drop editions_at s.now) }
 {
     let count = count_of(s);
-    let mut i = 0;
-    while i < count {
+    for i in 0..count {
         if !is_row(s, i) {
             return false;
         }
-        i += 1;
     }
     if octets::wide(s[Whole::EDITION_COUNT_AT]) != count {
         return false;

@@ -1,12 +1,11 @@
-// The refusals of every call with their numbers (document 01, Refusal numbers; document 02, T-12), and what a call
-// that writes answers.
+// The refusals of every call with their numbers (document 01, Refusal numbers; document 02, T-12).
 #![tactic(auto)]
 
 ghost use Rattle.std.specs.Prelude.{◌≡◌};
 ghost use Rattle.refusals.specs.Numbers.{number};
 
-// Why a call was refused. The documents' numbers stand in number_of.
-#[derive(Clone, Copy)]
+// Why a call was refused. The documents' numbers stand in its `From`.
+#[derive(Clone, Copy, Debug, PartialEq, Eq)]
 pub enum Refusal {
     // The frame number is at most the position.
     Seen,
@@ -34,29 +33,25 @@ pub enum Refusal {
     LongPrefix,
 }
 
-// What writing or reading a line answers: how many octets were written, or why none were.
-#[derive(Clone, Copy)]
-pub enum Wrote {
-    Done(usize),
-    Refused(Refusal),
-}
-
 // The number that the documents give a refusal.
-pub fn number_of(r: Refusal) -> u8
-    ensures { result ≡ number r }
-{
-    match r {
-        Refusal::Seen => 1,
-        Refusal::Gap => 2,
-        Refusal::Short => 3,
-        Refusal::NotLine => 4,
-        Refusal::BadPayload => 5,
-        Refusal::OtherOpcode => 6,
-        Refusal::Unsound => 7,
-        Refusal::BadSettings => 9,
-        Refusal::NotImage => 10,
-        Refusal::Full => 13,
-        Refusal::NotRising => 14,
-        Refusal::LongPrefix => 15,
+impl From<Refusal> for u8 {
+    ghost from_gives = { λ r n. n ≡ number r };
+
+    #[tactic(auto, unfolding(crate::specs::Numbers::number))]
+    fn from(r: Refusal) -> u8 {
+        match r {
+            Refusal::Seen => 1,
+            Refusal::Gap => 2,
+            Refusal::Short => 3,
+            Refusal::NotLine => 4,
+            Refusal::BadPayload => 5,
+            Refusal::OtherOpcode => 6,
+            Refusal::Unsound => 7,
+            Refusal::BadSettings => 9,
+            Refusal::NotImage => 10,
+            Refusal::Full => 13,
+            Refusal::NotRising => 14,
+            Refusal::LongPrefix => 15,
+        }
     }
 }

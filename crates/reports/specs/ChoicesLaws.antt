@@ -1,12 +1,11 @@
 -- Laws of the definitions in Choices.
-use Rattle.std.specs.Prelude.{ℕ, ◌+◌, ◌≤◌, ◌<◌, ◌≡◌, Bool, true, false, not, ◌&&◌, List, leb, eqb, length, take}
+use Rattle.std.specs.Prelude.{ℕ, ◌+◌, ◌≤◌, ◌<◌, ◌≡◌, Bool, true, false, not, ◌&&◌, List, leb, eqb, length, take, Option}
 use Rattle.std.proofs.Math.Path.{refl, sym, ap}
 use Rattle.std.proofs.Common.{◌∙◌, subst, arith, le-leb, take_all, length-take-le}
 use Rattle.std.proofs.lemmas.Bool.{lt-leb}
 use Rattle.laws.specs.Tests.{pick, sames}
 use Rattle.laws.specs.TestsLaws.{and-not-left, and-not-right, cases-le}
 use Rattle.decimals.specs.Decimals.{number_of}
-use Rattle.decimals.specs.declared.Number.{Number}
 use Rattle.sessions.specs.Machine.{save_room}
 use Rattle.editions.specs.Editions.{is_image_on}
 use Rattle.wholes.specs.Engine.{block_in}
@@ -33,7 +32,7 @@ module _ (a : Asked) (w n : List ℕ) where
       unfolding option_of pick
       option-given g = rw (e, f, g) refl
 
-      pub option-after : {r : Asked} {m : Number} → a.given ≡ false → sames w (codes "--after") ≡ true
+      pub option-after : {r : Asked} {m : Option ℕ} → a.given ≡ false → sames w (codes "--after") ≡ true
           → m ≡ number_of n → r ≡ with_after a m → r ≡ option_of a w n
       unfolding option_of pick
       option-after g h i q = q ∙ ap (with_after a) i ∙ rw (e, f, h, g) refl

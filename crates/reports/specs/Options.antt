@@ -1,10 +1,8 @@
 -- What the options of the program ask (man/standby.1), and what an image's file holds. Definitions alone.
-use Rattle.std.specs.Prelude.{ℕ, zero, suc, ◌+◌, Bool, true, false, not, ◌&&◌, List, [], ◌∷◌, ◌++◌, leb, eqb, length, take}
+use Rattle.std.specs.Prelude.{ℕ, zero, suc, ◌+◌, Bool, true, false, not, ◌&&◌, List, [], ◌∷◌, ◌++◌, leb, eqb, length, take, Option, Some, None}
 use Rattle.laws.specs.Tests.{pick, sames}
 use Rattle.octets.specs.Numbers.{number_at}
 use Rattle.decimals.specs.Decimals.{number_of}
-use Rattle.decimals.specs.declared.Number.{Number}
-use Rattle.decimals.specs.declared.Number.TheVariants.{Is, Not}
 use Rattle.reports.specs.declared.Asked.{Asked}
 use Rattle.model.specs.Quoted.{codes}
 
@@ -19,9 +17,9 @@ unfoldable pub with_progress : Asked → Asked
 with_progress a = record { after = a.after; given = a.given; numbered = a.numbered; progress = true; good = a.good }
 
 -- a number that is none makes the options bad
-unfoldable pub with_after : Asked → Number → Asked
-with_after a (Is n) = record { after = n; given = true; numbered = a.numbered; progress = a.progress; good = a.good }
-with_after a Not = record { after = 0; given = true; numbered = a.numbered; progress = a.progress; good = false }
+unfoldable pub with_after : Asked → Option ℕ → Asked
+with_after a (Some n) = record { after = n; given = true; numbered = a.numbered; progress = a.progress; good = a.good }
+with_after a None = record { after = 0; given = true; numbered = a.numbered; progress = a.progress; good = false }
 
 -- an option by its word and the next one: --numbered, --progress, --after N, which may stand once; any other word is
 -- none

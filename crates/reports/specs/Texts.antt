@@ -1,5 +1,5 @@
 -- What the program of a standby says on standard error (man/standby.1). Definitions alone.
-use Rattle.std.specs.Prelude.{ℕ, ◌+◌, ◌-◌, ◌/◌, min, Bool, true, false, not, ◌&&◌, List, [], ◌++◌, ltb, eqb, length, take}
+use Rattle.std.specs.Prelude.{ℕ, ◌+◌, ◌-◌, ◌/◌, min, Bool, true, false, not, ◌&&◌, List, [], ◌++◌, ltb, eqb, length, take, Result, Ok, Err}
 use Rattle.laws.specs.Tests.{pick}
 use Rattle.octets.specs.Numbers.{number_at}
 use Rattle.decimals.specs.Decimals.{decimal, top}
@@ -10,8 +10,6 @@ use Rattle.names.specs.Refusals.{refusal_name}
 use Rattle.model.specs.Quoted.{codes}
 use Rattle.reader.specs.Pairs.{leading}
 use Rattle.turns.specs.Swap.{long_line}
-use Rattle.engine.specs.declared.Stop.{Stop}
-use Rattle.engine.specs.declared.Stop.TheVariants.{End, Refused as Halted}
 use Rattle.takeover.specs.declared.Next.{Next}
 use Rattle.takeover.specs.declared.Next.TheVariants.{Read, Again, Ended, Stopped}
 use Rattle.takeover.specs.declared.Flow.{Flow}
@@ -55,9 +53,9 @@ unfoldable pub stop_of : Flow → ℕ → List ℕ → List ℕ
 stop_of f position text = stop_by f.next f.lines position (found_in text)
 
 -- what is said of additions of which one was refused, by the lines accepted before it, behind their file's name
-unfoldable pub addition_by : Stop → ℕ → List ℕ
-addition_by End lines = []
-addition_by (Halted x) lines = stop_text lines (number x) 0 0
+unfoldable pub addition_by : Result Unit Refusal → ℕ → List ℕ
+addition_by (Ok tt) lines = []
+addition_by (Err x) lines = stop_text lines (number x) 0 0
 
 -- of a last piece of their file that was not read, behind its name
 unfoldable pub rest_of : ℕ → List ℕ

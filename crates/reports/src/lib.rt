@@ -8,11 +8,11 @@ ghost use Rattle.reports.specs.Options.{plain_asked, option_of, first_name, fits
 ghost use Rattle.texts.specs.Text.{told};
 ghost use Rattle.reports.specs.Texts.{stop_of, addition_by, rest_of, refused_of, summary_of, warning_of, progress_of};
 
-use engine::{Restored, Stop};
+use engine::Restored;
 use index::Whole;
 use refusals::Refusal;
 use takeover::{Flow, Next};
-use texts::{Text, words};
+use texts::Text;
 
 mod messages;
 mod options;
@@ -42,12 +42,12 @@ pub fn stop(flow: Flow, position: u32, text: &[u8]) -> Text
 {
     let next = flow.next;
     match next {
-        Next::Read => words::blank(),
-        Next::Again => words::blank(),
-        Next::Ended => words::blank(),
+        Next::Read => Text::blank(),
+        Next::Again => Text::blank(),
+        Next::Ended => Text::blank(),
         Next::Stopped(x) => messages::stopped(
             flow.lines,
-            refusals::number_of(x),
+            u8::from(x),
             position,
             messages::found_in(text),
         ),
@@ -56,12 +56,12 @@ pub fn stop(flow: Flow, position: u32, text: &[u8]) -> Text
 
 // What is said of additions of which one was refused, behind their file's name: the line's number and why. Nothing
 // where none was.
-pub fn addition(lines: u64, halt: Stop) -> Text
+pub fn addition(lines: u64, halt: Result<(), Refusal>) -> Text
     ensures { told result ≡ addition_by halt lines }
 {
     match halt {
-        Stop::End => words::blank(),
-        Stop::Refused(x) => messages::stopped(lines, refusals::number_of(x), 0, 0),
+        Ok(()) => Text::blank(),
+        Err(x) => messages::stopped(lines, u8::from(x), 0, 0),
     }
 }
 
@@ -70,17 +70,17 @@ pub fn rest(held: usize) -> Text
     ensures { told result ≡ rest_of held }
 {
     if held == 0 {
-        return words::blank();
+        return Text::blank();
     }
-    words::with(words::blank(), b": a last piece without LF not read\n")
+    Text::blank().with(b": a last piece without LF not read\n")
 }
 
 // What is said of a refused image, behind its name.
 pub fn refused(x: Refusal) -> Text
     ensures { told result ≡ refused_of x }
 {
-    let t = messages::refused(words::blank(), refusals::number_of(x));
-    words::with(t, b"\n")
+    let t = messages::refused(Text::blank(), u8::from(x));
+    t.with(b"\n")
 }
 
 // What was read and done, on a line.
@@ -90,7 +90,7 @@ pub fn summary(flow: Flow, position: u32) -> Text
     let next = flow.next;
     let counts = messages::counted(flow.lines, flow.executed, position);
     let piece = messages::pieced(counts, next, flow.held);
-    words::with(piece, b"\n")
+    piece.with(b"\n")
 }
 
 // A warning on a line, where lines were read to the journal's end and none was executed; else nothing.
@@ -98,12 +98,11 @@ pub fn warning(flow: Flow) -> Text
     ensures { told result ≡ warning_of flow }
 {
     if messages::warns(flow) {
-        return words::with(
-            words::blank(),
+        return Text::blank().with(
             b"standby: warning: lines were read and none was executed: is this the journal that belongs to the image?\n",
         );
     }
-    words::blank()
+    Text::blank()
 }
 
 // How far a long journal is read, on a line, where one more of so many lines is passed; else nothing.
@@ -111,10 +110,10 @@ pub fn progress(before: u64, after: u64) -> Text
     ensures { told result ≡ progress_of before after }
 {
     if before / EVERY < after / EVERY {
-        let t = words::said(words::blank(), b"standby: ", after);
-        return words::with(t, b" lines read so far\n");
+        let t = Text::blank().said(b"standby: ", after);
+        return t.with(b" lines read so far\n");
     }
-    words::blank()
+    Text::blank()
 }
 
 // No option.

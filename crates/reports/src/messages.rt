@@ -6,7 +6,6 @@ ghost use Rattle.reports.specs.Texts.{next as next_of, reason_of, reason_text, g
 use state::State;
 use takeover::{Flow, Next};
 use texts::Text;
-use texts::words::{blank, said, with};
 
 // The numbers of refusals that words say.
 const GAP: u8 = 2;
@@ -32,18 +31,18 @@ fn reasoned(t: Text, number: u8) -> Text
 {
     let name = names::find(&names::REFUSALS, number);
     if name.len() == 0 {
-        return with(t, b"");
+        return t.with(b"");
     }
-    let open = with(t, b" (");
-    let named = with(open, name);
-    with(named, b")")
+    let open = t.with(b" (");
+    let named = open.with(name);
+    named.with(b")")
 }
 
 // A refusal behind a text.
 pub(super) fn refused(t: Text, number: u8) -> Text
     ensures { told result ≡ take room (told t ++ reason_text number) }
 {
-    reasoned(said(t, b": refused by ", number as u64), number)
+    reasoned(t.said(b": refused by ", number as u64), number)
 }
 
 // The numbers of a gap behind a text.
@@ -51,11 +50,11 @@ fn gapped(t: Text, number: u8, position: u32, found: u32) -> Text
     ensures { told result ≡ take room (told t ++ gap_text number position found) }
 {
     if number == GAP {
-        let due = said(t, b": frame ", next(position as u64));
-        let came = said(due, b" expected, ", found as u64);
-        return with(came, b" found");
+        let due = t.said(b": frame ", next(position as u64));
+        let came = due.said(b" expected, ", found as u64);
+        return came.with(b" found");
     }
-    with(t, b"")
+    t.with(b"")
 }
 
 // The frame's number in the line at a text's start.
@@ -71,9 +70,9 @@ pub(super) fn found_in(text: &[u8]) -> u32
 pub(super) fn stopped(lines: u64, number: u8, position: u32, found: u32) -> Text
     ensures { told result ≡ take room (stop_text lines number position found) }
 {
-    let line = said(blank(), b":", next(lines));
+    let line = Text::blank().said(b":", next(lines));
     let gap = gapped(refused(line, number), number, position, found);
-    with(gap, b"\n")
+    gap.with(b"\n")
 }
 
 // Whether a takeover came to the journal's end.
@@ -93,9 +92,9 @@ fn sized(t: Text, n: usize) -> Text
     ensures { told result ≡ take room (told t ++ size_text n) }
 {
     if n < takeover::LONG {
-        return said(t, b"", n as u64);
+        return t.said(b"", n as u64);
     }
-    said(t, b"more than ", State::LINE as u64)
+    t.said(b"more than ", State::LINE as u64)
 }
 
 // Whether there is a last piece that was not read.
@@ -113,10 +112,10 @@ pub(super) fn pieced(t: Text, next: Next, size: usize) -> Text
     ensures { told result ≡ take room (told t ++ piece_text next size) }
 {
     if has_piece(next, size) {
-        let piece = sized(with(t, b"; a last piece of "), size);
-        return with(piece, b" octets without LF not read");
+        let piece = sized(t.with(b"; a last piece of "), size);
+        return piece.with(b" octets without LF not read");
     }
-    with(t, b"")
+    t.with(b"")
 }
 
 // Lines that were read and not executed.
@@ -133,10 +132,10 @@ fn seen_of(lines: u64, executed: u64) -> u64
 pub(super) fn counted(lines: u64, executed: u64, position: u32) -> Text
     ensures { told result ≡ take room (counts_text lines executed position) }
 {
-    let read = said(blank(), b"standby: ", lines);
-    let ran = said(read, b" lines read, ", executed);
-    let seen = said(ran, b" executed, ", seen_of(lines, executed));
-    said(seen, b" seen before; position ", position as u64)
+    let read = Text::blank().said(b"standby: ", lines);
+    let ran = read.said(b" lines read, ", executed);
+    let seen = ran.said(b" executed, ", seen_of(lines, executed));
+    seen.said(b" seen before; position ", position as u64)
 }
 
 // Whether lines were read to the journal's end and none was executed.

@@ -5,7 +5,6 @@ ghost use Rattle.decimals.specs.Decimals.{number_of};
 ghost use Rattle.reports.specs.Options.{plain_asked, with_numbers, with_progress, with_after, option_of, behind_of, first_name, is_option, is_dash};
 
 use super::Asked;
-use decimals::Number;
 
 fn with_numbers(asked: Asked) -> Asked
     ensures { result ≡ with_numbers asked }
@@ -32,18 +31,18 @@ fn with_progress(asked: Asked) -> Asked
 }
 
 // The option --after with what its number was read as.
-fn with_after(asked: Asked, number: Number) -> Asked
+fn with_after(asked: Asked, number: Option<u32>) -> Asked
     ensures { result ≡ with_after asked number }
 {
     match number {
-        Number::Is(n) => Asked {
+        Some(n) => Asked {
             after: n,
             given: true,
             numbered: asked.numbered,
             progress: asked.progress,
             good: asked.good,
         },
-        Number::Not => Asked {
+        None => Asked {
             after: 0,
             given: true,
             numbered: asked.numbered,

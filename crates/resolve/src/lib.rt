@@ -15,12 +15,6 @@ pub const KEY: usize = 16;
 
 const ADDRESS: usize = 6;
 
-fn wide(x: u8) -> usize
-    ensures { (result ≡ x) × (result < 256) }
-{
-    x as usize
-}
-
 // Four octets as a column, the last of them in row 0.
 fn column(s: &[u8], at: usize) -> u32
     requires { at + 4 ≤ length s.now }
@@ -43,12 +37,7 @@ fn key_block(key: &[u8]) -> Block
     let b = column(key, 8);
     let c = column(key, 4);
     let d = column(key, 0);
-    Block {
-        a: a,
-        b: b,
-        c: c,
-        d: d,
-    }
+    Block { a, b, c, d }
 }
 
 // An address's prand under 104 zero bits, as a block.
@@ -61,7 +50,7 @@ fn prand_block(address: &[u8]) -> Block
         a: 0,
         b: 0,
         c: 0,
-        d: d,
+        d,
     }
 }
 
@@ -70,7 +59,7 @@ fn hash(address: &[u8]) -> usize
     requires { length address.now ≡ address_size }
     ensures { result ≡ hash_of address.now }
 {
-    wide(address[0]) + 256 * wide(address[1]) + 65536 * wide(address[2])
+    usize::from(address[0]) + 256 * usize::from(address[1]) + 65536 * usize::from(address[2])
 }
 
 // The function ah of a key and an address's prand.

@@ -10,20 +10,21 @@ ghost use Rattle.std.specs.Prelude.{◌+◌, ◌≤◌, ◌<◌, length};
 
 use index::Whole;
 
+// Kept: not the digest of the crate vectors, since the stored answers are made with this prime.
+const PRIME: u64 = 1000003;
+
 fn mix(d: u64, x: u64) -> u64
     ensures { result < 1000003 }
 {
-    ((d % 1000003) * 31 + x % 1000003 + 1) % 1000003
+    ((d % PRIME) * 31 + x % PRIME + 1) % PRIME
 }
 
 fn digest(s: &[u8]) -> u64
     ensures { result < 1000003 }
 {
     let mut d = 0;
-    let mut i = 0;
-    while i < s.len() {
-        d = mix(d, s[i] as u64);
-        i += 1;
+    for x in s {
+        d = mix(d, u64::from(*x));
     }
     d
 }
@@ -34,10 +35,10 @@ fn again(s: &[u8]) -> u64
 {
     let mut out = [0u8; Whole::IMAGE];
     let n = snapshots::save_image(s, &mut out);
-    if n <= Whole::IMAGE {
-        return digest(&out[..n]);
+    match out.get(..n) {
+        Some(text) => digest(text),
+        None => 0,
     }
-    0
 }
 
 // 0 where a text is refused, else a digest of the block and of its text.
@@ -62,11 +63,9 @@ fn characters_at(text: &mut [u8], p: usize, d: u64) -> u64
 {
     let old = text[p];
     let mut e = d;
-    let mut v = 0u16;
-    while v < 256 {
-        text[p] = v as u8;
+    for v in 0..=u8::MAX {
+        text[p] = v;
         e = mix(e, answer(text));
-        v += 1;
     }
     text[p] = old;
     e
@@ -79,12 +78,10 @@ fn octets_at(text: &mut [u8], p: usize, d: u64) -> u64
     let high = text[p];
     let low = text[p + 1];
     let mut e = d;
-    let mut v = 0u16;
-    while v < 256 {
-        text[p] = digit((v / 16) as u8);
-        text[p + 1] = digit((v % 16) as u8);
+    for v in 0..=u8::MAX {
+        text[p] = digit(v / 16);
+        text[p + 1] = digit(v % 16);
         e = mix(e, answer(text));
-        v += 1;
     }
     text[p] = high;
     text[p + 1] = low;
@@ -106,40 +103,32 @@ fn two_at(text: &mut [u8], p: usize, d: u64) -> u64
 
 fn characters(text: &mut [u8]) -> u64 {
     let mut d = 0;
-    let mut p = 0;
-    while p < text.len() {
+    for p in 0..text.len() {
         d = characters_at(text, p, d);
-        p += 1;
     }
     d
 }
 
 fn octets(text: &mut [u8]) -> u64 {
     let mut d = 0;
-    let mut p = 1;
-    while p < text.len() {
+    for p in 1..text.len() {
         d = octets_at(text, p - 1, d);
-        p += 1;
     }
     d
 }
 
 fn two(text: &mut [u8]) -> u64 {
     let mut d = 0;
-    let mut p = 0;
-    while p < text.len() {
+    for p in 0..text.len() {
         d = two_at(text, p, d);
-        p += 1;
     }
     d
 }
 
 fn cuts(text: &[u8]) -> u64 {
     let mut d = 0;
-    let mut n = 0;
-    while n < text.len() {
+    for n in 0..text.len() {
         d = mix(d, answer(&text[..n]));
-        n += 1;
     }
     d
 }
@@ -162,46 +151,28 @@ fn run_large(text: &mut [u8]) {
 
 fn run_text(mode: u8, text: &mut [u8]) {
     show(answer(text));
-    if mode == b'S' {
-        run_small(text);
-        return;
-    }
-    if mode == b'L' {
-        run_large(text);
-        return;
+    match mode {
+        b'S' => run_small(text),
+        b'L' => run_large(text),
+        _ => {}
     }
 }
 
-// Runs the text that ends before i, where one does, and answers where the next begins.
-fn step(all: &mut [u8], from: usize, i: usize) -> usize
-    requires { (from ≤ i) × (i < length all.old) × (length all.old ≤ 65536) }
-    ensures { result ≤ i + 1 }
-{
-    if all[i] != b'=' {
-        return from;
-    }
-    if i <= from {
-        return i + 1;
-    }
-    let mode = all[from];
-    let b = from + 1;
-    run_text(mode, &mut all[b..i]);
-    i + 1
-}
-
-fn run(all: &mut [u8])
-    requires { length all.old ≤ 65536 }
-{
-    let mut from = 0;
-    let mut i = 0;
-    while i < all.len() {
-        from = step(all, from, i);
-        i += 1;
+// Runs a text with its letter before it and '=' behind it, where it has them.
+fn run(piece: &mut [u8]) {
+    if let Some((mode, rest)) = piece.split_first_mut() {
+        if let Some((end, text)) = rest.split_last_mut() {
+            if *end == b'=' {
+                run_text(*mode, text);
+            }
+        }
     }
 }
 
 fn main() {
     let mut buffer = io::large_buffer();
     let n = io::read_full(0, &mut buffer);
-    run(&mut buffer[..n]);
+    for piece in buffer[..n].split_inclusive_mut(|c| *c == b'=') {
+        run(piece);
+    }
 }

@@ -76,12 +76,10 @@ fn put_monitors(s: &[u8], out: &mut [u8], at: usize) -> usize
         × (out.new ≡ put out.old at (monitors_text s.now most_monitors)) }
 {
     let mut next = at;
-    let mut h = 0;
-    while h < State::MONITORS {
+    for h in 0..State::MONITORS {
         let b = State::MONITORS_AT + State::MONITOR_ROW * h;
         let e = b + State::MONITOR_ROW;
         next = put_monitor(out, next, &s[b..e]);
-        h += 1;
     }
     next
 }
@@ -102,12 +100,10 @@ fn put_pairs(s: &[u8], out: &mut [u8], at: usize, n: usize) -> usize
         × (out.new ≡ put out.old at (pairs_text s.now n)) }
 {
     let mut next = at;
-    let mut i = 0;
-    while i < n {
+    for i in 0..n {
         let b = State::PAIRS_AT + State::PAIR_ROW * i;
         let e = b + State::PAIR_ROW;
         next = put_pair(out, next, &s[b..e]);
-        i += 1;
     }
     next
 }
@@ -127,10 +123,8 @@ fn live_in(s: &[u8]) -> usize
     ensures { (result ≡ length (live_below s.now most_monitors)) × (result ≤ most_monitors) }
 {
     let mut n = 0;
-    let mut h = 0;
-    while h < State::MONITORS {
+    for h in 0..State::MONITORS {
         n += one_if(s[State::MONITORS_AT + State::MONITOR_ROW * h + State::INTERVAL_AT]);
-        h += 1;
     }
     n
 }

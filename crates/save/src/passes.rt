@@ -35,12 +35,10 @@ fn monitors(s: &[u8], text: &[u8]) -> usize
     ensures { result ≡ passed text.now 0 (monitors_text s.now most_monitors) }
 {
     let mut at = 0;
-    let mut h = 0;
-    while h < State::MONITORS {
+    for h in 0..State::MONITORS {
         let b = State::MONITORS_AT + State::MONITOR_ROW * h;
         let e = b + State::MONITOR_ROW;
         at = monitor(&s[b..e], text, at);
-        h += 1;
     }
     at
 }
@@ -59,12 +57,10 @@ fn pairs(s: &[u8], text: &[u8], from: usize, n: usize) -> usize
     ensures { result ≡ passed text.now from (pairs_text s.now n) }
 {
     let mut at = from;
-    let mut i = 0;
-    while i < n {
+    for i in 0..n {
         let b = State::PAIRS_AT + State::PAIR_ROW * i;
         let e = b + State::PAIR_ROW;
         at = pair(&s[b..e], text, at);
-        i += 1;
     }
     at
 }

@@ -1,15 +1,13 @@
 -- "`--csv` reads back what it writes" (document 02, T-10): the text of sixteen rows is read as these rows, and
 -- nothing else is read. Assumes nothing.
 use Prim.Native.Nat.{ℕ, zero, suc, ◌+◌, ◌-◌, ◌*◌, ◌/◌, ◌%◌, ◌≤◌, ◌<◌}
-use Rattle.std.specs.Prelude.{◌≡◌, Bool, true, false, ◌&&◌, eqb, leb, ltb, ℤ, length, get_or, drop}
+use Rattle.std.specs.Prelude.{◌≡◌, Bool, true, false, ◌&&◌, eqb, leb, ltb, ℤ, length, get_or, drop, Option, None, Some}
 use Rattle.std.proofs.Math.Path.{refl, ap}
 use Rattle.std.proofs.Common.{sym, ◌∙◌, subst, arith}
 use Rattle.std.proofs.lemmas.Bool.{false≢true}
-use mathlib.Core.List.{List, [], ◌∷◌, ◌++◌, append_assoc, append-nil}
-use Rattle.std.proofs.Math.Option.{Option, none, some}
+use mathlib.Core.List.{List, [], ◌∷◌, ◌++◌}
 use Rattle.std.proofs.Math.IntN.{pos, negsuc}
-use Rattle.std.specs.Int.Signed.{mag}
-use borrow.Author.Tests.{le-ltb, le-leb, leb-true, leb-false, ltb-true, ne_eqb}
+use borrow.Author.Tests.{le-ltb, le-leb, leb-true, ltb-true, ne_eqb}
 use Rattle.laws.specs.Tests.{pick, sames}
 use Rattle.laws.specs.TestsLaws.{pick_true, pick-false, sames-eq, sames-refl, and_both, and_left, and_right}
 use Rattle.laws.specs.Loops.{every}
@@ -188,9 +186,9 @@ parsed-back rows n e = rw (names-past (lines_from 0 rows), ← n) (lines-back 0 
 
 -- WHAT IS WRITTEN IS READ BACK
 pub reads-back : (rows : List Row) → length rows ≡ table_rows → every row_ok rows ≡ true
-    → read_sheet (sheet_text rows) ≡ some rows
+    → read_sheet (sheet_text rows) ≡ Some rows
 unfolding read_sheet
-reads-back rows n e = rw (parsed-back rows n e) (pick_true (some rows) none (and_both e (sames-refl (sheet_text rows))))
+reads-back rows n e = rw (parsed-back rows n e) (pick_true (Some rows) None (and_both e (sames-refl (sheet_text rows))))
 
 -- .. AND NOTHING ELSE IS READ
 pub length-rows : (n : ℕ) (t : List ℕ) → length (rows_at n t) ≡ n
@@ -198,18 +196,18 @@ unfolding rows_at
 length-rows zero t = refl
 length-rows (suc n) t = ap suc (length-rows n (line_behind t))
 
-pub only-written : (t : List ℕ) (rows : List Row) → read_sheet t ≡ some rows → (t ≡ sheet_text rows)
+pub only-written : (t : List ℕ) (rows : List Row) → read_sheet t ≡ Some rows → (t ≡ sheet_text rows)
     × (length rows ≡ table_rows) × (every row_ok rows ≡ true)
 unfolding read_sheet pick parsed
 only-written t rows = go (every row_ok (parsed t) && sames (sheet_text (parsed t)) t) refl
   where
     go : (b : Bool) → (every row_ok (parsed t) && sames (sheet_text (parsed t)) t) ≡ b
-        → pick b (some (parsed t)) none ≡ some rows
+        → pick b (Some (parsed t)) None ≡ Some rows
         → (t ≡ sheet_text rows) × (length rows ≡ table_rows) × (every row_ok rows ≡ true)
     go true e q =
-        let i : parsed t ≡ rows = ap (λ (o : Option (List Row)). elim o [ none ↦ [] | some x ↦ x ]) q in (
+        let i : parsed t ≡ rows = ap (λ (o : Option (List Row)). elim o [ None ↦ [] | Some x ↦ x ]) q in (
           sym (sames-eq (sheet_text (parsed t)) t (and_right (every row_ok (parsed t)) _ e)) ∙ ap sheet_text i,
           sym (ap length i) ∙ length-rows table_rows (line_behind t),
           subst (λ (l : List Row). every row_ok l ≡ true) i (and_left (every row_ok (parsed t)) _ e),
         )
-    go false e q = absurd (false≢true (ap (λ (o : Option (List Row)). elim o [ none ↦ false | some x ↦ true ]) q))
+    go false e q = absurd (false≢true (ap (λ (o : Option (List Row)). elim o [ None ↦ false | Some x ↦ true ]) q))

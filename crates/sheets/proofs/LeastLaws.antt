@@ -1,5 +1,5 @@
 -- Laws of the definitions in Least.
-use Rattle.std.specs.Prelude.{ℕ, ◌+◌, ◌-◌, ◌*◌, ◌≤◌, ◌<◌, ◌≡◌, refl, true, List, [], ◌∷◌, map, ℤ, pos, negsuc}
+use Rattle.std.specs.Prelude.{ℕ, ◌+◌, ◌-◌, ◌*◌, ◌≤◌, ◌<◌, min, ◌≡◌, refl, true, List, [], ◌∷◌, map, ℤ, pos, negsuc}
 use Rattle.std.proofs.Common.{sym, ap, ◌∙◌, arith, le-leb, lt-ltb, ltb-true, ne_eqb}
 use Rattle.std.proofs.lemmas.Bool.{lt-leb}
 use Rattle.laws.specs.Tests.{pick}
@@ -39,18 +39,12 @@ unfolding grown_from value_from
 grown-is v [] = refl
 grown-is v (c ∷ w) = ap (λ (x : ℕ). grown_from x w) (grown-least v (c - 48)) ∙ grown-is (v * 10 + (c - 48)) w
 
--- a digit behind a value, by the tests of the code
-pub grown-far : (v d : ℕ) → 1844674407370955161 < v → top ≡ grown v d
+-- a digit behind a value, as the machine holds it
+pub grown-held : (v d : ℕ) {p r : ℕ} → p ≡ min (v * 10) top → r ≡ min (p + d) top → r ≡ grown v d
 unfolding grown least
-grown-far v d h = sym (up-past top (v * 10 + d) (omega arith))
-
-pub grown-past : (v d : ℕ) → top - v * 10 < d → top ≡ grown v d
-unfolding grown least
-grown-past v d h = sym (up-past top (v * 10 + d) (omega arith))
-
-pub grown-on : (v d : ℕ) → v ≤ 1844674407370955161 → d ≤ top - v * 10 → v * 10 + d ≡ grown v d
-unfolding grown least
-grown-on v d h k = sym (up_in top (v * 10 + d) (omega arith))
+grown-held v d {p} {r} ep er =
+    cases-le (v * 10 + d) top (λ h. omega arith ∙ sym (up_in top (v * 10 + d) h))
+    (λ h. omega arith ∙ sym (up-past top (v * 10 + d) h))
 
 -- a sum of a number that was held, above zero and below
 pub above-least : (n : ℕ) → least_sum (pos (least n)) ≡ least_sum (pos n)

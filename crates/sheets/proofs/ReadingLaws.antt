@@ -1,11 +1,10 @@
 -- Laws of the definitions in Reading.
 use Prim.Native.Nat.{ℕ, suc, ◌+◌, ◌-◌, ◌≤◌, ◌<◌}
-use Rattle.std.specs.Prelude.{◌≡◌, Bool, true, false, ◌&&◌, ℤ, pos, length, take, set, replicate}
+use Rattle.std.specs.Prelude.{◌≡◌, Bool, true, false, ◌&&◌, ℤ, pos, length, take, set, None, Some}
 use Rattle.std.proofs.Math.Path.{refl, sym, ap}
 use Rattle.std.proofs.Common.{◌∙◌, add-zero, add-one, get_or-drop, take_all, to_z, of_z}
 use Rattle.std.proofs.lemmas.Bool.{false≢true}
 use mathlib.Core.List.{List, [], ◌∷◌, map}
-use Rattle.std.proofs.Math.Option.{none, some}
 use native.Mathlib.Omega.{arith}
 use Rattle.std.proofs.Math.Dec.{eqb}
 use Rattle.std.proofs.Math.ListN.{drop, get_or, drop_of_length-le, get_or-eq_default}
@@ -21,7 +20,7 @@ use Rattle.laws.specs.PutLaws.{put-nil, put_copy}
 use Rattle.laws.specs.RowsLaws.{put_whole}
 use Rattle.totals.specs.declared.Row.{Row}
 use Rattle.totals.specs.Table.{table_rows, empty}
-use Rattle.sheets.specs.Sheet.{word_of, behind, count_at, negative, sum_at, row_of, line_behind, rows_at, parsed, row_ok, sheet_text, read_sheet, is_read, rows_read}
+use Rattle.sheets.specs.Sheet.{word_of, behind, count_at, negative, sum_at, row_of, line_behind, rows_at, parsed, row_ok, sheet_text, read_sheet}
 use Rattle.sheets.specs.Least.{up_to, least, least_sum, least_row, grown}
 use Rattle.sheets.proofs.LeastLaws.{grown_from, grown-is, above-least, below-least, held-ok, held-is}
 use Rattle.sheets.proofs.SignsLaws.{held_back}
@@ -185,23 +184,20 @@ module _ (t : List ℕ) (l : List Row) where
 
 -- THE END: the rows held are read where their text is the text
 pub read-so : (t : List ℕ) {rows : List Row} → rows ≡ held t → sames (sheet_text rows) t ≡ true
-    → (true ≡ is_read (read_sheet t)) × (rows ≡ rows_read (read_sheet t))
-unfolding is_read rows_read held
+    → Some rows ≡ read_sheet t
+unfolding held
 read-so t {rows} q e =
-    let r : read_sheet t ≡ some rows =
-    ap read_sheet (sym (sames-eq (sheet_text rows) t e))
-    ∙ reads-back rows (ap length q ∙ length-held t) (ap (every row_ok) q ∙ held-ok (parsed t)) in
-    (sym (ap is_read r), sym (ap rows_read r))
+    sym (ap read_sheet (sym (sames-eq (sheet_text rows) t e))
+    ∙ reads-back rows (ap length q ∙ length-held t) (ap (every row_ok) q ∙ held-ok (parsed t)))
 
-pub read_none : (t : List ℕ) {rows none_rows : List Row} → rows ≡ held t → none_rows ≡ replicate table_rows empty
-    → sames (sheet_text rows) t ≡ false
-    → (false ≡ is_read (read_sheet t)) × (none_rows ≡ rows_read (read_sheet t))
-unfolding is_read rows_read read_sheet held pick
-read_none t {rows} {none_rows} q z e = go (every row_ok (parsed t) && sames (sheet_text (parsed t)) t) refl
+pub read_none : (t : List ℕ) {rows : List Row} → rows ≡ held t → sames (sheet_text rows) t ≡ false
+    → None ≡ read_sheet t
+unfolding read_sheet held pick
+read_none t {rows} q e = go (every row_ok (parsed t) && sames (sheet_text (parsed t)) t) refl
   where
     go : (b : Bool) → (every row_ok (parsed t) && sames (sheet_text (parsed t)) t) ≡ b
-        → (false ≡ is_read (pick b (some (parsed t)) none)) × (none_rows ≡ rows_read (pick b (some (parsed t)) none))
-    go false f = (refl, z)
+        → None ≡ pick b (Some (parsed t)) None
+    go false f = refl
     go true f =
         let k = held-is (parsed t) (and_left (every row_ok (parsed t)) (sames (sheet_text (parsed t)) t) f) in
         absurd (false≢true

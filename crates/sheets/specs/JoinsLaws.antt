@@ -1,15 +1,15 @@
 -- Laws of the definitions in Joins.
-use Prim.Native.Nat.{ℕ, suc, ◌+◌, ◌≤◌, ◌<◌}
-use Rattle.std.specs.Prelude.{◌≡◌, refl, Bool, true, false, ◌&&◌, List, [], ◌∷◌, length, drop, get_or, replicate}
-use Rattle.std.proofs.Common.{sym, ap, ◌∙◌, add-one, arith, drop_of_length-le}
+use Prim.Native.Nat.{ℕ, suc, ◌+◌, ◌<◌}
+use Rattle.std.specs.Prelude.{◌≡◌, refl, Bool, true, false, ◌&&◌, List, [], ◌∷◌, length, drop, get_or, replicate, Ok, Err}
+use Rattle.std.proofs.Common.{sym, ap, ◌∙◌, add-one, arith}
 use Rattle.std.proofs.lemmas.Bool.{false≢true}
 use Rattle.std.proofs.Math.Seq.{drop-cons}
 use Rattle.laws.specs.Tests.{pick}
 use Rattle.laws.specs.TestsLaws.{pick_true, pick-false, and_left, and_right}
 use Rattle.totals.specs.declared.Row.{Row}
-use Rattle.totals.specs.Two.{every_two}
-use Rattle.totals.specs.Table.{table_rows, empty, row_fits, added_rows}
-use Rattle.sheets.specs.Joins.{first_off, joined_rows}
+use Rattle.totals.specs.Two.{every_two, map_two}
+use Rattle.totals.specs.Table.{table_rows, empty, row_fits, row_sum}
+use Rattle.sheets.specs.Joins.{first_off, joined_rows, joined}
 
 -- where one is refused, and where none is
 pub off-some : (t d : List Row) → length t ≡ length d → every_two row_fits t d ≡ false → first_off t d < length t
@@ -51,19 +51,14 @@ module _ (t d : List Row) (h : ℕ) (r : Row) where
       (pick-false (suc (first_off (drop (suc h) t) (drop (suc h) d))) 0 e) in
       omega (arith, c, q)
 
-pub off-end : (t d : List Row) (h : ℕ) → length t ≤ h → h + first_off (drop h t) (drop h d) ≡ first_off t d
-    → h ≡ first_off t d
-unfolding first_off
-off-end t d h k q = let c : first_off (drop h t) (drop h d) ≡ 0 =
-    rw (drop_of_length-le t {i = h} k) in omega (arith, c, q)
-
 -- the two ways of a join
-pub joined-fits : (t d : List Row) {f : Bool} {r : List Row} → f ≡ every_two row_fits t d → r ≡ added_rows t d → f ≡ true
-    → r ≡ joined_rows t d
-unfolding added_rows joined_rows pick
-joined-fits t d e q g = let h = sym e ∙ g in q ∙ rw h
+pub joined-fits : (t d : List Row) {r : List Row} → every_two row_fits t d ≡ true → r ≡ map_two row_sum t d
+    → Ok r ≡ joined t d
+unfolding joined joined_rows
+joined-fits t d {r} e q =
+    sym (pick_true (Ok (joined_rows t d)) (Err (first_off t d)) e
+    ∙ ap Ok (pick_true (map_two row_sum t d) (replicate table_rows empty) e ∙ sym q))
 
-pub joined-off : (t d : List Row) {f : Bool} {r : List Row} → f ≡ every_two row_fits t d → r ≡ replicate table_rows empty
-    → f ≡ false → r ≡ joined_rows t d
-unfolding joined_rows pick
-joined-off t d e q g = let h = sym e ∙ g in q ∙ rw h
+pub joined-off : (t d : List Row) {h : ℕ} → every_two row_fits t d ≡ false → h ≡ first_off t d → Err h ≡ joined t d
+unfolding joined
+joined-off t d {h} e q = ap Err q ∙ sym (pick-false (Ok (joined_rows t d)) (Err (first_off t d)) e)

@@ -1,13 +1,12 @@
 -- The text of sixteen rows as `bin/month --csv` writes it, and what such a text is read as (document 02, T-10:
 -- "`--csv` reads back what it writes"). Definitions alone.
-use Rattle.std.specs.Prelude.{ℕ, zero, suc, ◌+◌, ◌-◌, ◌*◌, Bool, true, false, ◌&&◌, List, [], ◌∷◌, ◌++◌, eqb, leb, ltb, ℤ, pos, negsuc, get_or, drop, replicate}
-use Rattle.std.proofs.Math.Option.{Option, none, some}
+use Rattle.std.specs.Prelude.{ℕ, zero, suc, ◌-◌, Bool, ◌&&◌, List, [], ◌∷◌, ◌++◌, eqb, leb, ltb, ℤ, pos, negsuc, get_or, drop, Option, None, Some}
 use Rattle.laws.specs.Tests.{pick, sames}
 use Rattle.laws.specs.Loops.{every}
 use Rattle.decimals.specs.Decimals.{decimal, value_from}
 use Rattle.totals.specs.declared.Row.{Row}
 use Rattle.totals.specs.Sums.{count_fits, sum_fits}
-use Rattle.totals.specs.Table.{table_rows, empty}
+use Rattle.totals.specs.Table.{table_rows}
 
 -- the names, `handle,packets,reports,ticks,sum`, in one line, and the text behind it
 abbrev pub handle_word : List ℕ
@@ -98,16 +97,7 @@ row_ok r = count_fits r.packets && (count_fits r.reports && (count_fits r.ticks 
 
 -- what a text is read as: rows of 64 bits whose text it is, octet for octet; none of any other
 unfoldable pub read_sheet : List ℕ → Option (List Row)
-read_sheet t = pick (every row_ok (parsed t) && sames (sheet_text (parsed t)) t) (some (parsed t)) none
-
--- whether a text was read, and the rows that are handed back: empty ones of a text that was not
-unfoldable pub is_read : Option (List Row) → Bool
-is_read none = false
-is_read (some rows) = true
-
-unfoldable pub rows_read : Option (List Row) → List Row
-rows_read none = replicate table_rows empty
-rows_read (some rows) = rows
+read_sheet t = pick (every row_ok (parsed t) && sames (sheet_text (parsed t)) t) (Some (parsed t)) None
 
 -- octets enough for the text of any sixteen rows: the line of names, and for each row five words with what ends them
 abbrev pub names_octets : ℕ

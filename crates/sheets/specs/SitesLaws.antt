@@ -1,8 +1,7 @@
 -- Laws of the definitions in Sites.
-use Rattle.std.specs.Prelude.{ℕ, ◌-◌, ◌%◌, ◌≤◌, ◌<◌, ◌≡◌, refl, Bool, true, false, ◌&&◌, leb, ltb, eqb}
-use Rattle.std.proofs.Common.{sym, ◌∙◌}
+use Rattle.std.specs.Prelude.{ℕ, ◌-◌, ◌%◌, ◌≤◌, ◌<◌, ◌≡◌, false, ltb}
+use Rattle.std.proofs.Common.{sym}
 use borrow.Author.Tests.{le-leb, lt-leb, lt-ltb, le-ltb, eq-eqb, ne_eqb}
-use Rattle.laws.specs.Tests.{pick}
 use Rattle.laws.specs.TestsLaws.{pick_true, pick-false}
 use Rattle.sheets.specs.Sites.{are_sites}
 

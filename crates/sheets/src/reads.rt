@@ -8,27 +8,10 @@ ghost use Rattle.sheets.specs.Reading.{Counted, Summed, Lined, held};
 use crate::marks::{MINUS, ZERO};
 use totals::Row;
 
-// The greatest number that a further digit may leave within 64 bits.
-const TENTH: u64 = u64::MAX / 10;
-
-// A count at a place, and the place behind the octet that ends it.
+// What stands at a place, a count, a sum or a row, and the place behind what ends it.
 #[derive(Clone, Copy)]
-struct Count {
-    value: u64,
-    next: usize,
-}
-
-// A sum, the same.
-#[derive(Clone, Copy)]
-struct Sum {
-    value: i64,
-    next: usize,
-}
-
-// A row, and the place behind its line.
-#[derive(Clone, Copy)]
-struct Line {
-    row: Row,
+struct Found<T> {
+    value: T,
     next: usize,
 }
 
@@ -36,46 +19,31 @@ struct Line {
 fn digit(c: u8) -> u64
     ensures { result ≡ c - 48 }
 {
-    if c < ZERO {
-        return 0;
-    }
-    (c - ZERO) as u64
+    u64::from(c.saturating_sub(ZERO))
 }
 
 // A value and a further digit.
 fn grown(value: u64, d: u64) -> u64
     ensures { result ≡ grown_by value d }
 {
-    if value > TENTH {
-        return u64::MAX;
-    }
-    let tens = value * 10;
-    if d > u64::MAX - tens {
-        return u64::MAX;
-    }
-    tens + d
+    value.saturating_mul(10).saturating_add(d)
 }
 
-fn count_at(text: &[u8], at: usize) -> Count
+fn count_at(text: &[u8], at: usize) -> Found<u64>
     requires { at ≤ length text.now }
     ensures { Counted text.now at result.value result.next }
 {
     let mut value: u64 = 0;
-    let mut i = at;
-    while i < text.len() {
+    for i in at..text.len() {
         let c = text[i];
         if c < MINUS {
-            return Count {
-                value: value,
-                next: i + 1,
-            };
+            return Found { value, next: i + 1 };
         }
         value = grown(value, digit(c));
-        i += 1;
     }
-    Count {
-        value: value,
-        next: i,
+    Found {
+        value,
+        next: text.len(),
     }
 }
 
@@ -83,64 +51,51 @@ fn count_at(text: &[u8], at: usize) -> Count
 fn above(n: u64) -> i64
     ensures { result ≡ least_sum (pos n) }
 {
-    if n > 9223372036854775807 {
-        return 9223372036854775807;
-    }
-    n as i64
+    0i64.saturating_add_unsigned(n)
 }
 
 fn below(n: u64) -> i64
     ensures { result ≡ least_sum (negative n) }
 {
-    if n == 0 {
-        return 0;
-    }
-    if n > 9223372036854775808 {
-        return -9223372036854775808;
-    }
-    let k = (n - 1) as i64;
-    -1 - k
+    0i64.saturating_sub_unsigned(n)
 }
 
 // Whether a minus stands at a place.
 fn has_minus(text: &[u8], at: usize) -> bool
     ensures { result ≡ eqb (get_or text.now at 0) 45 }
 {
-    if at < text.len() {
-        return text[at] == MINUS;
-    }
-    false
+    text.get(at) == Some(&MINUS)
 }
 
-fn sum_at(text: &[u8], at: usize) -> Sum
+fn sum_at(text: &[u8], at: usize) -> Found<i64>
     requires { at ≤ length text.now }
     ensures { Summed text.now at result.value result.next }
 {
     if has_minus(text, at) {
         let n = count_at(text, at + 1);
-        return Sum {
+        return Found {
             value: below(n.value),
             next: n.next,
         };
     }
     let n = count_at(text, at);
-    Sum {
+    Found {
         value: above(n.value),
         next: n.next,
     }
 }
 
-fn line_at(text: &[u8], at: usize) -> Line
+fn line_at(text: &[u8], at: usize) -> Found<Row>
     requires { at ≤ length text.now }
-    ensures { Lined text.now at result.row result.next }
+    ensures { Lined text.now at result.value result.next }
 {
     let handle = count_at(text, at);
     let packets = count_at(text, handle.next);
     let reports = count_at(text, packets.next);
     let ticks = count_at(text, reports.next);
     let sum = sum_at(text, ticks.next);
-    Line {
-        row: Row {
+    Found {
+        value: Row {
             packets: packets.value,
             reports: reports.value,
             ticks: ticks.value,
@@ -157,13 +112,10 @@ pub(super) fn held_rows(text: &[u8]) -> [Row; Row::TABLE]
     let mut rows = totals::no_rows();
     let names = line_at(text, 0);
     let mut at = names.next;
-    let mut h = 0;
-    while h < Row::TABLE {
+    for row in &mut rows {
         let line = line_at(text, at);
-        let row = line.row;
-        rows[h] = row;
+        *row = line.value;
         at = line.next;
-        h += 1;
     }
     rows
 }

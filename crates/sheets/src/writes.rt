@@ -57,11 +57,9 @@ pub(super) fn put_rows(out: &mut [u8], rows: [Row; Row::TABLE]) -> usize
 {
     parts::copy(out, 0, b"handle,packets,reports,ticks,sum\n");
     let mut at = NAMES;
-    let mut h = 0;
-    while h < Row::TABLE {
+    for h in 0..Row::TABLE {
         let r = rows[h];
         at = put_row(out, at, h as u64, r);
-        h += 1;
     }
     at
 }

@@ -5,13 +5,14 @@
 mod files;
 
 use outside::STDERR;
+use shell::Status;
 
 // The files at most, and options before them.
 const MOST: usize = 65536;
 
 fn usage() {
     io::write_all(STDERR, b"usage: show FILE..\n");
-    shell::status(shell::USAGE);
+    shell::tell(Status::Usage);
 }
 
 // Whether a word of the command begins as an option does; a dash alone is standard input.
@@ -19,12 +20,10 @@ fn some_option(rt: &HostRuntime, from: usize, count: usize) -> bool {
     if MOST < count {
         return true;
     }
-    let mut i = from;
-    while i < count {
+    for i in from..count {
         if shell::is_option(rt, i) {
             return true;
         }
-        i += 1;
     }
     false
 }

@@ -3,13 +3,12 @@
 // refusal.
 #![tactic(auto)]
 
-ghost use Rattle.std.specs.Prelude.{◌+◌, ◌-◌, ◌≤◌, ◌<◌, ◌≡◌, true, false, eqb, length, take, ◌&&◌};
+ghost use Rattle.std.specs.Prelude.{◌+◌, ◌-◌, ◌≤◌, ◌<◌, ◌≡◌, true, false, length, take, ◌&&◌};
 ghost use Rattle.words.specs.Says.{Says};
-ghost use Rattle.shown.specs.Line.{is_kind, why_no_frame, is_event, form_of, why_not, line_text, no_line, octets_why, octets_text, why_no_text, text_words, is_digits, small_of, refusal_in, is_refusal, refused_text, words_of, is_line};
+ghost use Rattle.shown.specs.Line.{is_fine, is_kind, why_no_frame, is_event, form_of, why_not, line_text, no_line, octets_why, octets_text, why_no_text, text_words, is_digits, small_of, refusal_in, is_refusal, refused_text, words_of, is_line};
 ghost use Rattle.lines.specs.Hex.{octets_in};
 
-use decimals::Number;
-use refusals::Wrote;
+use fields::terms::Fault;
 use words::ROOM;
 
 mod commands;
@@ -17,6 +16,7 @@ mod framed;
 mod image;
 
 // A line in words: how many characters it has, and whether it is a line.
+// Kept: the flag beside them, for what is no line has words too, and they are written in the same way.
 #[derive(Clone, Copy)]
 pub struct Shown {
     pub count: usize,
@@ -38,23 +38,6 @@ const REPORT: u8 = 0x3E;
 
 const CHANGE: u8 = 0xFF;
 
-// Why a line is none.
-const FINE: u8 = 0;
-
-const EMPTY: u8 = 1;
-
-const LONG: u8 = 2;
-
-const NO_DIGITS: u8 = 3;
-
-const NO_KIND: u8 = 4;
-
-const SHORT_FRAME: u8 = 5;
-
-const NO_FRAME: u8 = 6;
-
-const NO_FORM: u8 = 7;
-
 // Whether octets that begin so are a frame.
 fn is_frame_kind(kind: u8) -> bool
     ensures { result ≡ is_kind kind }
@@ -63,16 +46,16 @@ fn is_frame_kind(kind: u8) -> bool
 }
 
 // Why the octets of a frame are none.
-fn why_no_frame(s: &[u8]) -> u8
+fn why_no_frame(s: &[u8]) -> Option<Fault>
     ensures { result ≡ why_no_frame s.now }
 {
     if s.len() < LEAST_FRAME {
-        return SHORT_FRAME;
+        return Some(Fault::ShortFrame);
     }
     if framed::is_frame(s) {
-        return FINE;
+        return None;
     }
-    NO_FRAME
+    Some(Fault::NoFrame)
 }
 
 // Whether octets are an event.
@@ -89,17 +72,17 @@ fn is_event(s: &[u8]) -> bool
     framed::is_report(s)
 }
 
-fn form(good: bool) -> u8
+fn form(good: bool) -> Option<Fault>
     ensures { result ≡ form_of good }
 {
     if good {
-        return FINE;
+        return None;
     }
-    NO_FORM
+    Some(Fault::NoForm)
 }
 
 // Why octets are no line: by their first.
-fn why_not(s: &[u8]) -> u8
+fn why_not(s: &[u8]) -> Option<Fault>
     ensures { result ≡ why_not s.now }
 {
     let kind = octets::get8(s, 0);
@@ -112,7 +95,7 @@ fn why_not(s: &[u8]) -> u8
     if (kind == COMPLETE) | (kind == CHANGE) | (kind == REPORT) {
         return form(is_event(s));
     }
-    NO_KIND
+    Some(Fault::NoKind)
 }
 
 // The words of octets that are a line.
@@ -136,7 +119,7 @@ fn octets_in_words(out: &mut [u8; ROOM], s: &[u8]) -> usize
 }
 
 // What is said of a text that is no line.
-fn no_line(out: &mut [u8; ROOM], why: u8) -> Shown
+fn no_line(out: &mut [u8; ROOM], why: Fault) -> Shown
     ensures { Says out.old 0 (no_line why) out.new result.count × (result.good ≡ false) }
 {
     let a = words::put(out, 0, b"not a line: ");
@@ -147,12 +130,12 @@ fn no_line(out: &mut [u8; ROOM], why: u8) -> Shown
     }
 }
 
-// Why octets are no line, or that they are one.
-fn octets_why(s: &[u8]) -> u8
+// Why octets are no line: none where they are one.
+fn octets_why(s: &[u8]) -> Option<Fault>
     ensures { result ≡ octets_why s.now }
 {
     if s.len() == 0 {
-        return EMPTY;
+        return Some(Fault::Empty);
     }
     why_not(s)
 }
@@ -160,42 +143,40 @@ fn octets_why(s: &[u8]) -> u8
 // The words of octets, or why they are no line.
 fn of_octets(out: &mut [u8; ROOM], s: &[u8]) -> Shown
     ensures { Says out.old 0 (octets_text s.now) out.new result.count
-        × (result.good ≡ eqb (octets_why s.now) 0) }
+        × (result.good ≡ is_fine (octets_why s.now)) }
 {
-    let why = octets_why(s);
-    if why != FINE {
-        return no_line(out, why);
-    }
-    let n = octets_in_words(out, s);
-    Shown {
-        count: n,
-        good: true,
+    match octets_why(s) {
+        Some(why) => no_line(out, why),
+        None => Shown {
+            count: octets_in_words(out, s),
+            good: true,
+        },
     }
 }
 
 // Why a text that is not hexadecimal with an LF is no line.
-fn why_no_text(n: usize) -> u8
+fn why_no_text(n: usize) -> Fault
     ensures { result ≡ why_no_text n }
 {
     if n <= 1 {
-        return EMPTY;
+        return Fault::Empty;
     }
     if LONGEST < n {
-        return LONG;
+        return Fault::Long;
     }
-    NO_DIGITS
+    Fault::NoDigits
 }
 
 // The words of a text in hexadecimal.
 fn of_text(out: &mut [u8; ROOM], text: &[u8]) -> Shown
     ensures { Says out.old 0 (text_words text.now) out.new result.count
-        × (result.good ≡ (is_digits text.now && eqb (octets_why (octets_in text.now)) 0)) }
+        × (result.good ≡ (is_digits text.now && is_fine (octets_why (octets_in text.now)))) }
 {
     let mut s = [0u8; lines::MOST_FRAME];
     let read = reader::take_text(text, &mut s);
     match read {
-        Wrote::Done(k) => of_read(out, s, k),
-        Wrote::Refused(_) => no_line(out, why_no_text(text.len())),
+        Ok(k) => of_read(out, s, k),
+        Err(_) => no_line(out, why_no_text(text.len())),
     }
 }
 
@@ -203,40 +184,40 @@ fn of_text(out: &mut [u8; ROOM], text: &[u8]) -> Shown
 fn of_read(out: &mut [u8; ROOM], read: [u8; lines::MOST_FRAME], k: usize) -> Shown
     requires { k ≤ 263 }
     ensures { Says out.old 0 (octets_text (take k read)) out.new result.count
-        × (result.good ≡ eqb (octets_why (take k read)) 0) }
+        × (result.good ≡ is_fine (octets_why (take k read))) }
 {
     let s = read;
     of_octets(out, &s[..k])
 }
 
-// The number of a refusal that a text is in decimal, before its LF; 0 where it is none.
-fn refusal_in(text: &[u8]) -> u8
+// The number of a refusal that a text is in decimal, before its LF.
+fn refusal_in(text: &[u8]) -> Option<u8>
     ensures { result ≡ refusal_in text.now }
 {
     let n = text.len();
     if n < 2 {
-        return 0;
+        return None;
     }
     let read = decimals::read(&text[..n - 1]);
     match read {
-        Number::Is(x) => small(x),
-        Number::Not => 0,
+        Some(x) => small(x),
+        None => None,
     }
 }
 
-// A refusal's number as an octet; 0 where it is none.
-fn small(x: u32) -> u8
+// A refusal's number as an octet.
+fn small(x: u32) -> Option<u8>
     ensures { result ≡ small_of x }
 {
     if 255 < x {
-        return 0;
+        return None;
     }
     let n = (x % 256) as u8;
     let known = names::find(&names::REFUSALS, n);
     if known.len() == 0 {
-        return 0;
+        return None;
     }
-    n
+    Some(n)
 }
 
 // The words of a refusal's number.
@@ -257,10 +238,11 @@ pub fn line(out: &mut [u8; ROOM], text: &[u8]) -> Shown
     ensures { Says out.old 0 (words_of text.now) out.new result.count
         × (result.good ≡ is_line text.now) }
 {
-    let x = refusal_in(text);
-    let first = octets::get8(text, 0);
-    if (x != 0) & (first != ZERO) {
-        return of_refusal(out, x);
+    if octets::get8(text, 0) == ZERO {
+        return of_text(out, text);
     }
-    of_text(out, text)
+    match refusal_in(text) {
+        Some(x) => of_refusal(out, x),
+        None => of_text(out, text),
+    }
 }

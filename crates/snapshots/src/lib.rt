@@ -51,10 +51,8 @@ fn put_lines(s: &[u8], out: &mut [u8], from: usize) -> usize
 {
     let count = octets::at_most(s[Whole::EDITION_COUNT_AT], Whole::EDITIONS);
     let mut at = from;
-    let mut i = 0;
-    while i < count {
+    for i in 0..count {
         at = put_one(s, i, out, at);
-        i += 1;
     }
     at
 }
@@ -196,10 +194,8 @@ fn past_lines(s: &[u8], text: &[u8], from: usize) -> usize
 {
     let count = octets::at_most(s[Whole::EDITION_COUNT_AT], Whole::EDITIONS);
     let mut at = from;
-    let mut i = 0;
-    while i < count {
+    for i in 0..count {
         at = past_one(s, i, text, at);
-        i += 1;
     }
     at
 }

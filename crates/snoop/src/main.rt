@@ -5,17 +5,15 @@
 
 mod journal;
 
-use decimals::Number;
 use index::Whole;
 use outside::{STDERR, Source};
+use shell::Status;
 
-// What the options ask: words on how far it is, the first tick's time; whether they are good; the place of the first
-// name.
+// What the options ask: words on how far it is, the first tick's time; the place of the first name.
 #[derive(Clone, Copy)]
 struct Asked {
     progress: bool,
     from: u32,
-    good: bool,
     at: usize,
 }
 
@@ -31,58 +29,43 @@ fn usage() {
         STDERR,
         b"usage: snoop [--from SECONDS] IMAGE JOURNAL > FILE\n",
     );
-    shell::status(shell::USAGE);
+    shell::tell(Status::Usage);
 }
 
 // The number in a word of the command.
-fn number_at(rt: &HostRuntime, at: usize) -> Number {
+fn number_at(rt: &HostRuntime, at: usize) -> Option<u32> {
     let mut word = io::buffer();
     let n = outside::word(rt, at, &mut word);
     decimals::read(&word[..n])
 }
 
-// No good options.
-fn bad() -> Asked {
-    Asked {
-        progress: false,
-        from: 0,
-        good: false,
-        at: 1,
-    }
-}
-
 // The first tick's time in the word behind an option.
-fn with_from(rt: &HostRuntime, progress: bool, at: usize) -> Asked {
+fn with_from(rt: &HostRuntime, progress: bool, at: usize) -> Option<Asked> {
     if at > MOST {
-        return bad();
+        return None;
     }
-    let read = number_at(rt, at + 1);
-    match read {
-        Number::Is(n) => Asked {
-            progress,
-            from: n,
-            good: true,
-            at: at + 2,
-        },
-        Number::Not => bad(),
-    }
+    let from = number_at(rt, at + 1)?;
+    Some(Asked {
+        progress,
+        from,
+        at: at + 2,
+    })
 }
 
 // The options from a place on.
-fn options_at(rt: &HostRuntime, progress: bool, at: usize) -> Asked {
+fn options_at(rt: &HostRuntime, progress: bool, at: usize) -> Option<Asked> {
     if shell::is(rt, at, b"--from") {
         return with_from(rt, progress, at);
     }
-    Asked {
+    Some(Asked {
         progress,
         from: BEGIN_2000,
-        good: true,
         at,
-    }
+    })
 }
 
-// The options before the names.
-fn options(rt: &HostRuntime) -> Asked {
+// The options before the names: none where they are no good ones.
+fn options(rt: &HostRuntime) -> Option<Asked> {
     if shell::is(rt, 1, b"--progress") {
         return options_at(rt, true, 2);
     }
@@ -93,7 +76,7 @@ fn options(rt: &HostRuntime) -> Asked {
 fn follow_file(rt: &HostRuntime, state: Whole, source: &Source, name: &[u8], a: Asked) {
     let head = captures::file_head();
     if !outside::put(rt, &head) {
-        shell::status(shell::FAILED);
+        shell::tell(Status::Failed);
         return;
     }
     let mut block = state.block;
@@ -102,20 +85,17 @@ fn follow_file(rt: &HostRuntime, state: Whole, source: &Source, name: &[u8], a: 
 
 // The journal of a name on a restored image.
 fn follow(rt: &HostRuntime, image: &[u8], name: &[u8], a: Asked) {
-    let restored = shell::restore(rt, image);
-    if !restored.good {
-        return;
-    }
-    if let Some(source) = shell::open(rt, name) {
-        let state = restored.state;
-        follow_file(rt, state, &source, name, a);
+    if let Some(state) = shell::restore(rt, image) {
+        if let Some(source) = shell::open(rt, name) {
+            follow_file(rt, state, &source, name, a);
+        }
     }
 }
 
-fn main(rt: HostRuntime) {
-    let a = options(&rt);
-    let names = shell::last_two(&rt, a.at);
-    if !(a.good & names.good) {
+// The names behind good options.
+fn write_out(rt: &HostRuntime, a: Asked) {
+    let names = shell::last_two(rt, a.at);
+    if !names.good {
         usage();
         return;
     }
@@ -123,5 +103,12 @@ fn main(rt: HostRuntime) {
     let n = names.n;
     let journal = names.journal;
     let k = names.k;
-    follow(&rt, &image[..n], &journal[..k], a);
+    follow(rt, &image[..n], &journal[..k], a);
+}
+
+fn main(rt: HostRuntime) {
+    match options(&rt) {
+        Some(a) => write_out(&rt, a),
+        None => usage(),
+    }
 }

@@ -24,25 +24,23 @@ fn other_sound(s: &[u8], i: usize) -> bool
     ensures { result ≡ other_test s.now i }
 {
     let key = octets::get64(s, State::PAIRS_AT + State::PAIR_ROW * i);
-    let mut j = 0;
-    while j < i {
+    for j in 0..i {
         if key == octets::get64(s, State::PAIRS_AT + State::PAIR_ROW * j) {
             return false;
         }
-        j += 1;
     }
     true
 }
 
 // The same, by the marks of the keys before it, to which its own is added.
-fn take_key(seen: &mut [u8], s: &[u8], i: usize) -> bool
+fn take_key(seen: &mut [bool], s: &[u8], i: usize) -> bool
     requires { (length s.now ≡ block_size) × (i < most_pairs) × (length seen.old ≡ marks)
         × Marked s.now i seen.old }
     ensures { (result ≡ other_test s.now i) × Marked s.now (i + 1) seen.new }
 {
     let m = mark_of(octets::get64(s, State::PAIRS_AT + State::PAIR_ROW * i));
-    if seen[m] == 0 {
-        seen[m] = 1;
+    if !seen[m] {
+        seen[m] = true;
         return true;
     }
     other_sound(s, i)
@@ -53,13 +51,11 @@ pub(super) fn are_others(s: &[u8], c: usize) -> bool
     requires { (length s.now ≡ block_size) × (c ≤ most_pairs) }
     ensures { result ≡ all_below (other_test s.now) c }
 {
-    let mut seen = [0u8; MARKS];
-    let mut i = 0;
-    while i < c {
+    let mut seen = [false; MARKS];
+    for i in 0..c {
         if !take_key(&mut seen, s, i) {
             return false;
         }
-        i += 1;
     }
     true
 }

@@ -85,14 +85,12 @@ fn monitors_sound(s: &[u8]) -> bool
     requires { length s.now ≡ block_size }
     ensures { result ≡ monitors_test s.now }
 {
-    let mut h = 0;
-    while h < State::MONITORS {
+    for h in 0..State::MONITORS {
         let a = State::MONITORS_AT + State::MONITOR_ROW * h;
         let e = a + State::MONITOR_ROW;
         if !monitor_sound(&s[a..e], h) {
             return false;
         }
-        h += 1;
     }
     true
 }
@@ -155,22 +153,17 @@ fn pair_sound(s: &[u8], i: usize) -> bool
         return false;
     }
     let m = State::MONITORS_AT + State::MONITOR_ROW * h;
-    if !seen_sound(&s[a..e], s[m + State::INTERVAL_AT]) {
-        return false;
-    }
-    rest_sound(s, &s[a..e], m)
+    seen_sound(&s[a..e], s[m + State::INTERVAL_AT]) && rest_sound(s, &s[a..e], m)
 }
 
 fn held_pairs_sound(s: &[u8], c: usize) -> bool
     requires { (length s.now ≡ block_size) × (c ≤ most_pairs) }
     ensures { result ≡ all_below (place_test s.now) c }
 {
-    let mut i = 0;
-    while i < c {
+    for i in 0..c {
         if !pair_sound(s, i) {
             return false;
         }
-        i += 1;
     }
     true
 }
@@ -219,8 +212,5 @@ pub fn is_loose(s: &[u8]) -> bool
 pub fn is_sound(s: &[u8]) -> bool
     ensures { result ≡ sound s.now }
 {
-    if !is_loose(s) {
-        return false;
-    }
-    keys::are_others(s, octets::wide(s[State::COUNT_AT]))
+    is_loose(s) && keys::are_others(s, octets::wide(s[State::COUNT_AT]))
 }

@@ -53,6 +53,7 @@ pub(super) fn zeros_from(r: &[u8], from: usize) -> bool
     }
     let last = n - 8;
     let mut any = octets::get64(r, last);
+    // Kept: a `while` by eights: chunks would leave a rest of up to seven octets, which the last eight take.
     let mut i = from;
     while i < last {
         any = any | octets::get64(r, i);

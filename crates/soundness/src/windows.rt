@@ -11,13 +11,7 @@ use state::State;
 fn sum_above(sum: u64, packets: u32) -> u64
     ensures { result ≡ sum_above sum packets }
 {
-    let n = packets as u64;
-    let a = 127 * n;
-    let room = 18446744073709551615 - a;
-    if sum <= room {
-        return sum + a;
-    }
-    sum - room - 1
+    sum.wrapping_add(127 * u64::from(packets))
 }
 
 // Whether a pair's window is as its monitor's sampling period and the position allow.
@@ -34,8 +28,7 @@ fn window_sound(position: u32, sampling: u8, ticks: u8, packets: u32, sum: u64) 
     if position < packets {
         return false;
     }
-    let n = packets as u64;
-    sum_above(sum, packets) <= 147 * n
+    sum_above(sum, packets) <= 147 * u64::from(packets)
 }
 
 // Whether a window without packets holds none; where duplicates are filtered it may keep one for them, and event type

@@ -6,90 +6,57 @@
 // program written from document 01.
 #![tactic(auto)]
 
-ghost use Rattle.std.specs.Prelude.{◌≤◌, ◌≡◌, length};
-
-use refusals::Wrote;
 use state::State;
 
-// The parts written over the block.
-fn patch(block: &mut [u8], parts: &[u8])
-    requires { length parts.now ≤ 8192 }
-{
-    let n = parts.len();
-    let mut i = 2;
-    while i + 4 <= n {
-        let at = octets::get16(parts, i) as usize;
-        let k = octets::get16(parts, i + 2) as usize;
-        let a = i + 4;
-        let e = a + k;
-        if n < e {
+// The parts written over the block, as far as they are whole.
+fn patch(block: &mut [u8], parts: &[u8]) {
+    let mut rest = parts;
+    while let [a, b, c, d, behind @ ..] = rest {
+        let at = u16::from_le_bytes([*a, *b]) as usize;
+        let k = u16::from_le_bytes([*c, *d]) as usize;
+        let Some((part, next)) = behind.split_at_checked(k) else {
             return;
-        }
-        parts::copy(block, at, &parts[a..e]);
-        i = e;
+        };
+        parts::copy(block, at, part);
+        rest = next;
     }
 }
 
-// How many of so many checks found the block sound.
-fn checks(block: &mut [u8], times: u16) -> u16
-    ensures { result ≤ times }
-{
-    let mut good: u16 = 0;
-    let mut k: u16 = 0;
-    while k < times {
+// Whether each of so many checks finds the block sound.
+fn are_sound(block: &mut [u8], times: u16) -> bool {
+    for k in 0..times {
         octets::put8(block, 3, (k % 2) as u8);
-        if soundness::is_sound(block) {
-            good += 1;
+        if !soundness::is_sound(block) {
+            return false;
         }
-        k += 1;
     }
-    good
+    true
 }
 
-fn check(parts: &[u8])
-    requires { length parts.now ≤ 8192 }
-{
+fn check(parts: &[u8]) {
     let begun = State::fresh(64542, b"MS");
     let state = begun.state;
     let mut block = state.block;
-    patch(&mut block, parts);
-    let times = octets::get16(parts, 0);
-    if checks(&mut block, times) == times {
-        io::write_all(1, b"1\n");
-        return;
+    if let Some(behind) = parts.get(2..) {
+        patch(&mut block, behind);
     }
-    io::write_all(1, b"0\n");
+    let good = are_sound(&mut block, octets::get16(parts, 0));
+    io::write_all(1, &[b'0' + u8::from(good), b'\n']);
 }
 
 fn line(text: &[u8]) {
     let mut buffer = [0u8; 8192];
-    match reader::take_text(text, &mut buffer) {
-        Wrote::Done(n) => {
-            if n <= 8192 {
-                check(&buffer[..n]);
-            }
+    if let Ok(n) = reader::take_text(text, &mut buffer) {
+        if let Some(parts) = buffer.get(..n) {
+            check(parts);
         }
-        Wrote::Refused(_) => {}
-    }
-}
-
-fn run(text: &[u8])
-    requires { length text.now ≤ 65536 }
-{
-    let mut from = 0;
-    let mut i = 0;
-    while i < text.len() {
-        if text[i] == 10 {
-            let e = i + 1;
-            line(&text[from..e]);
-            from = e;
-        }
-        i += 1;
     }
 }
 
 fn main() {
     let mut buffer = io::large_buffer();
     let n = io::read_full(0, &mut buffer);
-    run(&buffer[..n]);
+    for text in buffer[..n].split_inclusive(|c| *c == lines::LF) {
+        line(text);
+    }
 }

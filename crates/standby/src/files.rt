@@ -1,14 +1,7 @@
 // Files and standard output.
-ghost use Rattle.std.specs.Prelude.{◌+◌, ◌≤◌, length};
+ghost use Rattle.std.specs.Prelude.{◌+◌, ◌≤◌, length, IfSome};
 
 use outside::Source;
-
-// What was read: how many octets, and whether no read failed.
-#[derive(Clone, Copy)]
-pub struct Got {
-    pub count: usize,
-    pub works: bool,
-}
 
 // Writes to standard output, or says on standard error why it cannot.
 pub(super) fn put(rt: &HostRuntime, text: &[u8]) -> bool {
@@ -17,64 +10,51 @@ pub(super) fn put(rt: &HostRuntime, text: &[u8]) -> bool {
 
 // Writes the first n octets of a text.
 pub(super) fn put_first(rt: &HostRuntime, text: &[u8], n: usize) -> bool {
-    if text.len() < n {
-        return false;
+    match text.get(..n) {
+        Some(part) => put(rt, part),
+        None => false,
     }
-    put(rt, &text[..n])
 }
 
-// One read behind the octets that are held.
+// One read behind the octets that are held: how many octets, none where it failed, and why is on standard error.
 pub(super) fn read_some(
     rt: &HostRuntime,
     source: &Source,
     name: &[u8],
     text: &mut [u8],
     held: usize,
-) -> Got
+) -> Option<usize>
     requires { held ≤ length text.old }
-    ensures { held + result.count ≤ length text.old }
+    ensures { IfSome result (λ n. held + n ≤ length text.old) }
 {
     match outside::read(rt, source, &mut text[held..]) {
-        Ok(n) => Got {
-            count: n,
-            works: true,
-        },
+        Ok(n) => Some(n),
         Err(e) => {
             outside::fail(rt, name, e);
-            Got {
-                count: 0,
-                works: false,
-            }
+            None
         }
     }
 }
 
 // Reads until the input ends or the text is full.
-pub(super) fn read_all(rt: &HostRuntime, source: &Source, name: &[u8], text: &mut [u8]) -> Got
-    ensures { result.count ≤ length text.old }
+// Kept: a fixed buffer with a length beside, since a program's memory is constant.
+pub(super) fn read_all(
+    rt: &HostRuntime,
+    source: &Source,
+    name: &[u8],
+    text: &mut [u8],
+) -> Option<usize>
+    ensures { IfSome result (λ n. n ≤ length text.old) }
 {
-    let most = text.len();
     let mut held = 0;
-    while held < most {
-        let got = read_some(rt, source, name, text, held);
-        if !got.works {
-            return Got {
-                count: 0,
-                works: false,
-            };
+    while held < text.len() {
+        let n = read_some(rt, source, name, text, held)?;
+        if n == 0 {
+            return Some(held);
         }
-        if got.count == 0 {
-            return Got {
-                count: held,
-                works: true,
-            };
-        }
-        held += got.count;
+        held += n;
     }
-    Got {
-        count: held,
-        works: true,
-    }
+    Some(held)
 }
 
 // Opens a file for reading only, standard input for `-`; none where it cannot, and the reason is on standard error.

@@ -8,11 +8,7 @@ pub(super) fn say(text: &[u8]) {
 
 // Says a text.
 pub(super) fn say_text(text: Text) {
-    let octets = text.octets;
-    let n = text.count;
-    if n <= texts::ROOM {
-        say(&octets[..n]);
-    }
+    say(text.as_slice());
 }
 
 // Says a text behind a file's name, where there is one.

@@ -1,5 +1,5 @@
 -- Laws of the definitions in Start.
-use Rattle.std.specs.Prelude.{◌≡◌, ℕ, suc, ◌+◌, ◌-◌, ◌%◌, ◌<◌, ◌≤◌, Bool, true, false, ◌&&◌, List, [], ◌∷◌, ◌++◌, length, take, drop, replicate, ◌==◌, ◌≢◌, nat_le, slice_index}
+use Rattle.std.specs.Prelude.{◌≡◌, ℕ, suc, ◌+◌, ◌-◌, ◌%◌, ◌<◌, ◌≤◌, Bool, true, false, ◌&&◌, List, [], ◌∷◌, ◌++◌, length, take, drop, replicate, ◌==◌, ◌≢◌, nat_le, slice_index, Ok, Err}
 use Rattle.std.proofs.Math.Path.{refl, sym, ap}
 use Rattle.std.proofs.Common.{◌∙◌, append_assoc, arith, mod-eq_of_lt, length-append, take_at, drop_at, le-leb, lt-ltb, eq-eqb, ne_eqb}
 use Rattle.std.proofs.lemmas.List.{length-replicate, replicate-append-replicate}
@@ -19,7 +19,6 @@ use Rattle.model.specs.Image.{head_row}
 use Rattle.model.specs.Block.{pad_to, padded}
 use Rattle.blocks.specs.LaidLaws.{empty-padded}
 use Rattle.model.specs.Engine.{begin}
-use Rattle.state.specs.declared.Start.TheVariants.{Fresh, Refused}
 use Rattle.model.specs.Layout.{block_size, body_size, head_size, most_prefix}
 use Rattle.state.specs.Start.{settings_of, settings_row, blank_in, fresh_in}
 
@@ -102,18 +101,18 @@ settings-long opcode prefix h =
 pub started : (opcode : ℕ) (prefix : List ℕ) {l : List ℕ} → sound_settings opcode prefix ≡ true
     → length prefix ≤ most_prefix
     → l ≡ put (replicate block_size 0) 5 (settings_row opcode prefix)
-    → (Fresh ≡ settings_of opcode prefix) × (l ≡ begin opcode prefix)
+    → ((Ok tt) ≡ settings_of opcode prefix) × (l ≡ begin opcode prefix)
 unfolding settings_of begin
 started opcode prefix e h q = (
-  sym (pick_true Fresh (Refused BadSettings) e),
+  sym (pick_true (Ok tt) (Err BadSettings) e),
   q ∙ fresh-block opcode prefix h ∙ sym (pick_true (padded (fresh opcode prefix)) (padded blank) e),
 )
 
 pub not-started : (opcode : ℕ) (prefix : List ℕ) {l : List ℕ} → sound_settings opcode prefix ≡ false → l ≡ padded blank
-    → (Refused BadSettings ≡ settings_of opcode prefix) × (l ≡ begin opcode prefix)
+    → (Err BadSettings ≡ settings_of opcode prefix) × (l ≡ begin opcode prefix)
 unfolding settings_of begin
 not-started opcode prefix e q = (
-  sym (pick-false Fresh (Refused BadSettings) e),
+  sym (pick-false (Ok tt) (Err BadSettings) e),
   q ∙ sym (pick-false (padded (fresh opcode prefix)) (padded blank) e),
 )
 
@@ -145,17 +144,17 @@ module _ (s : List ℕ) (opcode : ℕ) (prefix : List ℕ) where
   fresh-is h = pick_true (begin opcode prefix) s (eq-eqb (length s) block_size h)
 
   pub refused-in : {l : List ℕ} → sound_settings opcode prefix ≡ false → l ≡ blank_in s
-      → (Refused BadSettings ≡ settings_of opcode prefix) × (l ≡ fresh_in s opcode prefix)
+      → (Err BadSettings ≡ settings_of opcode prefix) × (l ≡ fresh_in s opcode prefix)
   unfolding fresh_in blank_in
   refused-in e q =
       let w = not-started opcode prefix e refl in
       (w.0, q ∙ ap (λ (x : List ℕ). pick (length s == block_size) x s) w.1)
 
   pub fresh-not : sound_settings opcode prefix ≡ true → (length s ≢ block_size)
-      → (Fresh ≡ settings_of opcode prefix) × (s ≡ fresh_in s opcode prefix)
+      → ((Ok tt) ≡ settings_of opcode prefix) × (s ≡ fresh_in s opcode prefix)
   unfolding fresh_in settings_of
   fresh-not e n = (
-    sym (pick_true Fresh (Refused BadSettings) e),
+    sym (pick_true (Ok tt) (Err BadSettings) e),
     sym
         (pick-false (begin opcode prefix) s (ne_eqb (length s) block_size n)),
   )
@@ -164,7 +163,7 @@ module _ (s : List ℕ) (opcode : ℕ) (prefix : List ℕ) where
       → length s ≡ block_size
       → b ≡ nat_le (0 + block_size) (length s) → l ≡ put_if b s 0 (replicate block_size 0)
       → m ≡ put l 5 (settings_row opcode prefix)
-      → (Fresh ≡ settings_of opcode prefix) × (m ≡ fresh_in s opcode prefix)
+      → ((Ok tt) ≡ settings_of opcode prefix) × (m ≡ fresh_in s opcode prefix)
   fresh_in_lem {l} {m} {b} e k h x q r =
       let zeros : List ℕ = replicate block_size 0 in
       let n : length zeros ≡ block_size = length-replicate {A = ℕ} block_size 0 in

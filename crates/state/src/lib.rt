@@ -28,8 +28,7 @@ impl Seconds {
     pub fn ticks(self) -> Ticks
         ensures { result.0 ≡ ticks_of self.0 }
     {
-        let n = self.0 as u16;
-        Ticks(10 * n)
+        Ticks(10 * u16::from(self.0))
     }
 }
 
@@ -46,8 +45,7 @@ impl Ticks {
 pub fn level_of(rssi: u8) -> u8
     ensures { result ≡ level rssi }
 {
-    let n = rssi as u16;
-    ((n + 128) % 256) as u8
+    rssi.wrapping_add(128)
 }
 
 // Whether an RSSI octet stands for −127 to 20 dBm.
@@ -82,11 +80,7 @@ pub fn advance(block: &mut [u8])
     ensures { block.new ≡ advanced block.old }
 {
     let position = octets::get32(block, State::POSITION_AT);
-    octets::put32(
-        block,
-        State::POSITION_AT,
-        std::num::wrapping_add_u32(position, 1),
-    );
+    octets::put32(block, State::POSITION_AT, position.wrapping_add(1));
 }
 
 // Whether a frame may be taken: the block has its size, the output room for the longest answer, and a frame number is
@@ -110,37 +104,29 @@ pub fn put_blank(block: &mut [u8])
     if block.len() != State::SIZE {
         return;
     }
-    let none = [0u8; 0];
     parts::fill(block, 0, State::SIZE, 0);
-    settings::set_settings(block, State::LEAST_OPCODE, &none);
+    settings::set_settings(block, State::LEAST_OPCODE, &[]);
 }
 
 // The fresh state with these settings, in a lent block of the right length; the blank one and refusal 9 where they
 // are out of range. A block of another length is left as it is.
-pub fn put_fresh(block: &mut [u8], opcode: u16, prefix: &[u8]) -> Start
+pub fn put_fresh(block: &mut [u8], opcode: u16, prefix: &[u8]) -> Result<(), Refusal>
     ensures { (result ≡ settings_of opcode prefix.now)
         × (block.new ≡ fresh_in block.old opcode prefix.now) }
 {
     if opcode < State::LEAST_OPCODE {
         put_blank(block);
-        return Start::Refused(Refusal::BadSettings);
+        return Err(Refusal::BadSettings);
     }
     if State::PREFIX < prefix.len() {
         put_blank(block);
-        return Start::Refused(Refusal::BadSettings);
+        return Err(Refusal::BadSettings);
     }
     if block.len() == State::SIZE {
         parts::fill(block, 0, State::SIZE, 0);
         settings::set_settings(block, opcode, prefix);
     }
-    Start::Fresh
-}
-
-// What is said of settings: in range, or why not.
-#[derive(Clone, Copy)]
-pub enum Start {
-    Fresh,
-    Refused(Refusal),
+    Ok(())
 }
 
 // The state of the engine: position (4), filter, opcode (2), prefix length and prefix, padded to 40 octets; the
@@ -153,7 +139,7 @@ pub struct State {
 // What starting gives: the state, and whether the settings were refused.
 #[derive(Clone, Copy)]
 pub struct Begun {
-    pub answer: Start,
+    pub answer: Result<(), Refusal>,
     pub state: State,
 }
 
@@ -294,7 +280,7 @@ impl State {
         let mut block = [0u8; State::SIZE];
         let answer = put_fresh(&mut block, opcode, prefix);
         Begun {
-            answer: answer,
+            answer,
             state: State { block },
         }
     }

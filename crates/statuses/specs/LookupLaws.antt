@@ -1,6 +1,6 @@
 -- Laws of the definitions in Lookup.
 use Prim.Native.Nat.{ℕ, zero, suc, ◌+◌, ◌<◌}
-use Rattle.std.specs.Prelude.{◌≡◌, true, List, [], ◌∷◌, eqb, drop, get_or}
+use Rattle.std.specs.Prelude.{◌≡◌, true, List, [], ◌∷◌, eqb, drop, get_or, Some, None}
 use Rattle.std.proofs.Common.{sym, ◌∙◌, arith, eq-eqb, ne_eqb}
 use Rattle.laws.specs.Tests.{pick}
 use Rattle.laws.specs.TestsLaws.{pick_true, pick-false}
@@ -23,12 +23,12 @@ Left i sub = (params_in (drop i table) sub ≡ params_in table sub) × (answer_i
 
 module _ (sub : ℕ) (d : Row) where
   hit : (p a : ℕ) (r : Row) → r.sub ≡ sub → pick (eqb r.sub sub) r.params p ≡ params_in table sub
-      → pick (eqb r.sub sub) r.answer a ≡ answer_in table sub → Lengths sub r
+      → pick (eqb r.sub sub) r.answer a ≡ answer_in table sub → Lengths sub (Some r)
   hit p a r e f g =
       let t : eqb r.sub sub ≡ true = eq-eqb r.sub sub e in
       record { params = sym (pick_true r.params p t) ∙ f; answer = sym (pick_true r.answer a t) ∙ g }
 
-  pub lookup-hit : (i : ℕ) → i < 5 → Left i sub → (get_or coded i d).sub ≡ sub → Lengths sub (get_or coded i d)
+  pub lookup-hit : (i : ℕ) → i < 5 → Left i sub → (get_or coded i d).sub ≡ sub → Lengths sub (Some (get_or coded i d))
   unfolding table params_in answer_in
   lookup-hit zero h q e = hit _ _ (get_or coded 0 d) e q.0 q.1
   lookup-hit (suc zero) h q e = hit _ _ (get_or coded 1 d) e q.0 q.1
@@ -49,7 +49,7 @@ module _ (sub : ℕ) (d : Row) where
   lookup-miss (suc (suc (suc (suc zero)))) h q e = (miss _ 15 e q.0, miss _ 15 e q.1)
   lookup-miss (suc (suc (suc (suc (suc i))))) h q e = absurd (omega arith)
 
-pub lookup-end : (sub i : ℕ) {r : Row} → i ≡ 5 → Left i sub → r.params ≡ 0 → r.answer ≡ 0 → Lengths sub r
+pub lookup-end : (sub i : ℕ) → i ≡ 5 → Left i sub → Lengths sub None
 unfolding table params_in answer_in
-lookup-end sub i e q p a =
-    let z : Left 5 sub = rw e at q in record { params = p ∙ z.0; answer = a ∙ z.1 }
+lookup-end sub i e q =
+    let z : Left 5 sub = rw e at q in record { params = z.0; answer = z.1 }

@@ -1,18 +1,52 @@
 // The status of each vendor command, in document 01's order (Commands): lengths from a table of rows, thresholds,
 // interval, what version 2 adds (document 02, T-13), condition type, the condition's form and length, room for one
-// more monitor. 0 is success. Nothing here looks at the state: what a status takes from it (room for a monitor,
+// more monitor. Nothing here looks at the state: what a status takes from it (room for a monitor,
 // whether a handle is live, the present setting of the filter) is a parameter.
 #![tactic(auto)]
 
-ghost use Rattle.std.specs.Prelude.{◌+◌, ◌≤◌, ◌<◌, ◌≡◌, true, ◌&&◌, eqb, length, get_or};
+ghost use Rattle.std.specs.Prelude.{◌+◌, ◌≤◌, ◌<◌, ◌≡◌, true, ◌&&◌, eqb, length, get_or, Result};
 ghost use Rattle.model.specs.Layout.{extra_size};
 ghost use Rattle.model.specs.Level.{level, in_range};
 ghost use Rattle.model.specs.Monitors.{settings_good, condition_fault, fault_of, monitor_of, allowed, type_in};
 ghost use Rattle.model.specs.Commands.{table, params_in, answer_in, read_status};
+ghost use Rattle.statuses.specs.Codes.{code, status_of};
 ghost use Rattle.statuses.specs.Lookup.{Lengths};
 ghost use Rattle.statuses.specs.Statuses.{add_of, adds_by, permits, type_by, cancel_of, enable_of};
 
 use state::State;
+
+// Why a command is refused.
+#[derive(Clone, Copy)]
+pub enum Status {
+    Unknown,
+    Full,
+    Disallowed,
+    Invalid,
+}
+
+impl Status {
+    // The status octet of an answer.
+    pub fn code(self) -> u8
+        ensures { result ≡ code self }
+    {
+        match self {
+            Status::Unknown => 0x01,
+            Status::Full => 0x07,
+            Status::Disallowed => 0x0C,
+            Status::Invalid => 0x12,
+        }
+    }
+}
+
+// The status octet of a command that succeeds, 0, or is refused.
+pub fn code_of(status: Result<(), Status>) -> u8
+    ensures { result ≡ status_of status }
+{
+    match status {
+        Ok(()) => 0,
+        Err(e) => e.code(),
+    }
+}
 
 // A row of the table: a sub-opcode, its parameter length counting the sub-opcode (03 and 0F: the least), and the number
 // of return parameters on success (00: less the prefix).
@@ -51,40 +85,36 @@ const TABLE: [Row; 5] = [
     },
 ];
 
-// The row of a sub-opcode; lengths 0 where the table has none.
-fn row_of(sub: u8) -> Row
+// The row of a sub-opcode, where the table has one.
+fn row_of(sub: u8) -> Option<Row>
     ensures { Lengths sub result }
 {
-    let t = TABLE;
-    let mut i = 0;
-    while i < 5 {
-        let r = t[i];
+    for r in TABLE {
         if r.sub == sub {
-            return r;
+            return Some(r);
         }
-        i += 1;
     }
-    Row {
-        sub: sub,
-        params: 0,
-        answer: 0,
-    }
+    None
 }
 
-// The parameter length of a sub-opcode, counting it.
+// The parameter length of a sub-opcode, counting it; 0 where the table has none.
 fn params_of(sub: u8) -> usize
     ensures { result ≡ params_in table sub }
 {
-    let r = row_of(sub);
-    r.params
+    match row_of(sub) {
+        Some(r) => r.params,
+        None => 0,
+    }
 }
 
-// The number of return parameters of a sub-opcode on success.
+// The number of return parameters of a sub-opcode on success; 0 where the table has none.
 pub fn answer_of(sub: u8) -> u8
     ensures { result ≡ answer_in table sub }
 {
-    let r = row_of(sub);
-    r.answer
+    match row_of(sub) {
+        Some(r) => r.answer,
+        None => 0,
+    }
 }
 
 // Whether thresholds and interval are in range, and low is not above high.
@@ -99,18 +129,17 @@ pub fn settings_good(high: u8, low: u8, interval: u8) -> bool
 }
 
 // The status that a condition gives: its type, its form, its length.
-fn condition_status(kind: u8, condition: &[u8]) -> u8
-    ensures { result ≡ condition_fault kind condition.now }
+fn condition_status(kind: u8, condition: &[u8]) -> Result<(), Status>
+    ensures { status_of result ≡ condition_fault kind condition.now }
 {
     let form = advert::condition_form(kind, condition);
-    let status = advert::status_of(form);
-    if status != 0 {
-        return status;
+    if advert::status_of(form) != 0 {
+        return Err(Status::Invalid);
     }
     if State::CONDITION < condition.len() {
-        return 0x07;
+        return Err(Status::Full);
     }
-    0
+    Ok(())
 }
 
 // Whether these are the parameters that version 2 adds, and its tables allow them beside a sampling period and a
@@ -161,74 +190,71 @@ fn permitted(params: &[u8], at: usize) -> bool
 }
 
 // The status that the settings of a monitor give.
-fn fault(params: &[u8], at: usize) -> u8
+fn fault(params: &[u8], at: usize) -> Result<(), Status>
     requires { (at ≡ type_in params.now) × (5 ≤ at) × (at < length params.now) }
-    ensures { result ≡ fault_of (monitor_of params.now) }
+    ensures { status_of result ≡ fault_of (monitor_of params.now) }
 {
     let good = settings_good(params[1], params[2], params[3]);
     let may = permitted(params, at);
     if good & may {
         return condition_status(params[at], &params[at + 1..]);
     }
-    0x12
+    Err(Status::Invalid)
 }
 
 // The status of 00: its length.
-pub fn read_status(params: &[u8]) -> u8
-    ensures { result ≡ read_status params.now }
+pub fn read_status(params: &[u8]) -> Result<(), Status>
+    ensures { status_of result ≡ read_status params.now }
 {
     if params.len() == params_of(0x00) {
-        return 0;
+        return Ok(());
     }
-    0x12
+    Err(Status::Invalid)
 }
 
-// The status of 03 and 0F, where there is room for one more monitor or not; 01 for another sub-opcode.
-pub fn add_status(params: &[u8], room: bool) -> u8
-    ensures { result ≡ add_of room params.now }
+// The status of 03 and 0F, where there is room for one more monitor or not; unknown for another sub-opcode.
+pub fn add_status(params: &[u8], room: bool) -> Result<(), Status>
+    ensures { status_of result ≡ add_of room params.now }
 {
     let sub = octets::get8(params, 0);
     if !is_add(sub) {
-        return 0x01;
+        return Err(Status::Unknown);
     }
     if params.len() < params_of(sub) {
-        return 0x12;
+        return Err(Status::Invalid);
     }
-    let f = fault(params, type_at(sub));
-    if f != 0 {
-        return f;
-    }
+    fault(params, type_at(sub))?;
     if room {
-        return 0;
+        return Ok(());
     }
-    0x07
+    Err(Status::Full)
 }
 
 // The status of 04, where its handle is live or not.
-pub fn cancel_status(params: &[u8], live: bool) -> u8
-    ensures { result ≡ cancel_of live params.now }
+pub fn cancel_status(params: &[u8], live: bool) -> Result<(), Status>
+    ensures { status_of result ≡ cancel_of live params.now }
 {
     if params.len() == params_of(0x04) {
         if live {
-            return 0;
+            return Ok(());
         }
     }
-    0x12
+    Err(Status::Invalid)
 }
 
 // The status of 05 at the present setting of the filter.
-pub fn enable_status(params: &[u8], filter: u8) -> u8
-    ensures { result ≡ enable_of filter params.now }
+pub fn enable_status(params: &[u8], filter: u8) -> Result<(), Status>
+    ensures { status_of result ≡ enable_of filter params.now }
 {
     if params.len() != params_of(0x05) {
-        return 0x12;
+        return Err(Status::Invalid);
     }
     let on = octets::get8(params, 1);
     if 1 < on {
-        return 0x12;
+        return Err(Status::Invalid);
     }
     if on == filter {
-        return 0x0C;
+        return Err(Status::Disallowed);
     }
-    0
+    Ok(())
 }

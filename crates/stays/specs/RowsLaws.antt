@@ -1,5 +1,5 @@
 -- Laws of the definitions in Rows.
-use Rattle.std.specs.Prelude.{ℕ, ◌+◌, ◌-◌, ◌/◌, ◌%◌, ◌≤◌, ◌<◌, min, ◌≡◌, Bool, true, false, List, [], ◌++◌, eqb, length, take}
+use Rattle.std.specs.Prelude.{ℕ, ◌+◌, ◌/◌, ◌%◌, ◌≤◌, ◌<◌, ◌≡◌, List, [], Option, Some, ◌++◌, length, take}
 use Rattle.std.proofs.Common.{sym, ap, ◌∙◌, arith, eq-eqb, ne_eqb, length-take-le, take_all}
 use Rattle.laws.specs.Tests.{pick}
 use Rattle.laws.specs.TestsLaws.{pick_true, pick-false}
@@ -10,34 +10,11 @@ use Rattle.texts.specs.ChainsLaws.{then, same, taken, left}
 use Rattle.texts.specs.Words.{address_text, kind_text, time_text, level_text}
 use Rattle.visit.specs.Book.{devices, mean_of}
 use Rattle.stays.specs.declared.Row.{Row}
+use Rattle.stays.specs.declared.Style.{Style}
 use Rattle.stays.specs.Rows.{none_text, quote_text, day_text, moment_text, frame_or, moment_or, ended_text, mean_or, lead_of, gap_of, blanks_of, put_text, end_text, cut, row_text}
 
 -- the branches
 module _ (t : List ℕ) {r : List ℕ} where
-  pub none-table : (style : ℕ) → style ≡ 0 → r ≡ take room (t ++ codes "-") → r ≡ take room (t ++ none_text style)
-  unfolding none_text
-  none-table style k e = taken t (codes "-") _ (eq-eqb style 0 k) e
-
-  pub none-csv : (style : ℕ) → (style ≡ 0 → ⊥) → style ≡ 1 → r ≡ take room (t ++ codes "")
-      → r ≡ take room (t ++ none_text style)
-  unfolding none_text
-  none-csv style k l e =
-      left t (codes "-") _ (ne_eqb style 0 k) (taken t (codes "") (codes "null") (eq-eqb style 1 l) e)
-
-  pub none-json : (style : ℕ) → (style ≡ 0 → ⊥) → (style ≡ 1 → ⊥) → r ≡ take room (t ++ codes "null")
-      → r ≡ take room (t ++ none_text style)
-  unfolding none_text
-  none-json style k l e =
-      left t (codes "-") _ (ne_eqb style 0 k) (left t (codes "") (codes "null") (ne_eqb style 1 l) e)
-
-  pub quote-json : (style : ℕ) → style ≡ 2 → r ≡ take room (t ++ codes "\"") → r ≡ take room (t ++ quote_text style)
-  unfolding quote_text
-  quote-json style k e = taken t (codes "\"") (codes "") (eq-eqb style 2 k) e
-
-  pub quote-none : (style : ℕ) → (style ≡ 2 → ⊥) → r ≡ take room (t ++ codes "") → r ≡ take room (t ++ quote_text style)
-  unfolding quote_text
-  quote-none style k e = left t (codes "\"") (codes "") (ne_eqb style 2 k) e
-
   pub day-none : (n : ℕ) → n ≡ 0 → r ≡ take room (t ++ codes "") → r ≡ take room (t ++ day_text n)
   unfolding day_text
   day-none n k e = taken t (codes "") (codes "+" ++ decimal n) (eq-eqb n 0 k) e
@@ -46,120 +23,39 @@ module _ (t : List ℕ) {r : List ℕ} where
   unfolding day_text
   day-some n k e = left t (codes "") (codes "+" ++ decimal n) (ne_eqb n 0 k) e
 
-  pub moment-given : (given : Bool) (from tick : ℕ) {s : List ℕ} → given ≡ true
-      → s ≡ take room (t ++ time_text ((from + tick) % 864000))
-      → r ≡ take room (s ++ day_text ((from + tick) / 864000)) → r ≡ take room (t ++ moment_text given from tick)
+  pub moment-given : (from tick : ℕ) {s : List ℕ} → s ≡ take room (t ++ time_text ((from + tick) % 864000))
+      → r ≡ take room (s ++ day_text ((from + tick) / 864000)) → r ≡ take room (t ++ moment_text (Some from) tick)
   unfolding moment_text
-  moment-given given from tick k e q =
-      taken t (time_text ((from + tick) % 864000) ++ day_text ((from + tick) / 864000)) (time_text tick) k
-      (then t (time_text ((from + tick) % 864000)) (day_text ((from + tick) / 864000)) e q)
+  moment-given from tick e q = then t (time_text ((from + tick) % 864000)) (day_text ((from + tick) / 864000)) e q
 
-  pub moment-not : (given : Bool) (from tick : ℕ) → given ≡ false → r ≡ take room (t ++ time_text tick)
-      → r ≡ take room (t ++ moment_text given from tick)
-  unfolding moment_text
-  moment-not given from tick k e =
-      left t (time_text ((from + tick) % 864000) ++ day_text ((from + tick) / 864000)) (time_text tick) k e
-
-  pub frame-none : (style frame : ℕ) → frame ≡ 0 → r ≡ take room (t ++ none_text style)
+  pub frame-none : (style : Style) (frame : ℕ) → frame ≡ 0 → r ≡ take room (t ++ none_text style)
       → r ≡ take room (t ++ frame_or style frame)
   unfolding frame_or
   frame-none style frame k e = taken t (none_text style) (codes "" ++ decimal frame) (eq-eqb frame 0 k) e
 
-  pub frame-some : (style frame : ℕ) → (frame ≡ 0 → ⊥) → r ≡ take room (t ++ (codes "" ++ decimal frame))
+  pub frame-some : (style : Style) (frame : ℕ) → (frame ≡ 0 → ⊥) → r ≡ take room (t ++ (codes "" ++ decimal frame))
       → r ≡ take room (t ++ frame_or style frame)
   unfolding frame_or
   frame-some style frame k e = left t (none_text style) (codes "" ++ decimal frame) (ne_eqb frame 0 k) e
 
-  pub moment-none : (style : ℕ) (given : Bool) (from frame tick : ℕ) → frame ≡ 0 → r ≡ take room (t ++ none_text style)
-      → r ≡ take room (t ++ moment_or style given from frame tick)
+  pub moment-none : (style : Style) (clock : Option ℕ) (frame tick : ℕ) → frame ≡ 0 → r ≡ take room (t ++ none_text style)
+      → r ≡ take room (t ++ moment_or style clock frame tick)
   unfolding moment_or
-  moment-none style given from frame tick k e =
-      taken t (none_text style) (quote_text style ++ moment_text given from tick ++ quote_text style) (eq-eqb frame 0 k) e
+  moment-none style clock frame tick k e =
+      taken t (none_text style) (quote_text style ++ moment_text clock tick ++ quote_text style) (eq-eqb frame 0 k) e
 
-  pub moment-some : (style : ℕ) (given : Bool) (from frame tick : ℕ) {a b : List ℕ} → (frame ≡ 0 → ⊥)
+  pub moment-some : (style : Style) (clock : Option ℕ) (frame tick : ℕ) {a b : List ℕ} → (frame ≡ 0 → ⊥)
       → a ≡ take room (t ++ quote_text style)
-      → b ≡ take room (a ++ moment_text given from tick) → r ≡ take room (b ++ quote_text style)
-      → r ≡ take room (t ++ moment_or style given from frame tick)
+      → b ≡ take room (a ++ moment_text clock tick) → r ≡ take room (b ++ quote_text style)
+      → r ≡ take room (t ++ moment_or style clock frame tick)
   unfolding moment_or
-  moment-some style given from frame tick k e f g =
-      left t (none_text style) (quote_text style ++ moment_text given from tick ++ quote_text style) (ne_eqb frame 0 k)
-      (then t (quote_text style ++ moment_text given from tick) (quote_text style)
-      (then t (quote_text style) (moment_text given from tick) e f) g)
-
-  pub ended-silence : (how : ℕ) → how ≡ 0 → r ≡ take room (t ++ codes "silence") → r ≡ take room (t ++ ended_text how)
-  unfolding ended_text
-  ended-silence how k e = taken t (codes "silence") _ (eq-eqb how 0 k) e
-
-  pub ended-full : (how : ℕ) → (how ≡ 0 → ⊥) → how ≡ 1 → r ≡ take room (t ++ codes "full table")
-      → r ≡ take room (t ++ ended_text how)
-  unfolding ended_text
-  ended-full how k l e = left t (codes "silence") _ (ne_eqb how 0 k) (taken t (codes "full table") _ (eq-eqb how 1 l) e)
-
-  pub ended-cancelled : (how : ℕ) → (how ≡ 0 → ⊥) → (how ≡ 1 → ⊥) → how ≡ 2 → r ≡ take room (t ++ codes "cancelled")
-      → r ≡ take room (t ++ ended_text how)
-  unfolding ended_text
-  ended-cancelled how k l m e =
-      left t (codes "silence") _ (ne_eqb how 0 k)
-      (left t (codes "full table") _ (ne_eqb how 1 l)
-      (taken t (codes "cancelled") (codes "still there") (eq-eqb how 2 m) e))
-
-  pub ended-there : (how : ℕ) → (how ≡ 0 → ⊥) → (how ≡ 1 → ⊥) → (how ≡ 2 → ⊥)
-      → r ≡ take room (t ++ codes "still there") → r ≡ take room (t ++ ended_text how)
-  unfolding ended_text
-  ended-there how k l m e =
-      left t (codes "silence") _ (ne_eqb how 0 k)
-      (left t (codes "full table") _ (ne_eqb how 1 l)
-      (left t (codes "cancelled") (codes "still there") (ne_eqb how 2 m) e))
-
-  pub mean-none : (style packets sum : ℕ) → packets ≡ 0 → r ≡ take room (t ++ none_text style)
-      → r ≡ take room (t ++ mean_or style packets sum)
-  unfolding mean_or
-  mean-none style packets sum k e = taken t (none_text style) (level_text (mean_of packets sum)) (eq-eqb packets 0 k) e
-
-  pub mean-some : (style packets sum m : ℕ) → (packets ≡ 0 → ⊥) → m ≡ mean_of packets sum
-      → r ≡ take room (t ++ level_text m) → r ≡ take room (t ++ mean_or style packets sum)
-  unfolding mean_or
-  mean-some style packets sum m k z e =
-      left t (none_text style) (level_text (mean_of packets sum)) (ne_eqb packets 0 k)
-      (same t (level_text m) (level_text (mean_of packets sum)) e (ap level_text z))
-
-  pub lead-table : (style : ℕ) (csv json : List ℕ) → style ≡ 0 → r ≡ take room (t ++ codes "")
-      → r ≡ take room (t ++ lead_of style csv json)
-  unfolding lead_of
-  lead-table style csv json k e = taken t (codes "") (pick (eqb style 1) csv json) (eq-eqb style 0 k) e
-
-  pub lead-csv : (style : ℕ) (csv json : List ℕ) → (style ≡ 0 → ⊥) → style ≡ 1 → r ≡ take room (t ++ csv)
-      → r ≡ take room (t ++ lead_of style csv json)
-  unfolding lead_of
-  lead-csv style csv json k l e =
-      left t (codes "") (pick (eqb style 1) csv json) (ne_eqb style 0 k) (taken t csv json (eq-eqb style 1 l) e)
-
-  pub lead-json : (style : ℕ) (csv json : List ℕ) → (style ≡ 0 → ⊥) → (style ≡ 1 → ⊥) → r ≡ take room (t ++ json)
-      → r ≡ take room (t ++ lead_of style csv json)
-  unfolding lead_of
-  lead-json style csv json k l e =
-      left t (codes "") (pick (eqb style 1) csv json) (ne_eqb style 0 k) (left t csv json (ne_eqb style 1 l) e)
-
-  pub end-json : (style : ℕ) → style ≡ 2 → r ≡ take room (t ++ codes "}") → r ≡ take room (t ++ end_text style)
-  unfolding end_text
-  end-json style k e = taken t (codes "}") (codes "\n") (eq-eqb style 2 k) e
-
-  pub end_line_lem : (style : ℕ) → (style ≡ 2 → ⊥) → r ≡ take room (t ++ codes "\n") → r ≡ take room (t ++ end_text style)
-  unfolding end_text
-  end_line_lem style k e = left t (codes "}") (codes "\n") (ne_eqb style 2 k) e
-
--- gaps
-pub gap_other : (style width long : ℕ) → (style ≡ 0 → ⊥) → (0 ≡ gap_of style width long) × (0 ≤ 32)
-unfolding gap_of
-gap_other style width long k = (sym (pick-false (min (width - long) 32) 0 (ne_eqb style 0 k)), omega arith)
-
-pub gap-table : (style width long n : ℕ) → style ≡ 0 → n ≡ min (width - long) 32 → (n ≡ gap_of style width long)
-    × (n ≤ 32)
-unfolding gap_of
-gap-table style width long n k e = (e ∙ sym (pick_true (min (width - long) 32) 0 (eq-eqb style 0 k)), omega arith)
+  moment-some style clock frame tick k e f g =
+      left t (none_text style) (quote_text style ++ moment_text clock tick ++ quote_text style) (ne_eqb frame 0 k)
+      (then t (quote_text style ++ moment_text clock tick) (quote_text style)
+      (then t (quote_text style) (moment_text clock tick) e f) g)
 
 -- a value put
-pub put-so : (t : List ℕ) (style : ℕ) (csv json : List ℕ) (width : ℕ) (value : List ℕ) (long n : ℕ) {a b r : List ℕ}
+pub put-so : (t : List ℕ) (style : Style) (csv json : List ℕ) (width : ℕ) (value : List ℕ) (long n : ℕ) {a b r : List ℕ}
     → a ≡ take room (t ++ lead_of style csv json)
     → b ≡ take room (a ++ value) → long ≡ length value → n ≡ gap_of style width long → r ≡ take room (b ++ blanks_of n)
     → r ≡ take room (t ++ put_text style csv json width value)
@@ -170,18 +66,18 @@ put-so t style csv json width value long n {a} {b} {r} e f g h q =
     (then t (lead_of style csv json) value e f) (q ∙ ap (λ (j : ℕ). take room (b ++ blanks_of j)) z)
 
 -- a row
-pub row-so : (style : ℕ) (given : Bool) (from : ℕ) (row : Row)
+pub row-so : (style : Style) (clock : Option ℕ) (row : Row)
     {o v1 v2 v3 v4 v5 v6 v7 v8 v9 v10 p1 p2 p3 p4 p5 p6 p7 p8 p9 p10 r : List ℕ} → o ≡ []
     → v1 ≡ take room (o ++ (address_text row.visit.key))
     → v2 ≡ take room (o ++ (kind_text row.visit.key))
     → v3 ≡ take room (o ++ (codes "" ++ decimal (row.visit.key / devices)))
     → v4 ≡ take room (o ++ (frame_or style row.visit.frame))
-    → v5 ≡ take room (o ++ (moment_or style given from row.visit.frame row.visit.tick))
+    → v5 ≡ take room (o ++ (moment_or style clock row.visit.frame row.visit.tick))
     → v6 ≡ take room (o ++ (frame_or style row.frame))
-    → v7 ≡ take room (o ++ (moment_or style given from row.frame row.tick))
+    → v7 ≡ take room (o ++ (moment_or style clock row.frame row.tick))
     → v8 ≡ take room (o ++ (ended_text row.how))
     → v9 ≡ take room (o ++ (codes "" ++ decimal row.visit.packets))
-    → v10 ≡ take room (o ++ (mean_or style row.visit.packets row.visit.sum))
+    → v10 ≡ take room (o ++ (mean_or style (mean_of row.visit.packets row.visit.sum)))
     → p1 ≡ take room (o ++ put_text style (codes "") (codes "{\"device\":\"") 19 v1)
     → p2 ≡ take room (p1 ++ put_text style (codes ",") (codes "\",\"type\":\"") 8 v2)
     → p3 ≡ take room (p2 ++ put_text style (codes ",") (codes "\",\"monitor\":") 9 v3)
@@ -192,9 +88,9 @@ pub row-so : (style : ℕ) (given : Bool) (from : ℕ) (row : Row)
     → p8 ≡ take room (p7 ++ put_text style (codes ",") (codes ",\"ended\":\"") 13 v8)
     → p9 ≡ take room (p8 ++ put_text style (codes ",") (codes "\",\"packets\":") 12 v9)
     → p10 ≡ take room (p9 ++ put_text style (codes ",") (codes ",\"mean_rssi\":") 0 v10)
-    → r ≡ take room (p10 ++ end_text style) → r ≡ take room (row_text style given from row)
+    → r ≡ take room (p10 ++ end_text style) → r ≡ take room (row_text style clock row)
 unfolding row_text cut
-row-so style given from row {o} {v1} {v2} {v3} {v4} {v5} {v6} {v7} {v8} {v9} {v10} {p1} {p2} {p3} {p4} {p5} {p6} {p7}
+row-so style clock row {o} {v1} {v2} {v3} {v4} {v5} {v6} {v7} {v8} {v9} {v10} {p1} {p2} {p3} {p4} {p5} {p6} {p7}
     {p8} {p9} {p10} {r} z a1 a2 a3 a4 a5 a6 a7 a8 a9 a10 b1 b2 b3 b4 b5 b6 b7 b8 b9 b10 c =
     let x1 = put_text style (codes "") (codes "{\"device\":\"") 19 (take room (address_text row.visit.key)) in
     let x2 = put_text style (codes ",") (codes "\",\"type\":\"") 8 (take room (kind_text row.visit.key)) in
@@ -202,15 +98,15 @@ row-so style given from row {o} {v1} {v2} {v3} {v4} {v5} {v6} {v7} {v8} {v9} {v1
     (codes "\",\"monitor\":") 9 (take room (codes "" ++ decimal (row.visit.key / devices))) in
     let x4 = put_text style (codes ",") (codes ",\"start_frame\":") 12 (take room (frame_or style row.visit.frame)) in
     let x5 = put_text style (codes ",") (codes ",\"start\":") 15
-    (take room (moment_or style given from row.visit.frame row.visit.tick)) in
+    (take room (moment_or style clock row.visit.frame row.visit.tick)) in
     let x6 = put_text style (codes ",") (codes ",\"stop_frame\":") 12 (take room (frame_or style row.frame)) in
     let x7 = put_text style (codes ",") (codes ",\"stop\":") 15
-    (take room (moment_or style given from row.frame row.tick)) in
+    (take room (moment_or style clock row.frame row.tick)) in
     let x8 = put_text style (codes ",") (codes ",\"ended\":\"") 13 (take room (ended_text row.how)) in
     let x9 = put_text style (codes ",")
     (codes "\",\"packets\":") 12 (take room (codes "" ++ decimal row.visit.packets)) in
     let x10 = put_text style (codes ",") (codes ",\"mean_rssi\":") 0
-    (take room (mean_or style row.visit.packets row.visit.sum)) in
+    (take room (mean_or style (mean_of row.visit.packets row.visit.sum))) in
     let d1 : v1 ≡ take room (address_text row.visit.key) =
     a1 ∙ ap (λ (l : List ℕ). take room (l ++ (address_text row.visit.key))) z in
     let d2 : v2 ≡ take room (kind_text row.visit.key) =
@@ -219,19 +115,19 @@ row-so style given from row {o} {v1} {v2} {v3} {v4} {v5} {v6} {v7} {v8} {v9} {v1
     a3 ∙ ap (λ (l : List ℕ). take room (l ++ (codes "" ++ decimal (row.visit.key / devices)))) z in
     let d4 : v4 ≡ take room (frame_or style row.visit.frame) =
     a4 ∙ ap (λ (l : List ℕ). take room (l ++ (frame_or style row.visit.frame))) z in
-    let d5 : v5 ≡ take room (moment_or style given from row.visit.frame row.visit.tick) =
-    a5 ∙ ap (λ (l : List ℕ). take room (l ++ (moment_or style given from row.visit.frame row.visit.tick)))
+    let d5 : v5 ≡ take room (moment_or style clock row.visit.frame row.visit.tick) =
+    a5 ∙ ap (λ (l : List ℕ). take room (l ++ (moment_or style clock row.visit.frame row.visit.tick)))
     z in
     let d6 : v6 ≡ take room (frame_or style row.frame) =
     a6 ∙ ap (λ (l : List ℕ). take room (l ++ (frame_or style row.frame))) z in
-    let d7 : v7 ≡ take room (moment_or style given from row.frame row.tick) =
-    a7 ∙ ap (λ (l : List ℕ). take room (l ++ (moment_or style given from row.frame row.tick))) z in
+    let d7 : v7 ≡ take room (moment_or style clock row.frame row.tick) =
+    a7 ∙ ap (λ (l : List ℕ). take room (l ++ (moment_or style clock row.frame row.tick))) z in
     let d8 : v8 ≡ take room (ended_text row.how) =
     a8 ∙ ap (λ (l : List ℕ). take room (l ++ (ended_text row.how))) z in
     let d9 : v9 ≡ take room (codes "" ++ decimal row.visit.packets) =
     a9 ∙ ap (λ (l : List ℕ). take room (l ++ (codes "" ++ decimal row.visit.packets))) z in
-    let d10 : v10 ≡ take room (mean_or style row.visit.packets row.visit.sum) =
-    a10 ∙ ap (λ (l : List ℕ). take room (l ++ (mean_or style row.visit.packets row.visit.sum))) z in
+    let d10 : v10 ≡ take room (mean_or style (mean_of row.visit.packets row.visit.sum)) =
+    a10 ∙ ap (λ (l : List ℕ). take room (l ++ (mean_or style (mean_of row.visit.packets row.visit.sum)))) z in
     let e1 : p1 ≡ take room (o ++ x1) =
     b1 ∙ ap (λ (l : List ℕ). take room (o ++ put_text style (codes "") (codes "{\"device\":\"") 19 l)) d1 in
     let e2 : p2 ≡ take room (p1 ++ x2) =

@@ -2,26 +2,21 @@
 // values, or as a JSON object.
 #![tactic(auto)]
 
-ghost use Rattle.std.specs.Prelude.{◌+◌, ◌/◌, ◌%◌, ◌≤◌, ◌<◌, ◌≡◌, ◌++◌, [], length, take, ◌&&◌, leb};
+ghost use Rattle.std.specs.Prelude.{◌+◌, ◌/◌, ◌%◌, ◌≤◌, ◌<◌, ◌≡◌, ◌++◌, [], length, take, ◌&&◌, leb, IfSome};
 ghost use Rattle.texts.specs.Text.{room, told};
-ghost use Rattle.stays.specs.Clocks.{nine, two_at, is_time, time_in};
+ghost use Rattle.visit.specs.Book.{mean_of};
+ghost use Rattle.stays.specs.Clocks.{nine, two_at, clock_in};
 ghost use Rattle.stays.specs.Rows.{gap_of, none_text, quote_text, day_text, moment_text, frame_or, moment_or, ended_text, mean_or, lead_of, blanks_of, put_text, end_text, row_text};
 
-use texts::{Text, words};
-use visit::Visit;
+use texts::Text;
+use visit::{End, Visit};
 
 // How a row is written.
-pub const TABLE: u8 = 0;
-
-pub const CSV: u8 = 1;
-
-pub const JSON: u8 = 2;
-
-// The clock: whether the time of day at the first tick is known, and that time in ticks.
-#[derive(Clone, Copy)]
-pub struct Clock {
-    pub given: bool,
-    pub from: u32,
+#[derive(Clone, Copy, PartialEq, Eq)]
+pub enum Style {
+    Table,
+    Csv,
+    Json,
 }
 
 // A visit and its end: the frame (0: none), the tick, how.
@@ -30,13 +25,11 @@ pub struct Row {
     pub visit: Visit,
     pub frame: u32,
     pub tick: u32,
-    pub how: u8,
+    pub how: End,
 }
 
-// A day's colon, and what is above every number of two digits.
+// A day's colon.
 const COLON: u8 = b':';
-
-const NO_NUMBER: u32 = 100;
 
 // Ticks of a day.
 const DAY: u64 = 864000;
@@ -44,126 +37,40 @@ const DAY: u64 = 864000;
 // Blanks at most behind a value.
 const WIDEST: usize = 32;
 
-// What is written of what is not known.
-fn none(t: Text, style: u8) -> Text
-    ensures { told result ≡ take room (told t ++ none_text style) }
-{
-    if style == TABLE {
-        return words::with(t, b"-");
-    }
-    if style == CSV {
-        return words::with(t, b"");
-    }
-    words::with(t, b"null")
-}
-
-// The mark around a text in JSON.
-fn quote(t: Text, style: u8) -> Text
-    ensures { told result ≡ take room (told t ++ quote_text style) }
-{
-    if style == JSON {
-        return words::with(t, b"\"");
-    }
-    words::with(t, b"")
-}
-
 // The days since the first tick's.
 pub fn day(t: Text, days: u64) -> Text
     ensures { told result ≡ take room (told t ++ day_text days) }
 {
     if days == 0 {
-        return words::with(t, b"");
+        return t.with(b"");
     }
-    words::said(t, b"+", days)
+    t.said(b"+", days)
 }
 
-// A tick's time: since the first tick, or of the day.
-pub fn moment(t: Text, clock: Clock, tick: u32) -> Text
-    ensures { told result ≡ take room (told t ++ moment_text clock.given clock.from tick) }
+// A tick's time: since the first tick, or of the day where the first tick's is known, in ticks.
+pub fn moment(t: Text, clock: Option<u32>, tick: u32) -> Text
+    ensures { told result ≡ take room (told t ++ moment_text clock tick) }
 {
-    if clock.given {
-        let ticks = clock.from as u64 + tick as u64;
-        return day(texts::time(t, ticks % DAY), ticks / DAY);
+    match clock {
+        Some(from) => {
+            let ticks = from as u64 + tick as u64;
+            day(t.time(ticks % DAY), ticks / DAY)
+        }
+        None => t.time(tick as u64),
     }
-    texts::time(t, tick as u64)
-}
-
-// A frame's number, where there is one.
-fn frame_or(t: Text, style: u8, frame: u32) -> Text
-    ensures { told result ≡ take room (told t ++ frame_or style frame) }
-{
-    if frame == 0 {
-        return none(t, style);
-    }
-    words::said(t, b"", frame as u64)
-}
-
-// Its time.
-fn moment_or(t: Text, style: u8, clock: Clock, frame: u32, tick: u32) -> Text
-    ensures { told result ≡ take room (told t ++ moment_or style clock.given clock.from frame tick) }
-{
-    if frame == 0 {
-        return none(t, style);
-    }
-    let a = quote(t, style);
-    let b = moment(a, clock, tick);
-    quote(b, style)
 }
 
 // How a visit ended, in words.
-pub fn ended(t: Text, how: u8) -> Text
+#[tactic(auto, unfolding(crate::specs::Rows::ended_text, model::specs::Quoted::codes))]
+pub fn ended(t: Text, how: End) -> Text
     ensures { told result ≡ take room (told t ++ ended_text how) }
 {
-    if how == visit::SILENCE {
-        return words::with(t, b"silence");
+    match how {
+        End::Silence => t.with(b"silence"),
+        End::Full => t.with(b"full table"),
+        End::Cancelled => t.with(b"cancelled"),
+        End::There => t.with(b"still there"),
     }
-    if how == visit::FULL {
-        return words::with(t, b"full table");
-    }
-    if how == visit::CANCELLED {
-        return words::with(t, b"cancelled");
-    }
-    words::with(t, b"still there")
-}
-
-// The mean RSSI in dBm, where packets were heard.
-fn mean_or(t: Text, style: u8, packets: u64, sum: u64) -> Text
-    ensures { told result ≡ take room (told t ++ mean_or style packets sum) }
-{
-    if packets == 0 {
-        return none(t, style);
-    }
-    texts::level(t, visit::mean(packets, sum))
-}
-
-// What stands before a value: nothing in a table.
-fn lead(t: Text, style: u8, csv: &[u8], json: &[u8]) -> Text
-    ensures { told result ≡ take room (told t ++ lead_of style csv.now json.now) }
-{
-    if style == TABLE {
-        return words::with(t, b"");
-    }
-    if style == CSV {
-        return words::with(t, csv);
-    }
-    words::with(t, json)
-}
-
-// How many blanks follow a value of so many characters: as many as its column has left, in a table.
-fn gap(style: u8, width: usize, long: usize) -> usize
-    ensures { (result ≡ gap_of style width long) × (result ≤ 32) }
-{
-    if style != TABLE {
-        return 0;
-    }
-    if width <= long {
-        return 0;
-    }
-    let n = width - long;
-    if n <= WIDEST {
-        return n;
-    }
-    WIDEST
 }
 
 // Blanks behind a value.
@@ -172,79 +79,153 @@ fn blanks(t: Text, n: usize) -> Text
     ensures { told result ≡ take room (told t ++ blanks_of n) }
 {
     let all = [b' '; WIDEST];
-    words::with(t, &all[..n])
+    t.with(&all[..n])
 }
 
 // A text behind another.
 fn append(t: Text, value: Text) -> Text
     ensures { told result ≡ take room (told t ++ told value) }
 {
-    let octets = value.octets;
-    let n = value.count;
-    if n <= texts::ROOM {
-        return words::with(t, &octets[..n]);
-    }
-    words::with(t, &octets)
+    t.with(value.as_slice())
 }
 
 // The characters of a text.
 fn long(t: Text) -> usize
     ensures { result ≡ length (told t) }
 {
-    if t.count <= texts::ROOM {
-        return t.count;
-    }
-    texts::ROOM
+    t.as_slice().len()
 }
 
-// A value behind its lead, and the blanks behind it.
-fn put(t: Text, style: u8, csv: &[u8], json: &[u8], value: Text, width: usize) -> Text
-    ensures { told result
-        ≡ take room (told t ++ put_text style csv.now json.now width (told value)) }
-{
-    let a = lead(t, style, csv, json);
-    let b = append(a, value);
-    let n = gap(style, width, long(value));
-    blanks(b, n)
-}
-
-// The end of a row.
-fn end(t: Text, style: u8) -> Text
-    ensures { told result ≡ take room (told t ++ end_text style) }
-{
-    if style == JSON {
-        return words::with(t, b"}");
+impl Style {
+    // What is written of what is not known.
+    #[tactic(auto, unfolding(crate::specs::Rows::none_text, model::specs::Quoted::codes))]
+    fn none(self, t: Text) -> Text
+        ensures { told result ≡ take room (told t ++ none_text self) }
+    {
+        match self {
+            Style::Table => t.with(b"-"),
+            Style::Csv => t.with(b""),
+            Style::Json => t.with(b"null"),
+        }
     }
-    words::with(t, b"\n")
+
+    // The mark around a text in JSON.
+    #[tactic(auto, unfolding(crate::specs::Rows::quote_text, model::specs::Quoted::codes))]
+    fn quote(self, t: Text) -> Text
+        ensures { told result ≡ take room (told t ++ quote_text self) }
+    {
+        match self {
+            Style::Json => t.with(b"\""),
+            _ => t.with(b""),
+        }
+    }
+
+    // A frame's number, where there is one.
+    fn frame(self, t: Text, frame: u32) -> Text
+        ensures { told result ≡ take room (told t ++ frame_or self frame) }
+    {
+        if frame == 0 {
+            return self.none(t);
+        }
+        t.said(b"", frame as u64)
+    }
+
+    // Its time.
+    fn moment(self, t: Text, clock: Option<u32>, frame: u32, tick: u32) -> Text
+        ensures { told result ≡ take room (told t ++ moment_or self clock frame tick) }
+    {
+        if frame == 0 {
+            return self.none(t);
+        }
+        let a = self.quote(t);
+        let b = moment(a, clock, tick);
+        self.quote(b)
+    }
+
+    // The mean RSSI in dBm, where packets were heard.
+    #[tactic(auto, unfolding(crate::specs::Rows::mean_or))]
+    fn mean(self, t: Text, mean: Option<u8>) -> Text
+        ensures { told result ≡ take room (told t ++ mean_or self mean) }
+    {
+        match mean {
+            Some(level) => t.level(level),
+            None => self.none(t),
+        }
+    }
+
+    // What stands before a value: nothing in a table.
+    #[tactic(auto, unfolding(crate::specs::Rows::lead_of, model::specs::Quoted::codes))]
+    fn lead(self, t: Text, csv: &[u8], json: &[u8]) -> Text
+        ensures { told result ≡ take room (told t ++ lead_of self csv.now json.now) }
+    {
+        match self {
+            Style::Table => t.with(b""),
+            Style::Csv => t.with(csv),
+            Style::Json => t.with(json),
+        }
+    }
+
+    // How many blanks follow a value of so many characters: as many as its column has left, in a table.
+    #[tactic(auto, unfolding(crate::specs::Rows::gap_of))]
+    fn gap(self, width: usize, long: usize) -> usize
+        ensures { (result ≡ gap_of self width long) × (result ≤ 32) }
+    {
+        match self {
+            Style::Table => width.saturating_sub(long).min(WIDEST),
+            _ => 0,
+        }
+    }
+
+    // A value behind its lead, and the blanks behind it.
+    fn put(self, t: Text, csv: &[u8], json: &[u8], value: Text, width: usize) -> Text
+        ensures { told result
+            ≡ take room (told t ++ put_text self csv.now json.now width (told value)) }
+    {
+        let a = self.lead(t, csv, json);
+        let b = append(a, value);
+        let n = self.gap(width, long(value));
+        blanks(b, n)
+    }
+
+    // The end of a row.
+    #[tactic(auto, unfolding(crate::specs::Rows::end_text, model::specs::Quoted::codes))]
+    fn end(self, t: Text) -> Text
+        ensures { told result ≡ take room (told t ++ end_text self) }
+    {
+        match self {
+            Style::Json => t.with(b"}"),
+            _ => t.with(b"\n"),
+        }
+    }
 }
 
 // A visit's row.
-pub fn written(style: u8, clock: Clock, row: Row) -> Text
-    ensures { told result ≡ take room (row_text style clock.given clock.from row) }
+pub fn written(style: Style, clock: Option<u32>, row: Row) -> Text
+    ensures { told result ≡ take room (row_text style clock row) }
 {
     let v = row.visit;
-    let o = words::blank();
-    let v1 = texts::address(o, v.key);
-    let v2 = texts::kind(o, v.key);
-    let v3 = words::said(o, b"", v.key / visit::DEVICES);
-    let v4 = frame_or(o, style, v.frame);
-    let v5 = moment_or(o, style, clock, v.frame, v.tick);
-    let v6 = frame_or(o, style, row.frame);
-    let v7 = moment_or(o, style, clock, row.frame, row.tick);
+    let o = Text::blank();
+    let v1 = o.address(v.key);
+    let v2 = o.kind(v.key);
+    let v3 = o.said(b"", v.key / visit::DEVICES);
+    let v4 = style.frame(o, v.frame);
+    let v5 = style.moment(o, clock, v.frame, v.tick);
+    let v6 = style.frame(o, row.frame);
+    let v7 = style.moment(o, clock, row.frame, row.tick);
     let v8 = ended(o, row.how);
-    let v9 = words::said(o, b"", v.packets);
-    let v10 = mean_or(o, style, v.packets, v.sum);
-    let p1 = put(o, style, b"", b"{\"device\":\"", v1, 19);
-    let p2 = put(p1, style, b",", b"\",\"type\":\"", v2, 8);
-    let p3 = put(p2, style, b",", b"\",\"monitor\":", v3, 9);
-    let p4 = put(p3, style, b",", b",\"start_frame\":", v4, 12);
-    let p5 = put(p4, style, b",", b",\"start\":", v5, 15);
-    let p6 = put(p5, style, b",", b",\"stop_frame\":", v6, 12);
-    let p7 = put(p6, style, b",", b",\"stop\":", v7, 15);
-    let p8 = put(p7, style, b",", b",\"ended\":\"", v8, 13);
-    let p9 = put(p8, style, b",", b"\",\"packets\":", v9, 12);
-    let p10 = put(p9, style, b",", b",\"mean_rssi\":", v10, 0);
-    end(p10, style)
+    let v9 = o.said(b"", v.packets);
+    let v10 = style.mean(o, v.mean());
+    let p1 = style.put(o, b"", b"{\"device\":\"", v1, 19);
+    let p2 = style.put(p1, b",", b"\",\"type\":\"", v2, 8);
+    let p3 = style.put(p2, b",", b"\",\"monitor\":", v3, 9);
+    let p4 = style.put(p3, b",", b",\"start_frame\":", v4, 12);
+    let p5 = style.put(p4, b",", b",\"start\":", v5, 15);
+    let p6 = style.put(p5, b",", b",\"stop_frame\":", v6, 12);
+    let p7 = style.put(p6, b",", b",\"stop\":", v7, 15);
+    let p8 = style.put(p7, b",", b",\"ended\":\"", v8, 13);
+    let p9 = style.put(p8, b",", b"\",\"packets\":", v9, 12);
+    let p10 = style.put(p9, b",", b",\"mean_rssi\":", v10, 0);
+    style.end(p10)
 }
 
 // Whether a character is a decimal digit.
@@ -254,31 +235,37 @@ fn is_digit(c: u8) -> bool
     (b'0' <= c) & (c <= b'9')
 }
 
-// The number of the two decimal digits at an index of a word; 100 where there are none.
-fn two_at(word: &[u8], at: usize) -> u32
+// The number of the two decimal digits at an index of a word, below a limit.
+fn two_at(word: &[u8], at: usize, limit: u32) -> Option<u32>
     requires { at ≤ 6 }
-    ensures { (result ≡ two_at word.now at) × (result ≤ 100) }
+    ensures value { result ≡ two_at word.now at limit }
+    ensures below { IfSome result (λ n. n < limit) }
 {
     let a = octets::get8(word, at);
     let b = octets::get8(word, at + 1);
     if is_digit(a) & is_digit(b) {
-        return 10 * (a - 48) as u32 + (b - 48) as u32;
+        let tens = a - 48;
+        let ones = b - 48;
+        let n = 10 * tens as u32 + ones as u32;
+        if n < limit {
+            return Some(n);
+        }
     }
-    NO_NUMBER
+    None
 }
 
-// The clock that a word gives: hh:mm:ss, a time of day.
-pub fn clock_of(word: &[u8]) -> Clock
-    ensures { (result.given ≡ is_time word.now) × (result.from ≡ time_in word.now) }
+// The clock that a word gives: hh:mm:ss, a time of day, in ticks.
+pub fn clock_of(word: &[u8]) -> Option<u32>
+    ensures { result ≡ clock_in word.now }
 {
-    let h = two_at(word, 0);
-    let m = two_at(word, 3);
-    let s = two_at(word, 6);
     let first = octets::get8(word, 2) == COLON;
     let second = octets::get8(word, 5) == COLON;
     let form = (word.len() == 8) & first & second;
-    Clock {
-        given: form & ((h < 24) & (m < 60) & (s < 60)),
-        from: (h * 3600 + m * 60 + s) * 10,
+    if !form {
+        return None;
     }
+    let h = two_at(word, 0, 24)?;
+    let m = two_at(word, 3, 60)?;
+    let s = two_at(word, 6, 60)?;
+    Some((h * 3600 + m * 60 + s) * 10)
 }

@@ -27,6 +27,14 @@ joined xs ws e q = q ∙ ap (λ (l : List ℕ). take room (l ++ ws)) e ∙ cut_a
 pub whole : (xs : List ℕ) {t : List ℕ} → t ≡ take room xs → length xs ≤ room → t ≡ xs
 whole xs e h = e ∙ take_all room xs h
 
+-- a text of at most room octets: as many of them as it has characters
+pub cut-so : (octets : List ℕ) (count at : ℕ) → length octets ≡ room → at ≡ min count room
+    → take at octets ≡ take count octets
+cut-so octets count at l a =
+    sym (cases-le count room
+    (λ (x : count ≤ room). ap (λ (j : ℕ). take j octets) (let z : count ≡ at = omega arith in z))
+    (λ (x : room < count). take_all count octets (omega arith) ∙ sym (take_all at octets (omega arith))))
+
 -- words behind a text of so many characters
 pub with-so : (octets words out : List ℕ) (count at n : ℕ) (b : Bool) → length octets ≡ room → at ≡ min count room
     → n ≡ min (length words) (room - at)
@@ -41,9 +49,7 @@ with-so octets words out count at n b l a c p q =
     let h : length (take at octets ++ take n words) ≡ at + n =
     length-append (take at octets) (take n words)
     ∙ (let k = length-take-le at octets (omega arith) in omega (arith, k, w)) in
-    let i : take count octets ≡ take at octets = cases-le count room
-    (λ (x : count ≤ room). ap (λ (j : ℕ). take j octets) (let z : count ≡ at = omega arith in z))
-    (λ (x : room < count). take_all count octets (omega arith) ∙ sym (take_all at octets (omega arith))) in
+    let i : take count octets ≡ take at octets = sym (cut-so octets count at l a) in
     let t : take (at + n) out ≡ take at octets ++ take n words =
     ap (λ (x : List ℕ). take (at + n) x) o
     ∙ take_at (take at octets ++ take n words) (drop (at + length (take n words)) octets) (at + n) h in

@@ -1,13 +1,12 @@
-// Texts put together: words and numbers (`words`), addresses, types, times, levels. Each is put behind a text, as far
-// as there is room.
+// Texts put together: words and numbers, addresses, types, times, levels. Each is put behind a text, as far as there
+// is room.
 #![tactic(auto)]
 
-ghost use Rattle.std.specs.Prelude.{◌+◌, ◌*◌, ◌/◌, ◌%◌, ◌≤◌, ◌<◌, ◌≡◌, ◌++◌, take};
+ghost use Rattle.std.specs.Prelude.{◌+◌, ◌*◌, ◌/◌, ◌%◌, ◌≤◌, ◌<◌, ◌≡◌, ◌++◌, [], length, take};
+ghost use Rattle.decimals.specs.Decimals.{decimal};
 ghost use Rattle.lines.specs.Hex.{digit as hex_digit};
 ghost use Rattle.texts.specs.Text.{room, told};
 ghost use Rattle.texts.specs.Words.{pair_of, colon_pair, address_text, kind_text, two_of, time_text, level_text};
-
-pub mod words;
 
 // More characters than any message has.
 pub const ROOM: usize = 256;
@@ -47,68 +46,113 @@ fn octet(v: u64) -> u8
     (v % 256) as u8
 }
 
-// An octet as two hexadecimal digits.
-pub fn pair(t: Text, x: u8) -> Text
-    ensures { told result ≡ take room (told t ++ pair_of x) }
-{
-    let two = [digit(x / 16), digit(x % 16)];
-    words::with(t, &two)
-}
-
-// A number's last octet behind a colon.
-fn colon_pair(t: Text, v: u64) -> Text
-    ensures { told result ≡ take room (told t ++ colon_pair v) }
-{
-    pair(words::with(t, b":"), octet(v))
-}
-
-// The address of a device as people write it, the most significant octet first. A device is a number: its type and
-// 256 times its address.
-pub fn address(t: Text, device: u64) -> Text
-    ensures { told result ≡ take room (told t ++ address_text device) }
-{
-    let a = pair(t, octet(device / 281474976710656));
-    let b = colon_pair(a, device / 1099511627776);
-    let c = colon_pair(b, device / 4294967296);
-    let d = colon_pair(c, device / 16777216);
-    let e = colon_pair(d, device / 65536);
-    colon_pair(e, device / 256)
-}
-
-// Its type in a word.
-pub fn kind(t: Text, device: u64) -> Text
-    ensures { told result ≡ take room (told t ++ kind_text device) }
-{
-    if device % 256 == 0 {
-        return words::with(t, b"public");
+impl Text {
+    // No text yet.
+    pub fn blank() -> Text
+        ensures { told result ≡ [] }
+    {
+        Text {
+            octets: [0u8; ROOM],
+            count: 0,
+        }
     }
-    words::with(t, b"random")
-}
 
-// A number below 100 as two decimal digits.
-fn two(t: Text, n: u64) -> Text
-    ensures { told result ≡ take room (told t ++ two_of n) }
-{
-    let digits = [octet(48 + n / 10 % 10), octet(48 + n % 10)];
-    words::with(t, &digits)
-}
-
-// A time of so many ticks: hours, minutes, seconds and tenths.
-pub fn time(t: Text, ticks: u64) -> Text
-    ensures { told result ≡ take room (told t ++ time_text ticks) }
-{
-    let hours = words::said(t, b"", ticks / HOUR);
-    let minutes = two(words::with(hours, b":"), ticks / MINUTE % 60);
-    let seconds = two(words::with(minutes, b":"), ticks / SECOND % 60);
-    words::said(seconds, b".", ticks % SECOND)
-}
-
-// A level in dBm, kept as a number that is 128 more.
-pub fn level(t: Text, x: u8) -> Text
-    ensures { told result ≡ take room (told t ++ level_text x) }
-{
-    if x < ZERO {
-        return words::said(t, b"-", (ZERO - x) as u64);
+    // Its characters.
+    pub fn as_slice(&self) -> &[u8]
+        ensures { result.now ≡ told self.now }
+    {
+        &self.octets[..self.count.min(ROOM)]
     }
-    words::said(t, b"", (x - ZERO) as u64)
+
+    // The text and words behind it, as far as there is room.
+    pub fn with(self, words: &[u8]) -> Text
+        ensures { told result ≡ take room (told self ++ words.now) }
+    {
+        let mut octets = self.octets;
+        let at = self.count.min(ROOM);
+        let n = words.len().min(ROOM - at);
+        parts::copy(&mut octets, at, &words[..n]);
+        Text {
+            octets,
+            count: at + n,
+        }
+    }
+
+    // The text, words and a number behind it.
+    pub fn said(self, words: &[u8], n: u64) -> Text
+        ensures { told result ≡ take room (told self ++ (words.now ++ decimal n)) }
+    {
+        let mut digits = [0u8; decimals::MOST];
+        let k = decimals::write(&mut digits, n, decimals::MOST - 1);
+        let before = self.with(words);
+        before.with(&digits[..k])
+    }
+
+    // An octet as two hexadecimal digits.
+    pub fn pair(self, x: u8) -> Text
+        ensures { told result ≡ take room (told self ++ pair_of x) }
+    {
+        let two = [digit(x / 16), digit(x % 16)];
+        self.with(&two)
+    }
+
+    // A number's last octet behind a colon.
+    fn colon_pair(self, v: u64) -> Text
+        ensures { told result ≡ take room (told self ++ colon_pair v) }
+    {
+        self.with(b":").pair(octet(v))
+    }
+
+    // The address of a device as people write it, the most significant octet first. A device is a number: its type and
+    // 256 times its address.
+    pub fn address(self, device: u64) -> Text
+        ensures { told result ≡ take room (told self ++ address_text device) }
+    {
+        self.pair(octet(device / 281474976710656))
+            .colon_pair(device / 1099511627776)
+            .colon_pair(device / 4294967296)
+            .colon_pair(device / 16777216)
+            .colon_pair(device / 65536)
+            .colon_pair(device / 256)
+    }
+
+    // Its type in a word.
+    pub fn kind(self, device: u64) -> Text
+        ensures { told result ≡ take room (told self ++ kind_text device) }
+    {
+        if device % 256 == 0 {
+            return self.with(b"public");
+        }
+        self.with(b"random")
+    }
+
+    // A number below 100 as two decimal digits.
+    fn two(self, n: u64) -> Text
+        ensures { told result ≡ take room (told self ++ two_of n) }
+    {
+        let digits = [octet(48 + n / 10 % 10), octet(48 + n % 10)];
+        self.with(&digits)
+    }
+
+    // A time of so many ticks: hours, minutes, seconds and tenths.
+    pub fn time(self, ticks: u64) -> Text
+        ensures { told result ≡ take room (told self ++ time_text ticks) }
+    {
+        self.said(b"", ticks / HOUR)
+            .with(b":")
+            .two(ticks / MINUTE % 60)
+            .with(b":")
+            .two(ticks / SECOND % 60)
+            .said(b".", ticks % SECOND)
+    }
+
+    // A level in dBm, kept as a number that is 128 more.
+    pub fn level(self, x: u8) -> Text
+        ensures { told result ≡ take room (told self ++ level_text x) }
+    {
+        if x < ZERO {
+            return self.said(b"-", u64::from(ZERO - x));
+        }
+        self.said(b"", u64::from(x - ZERO))
+    }
 }

@@ -286,6 +286,18 @@ unfolding told_on says_row when
 length-told true period filters prefix r h n = simp append-nil (length-says true period filters r h)
 length-told false period filters prefix r h n = omega (arith, length-event prefix r 0 (omega arith))
 
+-- what a tick writes for a row, by whether its watch goes on
+module _ (on : Bool) (period : ℕ) (filters prefix r : List ℕ) {out m : List ℕ} {at n : ℕ} where
+  pub told-stays : on ≡ true → Appended out m at n (when (says_row true period filters r) (report_row r))
+      → Appended out m at n (told_on on period filters prefix r)
+  unfolding told_on when
+  told-stays e a = rw (e, append-nil) a
+
+  pub told-ends : on ≡ false → Appended out m at n (event_octets prefix r 0)
+      → Appended out m at n (told_on on period filters prefix r)
+  unfolding told_on says_row when
+  told-ends e a = rw e a
+
 -- room for a stop event behind a report: there is only one of them
 pub stop-room : (on : Bool) (period : ℕ) (filters : List ℕ) (prefix r : List ℕ) (at j n : ℕ) → length r ≡ pair_size
     → length prefix ≤ most_prefix

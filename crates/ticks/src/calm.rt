@@ -65,14 +65,12 @@ pub(super) fn calm_rows(
     ensures { (from ≤ result) × (result ≤ n)
         × CalmOn intervals.now periods.now t.old t.new from from result }
 {
-    let mut i = from;
-    while i < n {
+    for i in from..n {
         let start = State::PAIR_ROW * i;
         let end = start + State::PAIR_ROW;
         if !calm_row(&mut t[start..end], intervals, periods) {
             return i;
         }
-        i += 1;
     }
     n
 }

@@ -12,10 +12,8 @@ pub(super) fn column(s: &[u8], at: usize) -> [u8; State::MONITORS]
     ensures { result ≡ column_of s.now at most_monitors }
 {
     let mut r = [0u8; State::MONITORS];
-    let mut h = 0;
-    while h < State::MONITORS {
+    for h in 0..State::MONITORS {
         r[h] = s[at + State::MONITOR_ROW * h];
-        h += 1;
     }
     r
 }
@@ -36,15 +34,13 @@ pub(super) fn filters_of(s: &[u8], filter: u8) -> [u8; State::MONITORS]
     ensures { result ≡ column_by (filter_in s.now filter) most_monitors }
 {
     let mut r = [0u8; State::MONITORS];
-    let mut h = 0;
-    while h < State::MONITORS {
+    for h in 0..State::MONITORS {
         let at = State::MONITORS_AT + State::MONITOR_ROW * h;
         r[h] = filter_at(
             filter,
             s[at + State::OPTIONS_AT],
             s[at + State::FILTERING_AT],
         );
-        h += 1;
     }
     r
 }

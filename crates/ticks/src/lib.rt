@@ -25,7 +25,7 @@ use state::{Seconds, State, Ticks};
 fn stays(silent: Ticks, run: Ticks) -> bool
     ensures { result ≡ ltb (silent.0 + 1) run.0 }
 {
-    silent.0 as u32 + 1 < run.0 as u32
+    u32::from(silent.0) + 1 < u32::from(run.0)
 }
 
 // Empties the window of a row: its ticks, packets and sum, and the latest packet. The kept RSSI between them stays.
@@ -116,13 +116,15 @@ fn tick_row(
     let run = Seconds(tells::octet_at(intervals, handle)).ticks();
     let period = tells::octet_at(periods, handle);
     let silent = Ticks(octets::get16(t, start + State::SILENT_AT));
-    let on = stays(silent, run);
-    let wrote = at + tells::tell(&t[start..end], out, at, on, period, filters, prefix);
-    if on {
+    if stays(silent, run) {
+        let wrote = at + tells::tell_window(&t[start..end], out, at, period, filters);
         keep_row(t, kept, i, period);
-        let next = kept + 1;
-        return Turn { kept: next, wrote };
+        return Turn {
+            kept: kept + 1,
+            wrote,
+        };
     }
+    let wrote = at + tells::tell_stop(&t[start..end], out, at, prefix);
     Turn { kept, wrote }
 }
 
@@ -150,6 +152,7 @@ fn tick_rest(
         (kept_at intervals.now periods.now t₀)
         (told_at intervals.now periods.now filters.now prefix.now t₀) n) }
 {
+    // Kept: a `while`, as a turn goes over as many rows as are calm behind it, which a `for` cannot.
     let mut i = from;
     let mut kept = from;
     let mut wrote = 0;

@@ -1,12 +1,12 @@
 // What a tick writes for a pair: the report of a window that closes, the stop event of a watch that ends (document
 // 01, Watching, by history).
-ghost use Rattle.std.specs.Prelude.{◌+◌, ◌*◌, ◌≤◌, ◌<◌, ◌≡◌, not, length, get_or};
+ghost use Rattle.std.specs.Prelude.{◌+◌, ◌*◌, ◌≤◌, ◌<◌, ◌≡◌, true, length, get_or};
 ghost use Rattle.laws.specs.Loops.{when};
 ghost use Rattle.laws.specs.Rows.{row};
 ghost use Rattle.octets.specs.Little.{little};
 ghost use Rattle.model.specs.Level.{mean};
 ghost use Rattle.events.specs.Octets.{event_octets};
-ghost use Rattle.ticks.specs.Row.{windowed_by, closes_at, report_row, says_row, told_on};
+ghost use Rattle.ticks.specs.Row.{windowed_by, closes_at, report_row, says_row};
 ghost use Rattle.ticks.specs.Written.{Appended};
 ghost use Rattle.model.specs.Layout.{report_most, length_at, most_data, most_prefix, packets_at, pair_size};
 
@@ -24,7 +24,7 @@ pub(super) fn closes(period: u8, ticks: u8) -> bool
     ensures { result ≡ closes_at period ticks }
 {
     let some = windowed(period);
-    some & (period as u16 <= ticks as u16 + 1)
+    some & (u16::from(period) <= u16::from(ticks) + 1)
 }
 
 // The mean RSSI of a window's packets: the greatest whole number not above sum / packets, as an octet. A sum below 0 is
@@ -44,17 +44,14 @@ fn mean_of(sum: u64, packets: u64) -> u8
 pub(super) fn octet_at(xs: &[u8], i: usize) -> u8
     ensures { result ≡ get_or xs.now i 0 }
 {
-    if i < xs.len() {
-        return xs[i];
-    }
-    0
+    xs.get(i).copied().unwrap_or(0)
 }
 
 // Whether a pair that stays reports its window, with the report filtering by handle. Most ticks close none, so that
 // is asked first.
-fn says(r: &[u8], on: bool, period: u8, filters: &[u8]) -> bool
+fn says(r: &[u8], period: u8, filters: &[u8]) -> bool
     requires { length r.now ≡ pair_size }
-    ensures { result ≡ says_row on period filters.now r.now }
+    ensures { result ≡ says_row true period filters.now r.now }
 {
     if !closes(period, r[State::TICKS_AT]) {
         return false;
@@ -62,7 +59,7 @@ fn says(r: &[u8], on: bool, period: u8, filters: &[u8]) -> bool
     let packets = octets::get32(r, State::PACKETS_AT);
     let filter = octet_at(filters, r[0] as usize);
     let through = state::lets_through(filter, r[State::EVENT_AT]);
-    on & ((1 <= packets) & ((r[State::LENGTH_AT] <= State::MOST_DATA) & through))
+    (1 <= packets) & ((r[State::LENGTH_AT] <= State::MOST_DATA) & through)
 }
 
 // Appends the report of a window.
@@ -84,47 +81,23 @@ fn put_window(r: &[u8], out: &mut [u8], at: usize) -> usize
     )
 }
 
-// Appends the report of a window where there is one.
-fn tell_window(r: &[u8], out: &mut [u8], at: usize, on: bool, period: u8, filters: &[u8]) -> usize
+// Appends what a tick writes for a pair that stays: the report of its window where there is one.
+pub(super) fn tell_window(r: &[u8], out: &mut [u8], at: usize, period: u8, filters: &[u8]) -> usize
     requires { (length r.now ≡ pair_size) × (at + report_most ≤ length out.old) }
     ensures { Appended out.old out.new at result
-        (when (says_row on period filters.now r.now) (report_row r.now)) }
+        (when (says_row true period filters.now r.now) (report_row r.now)) }
 {
-    if says(r, on, period, filters) {
+    if says(r, period, filters) {
         return put_window(r, out, at);
     }
     0
 }
 
-// Appends the stop event of a watch that ends.
-fn tell_stop(r: &[u8], out: &mut [u8], at: usize, on: bool, prefix: &[u8]) -> usize
-    requires { (length r.now ≡ pair_size) × (length prefix.now ≤ most_prefix)
-        × (at + length (when (not on) (event_octets prefix.now r.now 0)) ≤ length out.old) }
-    ensures { Appended out.old out.new at result
-        (when (not on) (event_octets prefix.now r.now 0)) }
-{
-    if on {
-        return 0;
-    }
-    events::put_event(out, at, prefix, r, 0)
-}
-
-// Appends what a tick writes for a row: the report of its window, or the stop event of its watch, or nothing.
-pub(super) fn tell(
-    r: &[u8],
-    out: &mut [u8],
-    at: usize,
-    on: bool,
-    period: u8,
-    filters: &[u8],
-    prefix: &[u8],
-) -> usize
+// Appends what a tick writes for a pair whose watch ends: its stop event.
+pub(super) fn tell_stop(r: &[u8], out: &mut [u8], at: usize, prefix: &[u8]) -> usize
     requires { (length r.now ≡ pair_size) × (length prefix.now ≤ most_prefix)
         × (at + report_most ≤ length out.old) }
-    ensures { Appended out.old out.new at result
-        (told_on on period filters.now prefix.now r.now) }
+    ensures { Appended out.old out.new at result (event_octets prefix.now r.now 0) }
 {
-    let report = tell_window(r, out, at, on, period, filters);
-    let stop = tell_stop(r, out, at + report, on, prefix);
-    report + stop
+    events::put_event(out, at, prefix, r, 0)
 }

@@ -1,8 +1,8 @@
 -- Laws of the definitions in Gains.
 use Prim.Native.Nat.{ℕ, zero, suc, ◌+◌, ◌≤◌, ◌<◌}
-use Rattle.std.specs.Prelude.{◌≡◌, Bool, ◌&&◌, eqb, ℤ, pos, ◌-ℤ◌, length, take, get_or, set, replicate}
+use Rattle.std.specs.Prelude.{◌≡◌, Bool, eqb, ℤ, pos, ◌-ℤ◌, length, take, get_or, set, replicate}
 use Rattle.std.proofs.Math.Path.{refl, sym, ap}
-use Rattle.std.proofs.Common.{ap₂, ◌∙◌, add-one, arith, SFits, to_z, of_z}
+use Rattle.std.proofs.Common.{ap₂, ◌∙◌, arith}
 use mathlib.Core.List.{List, [], ◌∷◌, map}
 use Rattle.std.proofs.Math.Bool.{true, false}
 use Rattle.std.proofs.Math.IntN.{sub_ℕ}
@@ -10,7 +10,7 @@ use Rattle.std.specs.Int.Signed.{mag}
 use Rattle.std.proofs.lemmas.List.{length-map}
 use lib.Seq.{take_all}
 use Rattle.std.specs.Int.{w64}
-use Rattle.std.proofs.lemmas.Int.{to_z-of_z, to_z_pos}
+use Rattle.std.proofs.lemmas.Int.{to_z-of_z}
 use borrow.Author.Tests.{eq-eqb, lt-ltb, le-ltb}
 use Rattle.laws.specs.Put.{put}
 use Rattle.laws.specs.PutLaws.{put_copy, put-nil, length-put, get_d-put-after}
@@ -19,6 +19,7 @@ use Rattle.laws.specs.Tests.{pick}
 use Rattle.laws.specs.TestsLaws.{pick_true, and_left, and_right, cases-le}
 use Rattle.totals.specs.declared.Row.{Row}
 use Rattle.totals.specs.declared.Gain.{Gain}
+use Rattle.totals.specs.SumsLaws.{back}
 use Rattle.totals.specs.Two.{every_two, map_two}
 use Rattle.totals.specs.TwoLaws.{length-map-two, get_d-map-two}
 use Rattle.totals.specs.Table.{empty, table_rows, row_fits, row_sum}
@@ -33,19 +34,15 @@ sub-mag : (n : ℕ) → n < 256 → mag (sub_ℕ n 128) < 9223372036854775808
 sub-mag n h = cases-le 128 n (λ (u : 128 ≤ n). rw (le-ltb n 128 u) (omega arith))
     (λ (u : n < 128). rw (lt-ltb n 128 u) (omega arith))
 
-sub_is : (n : ℕ) → n < 256 → to_z w64 n -ℤ pos 128 ≡ sub_ℕ n 128
-sub_is n h = ap (λ (z : ℤ). z -ℤ pos 128) (to_z_pos w64 n (omega arith))
+pub level-reads : (n : ℕ) → n < 256 → {z : ℤ} → z ≡ pos n → back (back z -ℤ pos 128) ≡ sub_ℕ n 128
+level-reads n h {z} e =
+    let k : back z ≡ pos n = ap back e ∙ to_z-of_z w64 (pos n) (record { sfits = omega arith }) in
+    ap (λ (y : ℤ). back (y -ℤ pos 128)) k ∙ to_z-of_z w64 (sub_ℕ n 128) (record { sfits = sub-mag n h })
 
-pub level-fits : (n : ℕ) → n < 256 → SFits w64 (to_z w64 n -ℤ pos 128)
-level-fits n h = rw (sub_is n h) (record { sfits = sub-mag n h })
-
-pub level-reads : (n : ℕ) → n < 256 → to_z w64 (of_z w64 (to_z w64 n -ℤ pos 128)) ≡ sub_ℕ n 128
-level-reads n h = to_z-of_z w64 (to_z w64 n -ℤ pos 128) (level-fits n h) ∙ sub_is n h
-
-pub wide-made : (g : Gain) {z : ℤ} → g.level < 256 → z ≡ sub_ℕ g.level 128
-    → record { packets = g.packets; reports = g.reports; ticks = g.ticks; sum = z } ≡ wide_row g
+pub wide-made : (g : Gain) {p r t : ℕ} {z : ℤ} → p ≡ g.packets → r ≡ g.reports → t ≡ g.ticks
+    → z ≡ sub_ℕ g.level 128 → record { packets = p; reports = r; ticks = t; sum = z } ≡ wide_row g
 unfolding wide_row
-wide-made g h e = λ i. record { packets = g.packets; reports = g.reports; ticks = g.ticks; sum = e i }
+wide-made g ep er et e = λ i. record { packets = ep i; reports = er i; ticks = et i; sum = e i }
 
 -- no gains, and one gain put in its place
 pub no-gains-wide : {d : List Gain} → d ≡ replicate table_rows no_gain → map wide_row d ≡ replicate table_rows empty
@@ -63,91 +60,13 @@ get_d-wide [] i = sym no-gain-wide
 get_d-wide (g ∷ d) zero = refl
 get_d-wide (g ∷ d) (suc i) = get_d-wide d i
 
--- a handle within, by whatever stands for one past the last; and one past the last
+-- a handle within, by whatever stands for one past the last
 pub gain-within : (d : List Gain) (i : ℕ) (x : Gain) → i < length d → get_or d i x ≡ get_or d i no_gain
 gain-within [] i x h = absurd (omega arith)
 gain-within (g ∷ d) zero x h = refl
 gain-within (g ∷ d) (suc i) x h = gain-within d i x (omega arith)
 
-pub gain-past : (d : List Gain) (i : ℕ) → length d ≤ i → no_gain ≡ get_or d i no_gain
-gain-past [] i h = refl
-gain-past (g ∷ d) zero h = absurd (omega arith)
-gain-past (g ∷ d) (suc i) h = gain-past d i (omega arith)
-
--- the loop that makes the rows of the gains
-module _ (z : List Row) (d : List Gain) (e : length z ≡ length d) (i : ℕ) {u : List Row}
-    (q : u ≡ put z 0 (take i (map wide_row d))) where
-  long-wide : length (map wide_row d) ≡ length d
-  long-wide = length-map d wide_row
-
-  pub wide-turn : {v : Row} → i < length d → v ≡ wide_row (get_or d i no_gain)
-      → set u i v ≡ put z 0 (take (i + 1) (map wide_row d))
-  wide-turn {v} h w =
-      rw (w, ← get_d-wide d i)
-      (put_copy z 0 (map wide_row d) i empty {n = i} (omega arith) (omega (arith, long-wide)) (omega arith) q)
-
-  pub wide-end : length d ≤ i → u ≡ map wide_row d
-  wide-end h = q ∙ ap (put z 0) (take_all i (map wide_row d) (omega (arith, long-wide)))
-      ∙ put_whole z (map wide_row d) (e ∙ sym long-wide)
-
--- each way of a turn
-pub turn-added : (a d : Row) (fitted : Bool) {goes : Bool} {r : Row} → row_fits a d ≡ true → goes ≡ true
-    → r ≡ row_sum a d
-    → (r ≡ kept_row goes a d) × (fitted ≡ (fitted && row_fits a d))
-unfolding kept_row pick
-turn-added a d fitted f g e = (rw (g, f) e, rw f (and-true fitted))
-  where
-    and-true : (t : Bool) → t ≡ (t && true)
-    and-true true = refl
-    and-true false = refl
-
-pub turn-asked : (a d : Row) (fitted : Bool) {goes : Bool} → row_fits a d ≡ true → goes ≡ false
-    → (a ≡ kept_row goes a d) × (fitted ≡ (fitted && row_fits a d))
-unfolding kept_row pick
-turn-asked a d fitted f g = (rw g, rw f (and-true fitted))
-  where
-    and-true : (t : Bool) → t ≡ (t && true)
-    and-true true = refl
-    and-true false = refl
-
-pub turn-passes : (a d : Row) (goes fitted : Bool) → row_fits a d ≡ false → (a ≡ kept_row goes a d)
-    × (false ≡ (fitted && row_fits a d))
-unfolding kept_row pick
-turn-passes a d goes fitted f = (rw f (go goes), rw f (and-false fitted))
-  where
-    go : (t : Bool) → a ≡ pick (t && false) (row_sum a d) a
-    go true = refl
-    go false = refl
-
-    and-false : (t : Bool) → false ≡ (t && false)
-    and-false true = refl
-    and-false false = refl
-
--- the loop over the rows: whether the first i fit
-module _ {A : Type 0} (f : A → A → Bool) where
-  pub every-take-none : (l m : List A) → every_two f (take 0 l) m ≡ true
-  unfolding every_two
-  every-take-none l m = refl
-
-  pub every-take-more : (l m : List A) (i : ℕ) (d : A) → i < length l → i < length m
-      → (every_two f (take i l) m && f (get_or l i d) (get_or m i d)) ≡ every_two f (take (suc i) l) m
-  unfolding every_two
-  every-take-more [] m i d h k = absurd (omega arith)
-  every-take-more (a ∷ l) [] i d h k = absurd (omega arith)
-  every-take-more (a ∷ l) (b ∷ m) zero d h k = true-and (f a b)
-    where
-      true-and : (t : Bool) → t ≡ (t && true)
-      true-and true = refl
-      true-and false = refl
-  every-take-more (a ∷ l) (b ∷ m) (suc i) d h k =
-      and_assoc (f a b) (every_two f (take i l) m) (f (get_or l i d) (get_or m i d))
-      ∙ ap (λ (t : Bool). f a b && t) (every-take-more l m i d (omega arith) (omega arith))
-    where
-      and_assoc : (x y z : Bool) → ((x && y) && z) ≡ (x && (y && z))
-      and_assoc true y z = refl
-      and_assoc false y z = refl
-
--- the rows after i turns over the table ys of sixteen, and whether those were within 64 bits
+-- the rows after i turns over the table ys of sixteen
 module _ (ys : List Row) (gs : List Gain) (goes : Bool) (n : length ys ≡ table_rows) (m : length gs ≡ table_rows) where
   abbrev wides : List Row
   wides = map wide_row gs
@@ -158,9 +77,6 @@ module _ (ys : List Row) (gs : List Gain) (goes : Bool) (n : length ys ≡ table
 
   abbrev pub upto : ℕ → List Row
   upto i = put ys 0 (take i last)
-
-  abbrev pub fitted : ℕ → Bool
-  fitted i = every_two row_fits (take i ys) wides
 
   long-wides : length wides ≡ table_rows
   long-wides = length-map gs wide_row ∙ m
@@ -196,22 +112,6 @@ module _ (ys : List Row) (gs : List Gain) (goes : Bool) (n : length ys ≡ table
   upto-end i e =
       ap (put ys 0) (take_all i last (omega (arith, long-last, e))) ∙ put_whole ys last (n ∙ sym long-last)
       ∙ sym (pick_true last ys (eq-eqb (length ys) table_rows n))
-
-  pub fitted_none : fitted 0 ≡ true
-  fitted_none = every-take-none row_fits ys wides
-
-  pub fitted-more : (i : ℕ) → i < 16 → {a : Row} {t : Bool} → a ≡ get_or ys i empty
-      → t ≡ (fitted i && row_fits a (wide_row (get_or gs i no_gain))) → t ≡ fitted (i + 1)
-  fitted-more i h {a} {t} e q =
-      q ∙ ap₂ (λ (x y : Row). fitted i && row_fits x y) e (sym (get_d-wide gs i))
-      ∙ every-take-more row_fits ys wides i empty (omega (arith, n)) (omega (arith, long-wides))
-      ∙ ap fitted (sym (add-one i))
-
-  pub fitted-end : (i : ℕ) → i ≡ 16 → fitted i ≡ fits_in ys gs
-  unfolding fits_in
-  fitted-end i e =
-      ap (λ (l : List Row). every_two row_fits l wides) (take_all i ys (omega (arith, n, e)))
-      ∙ sym (pick_true (every_two row_fits ys wides) false (eq-eqb (length ys) table_rows n))
 
 pub gained-long : (goes : Bool) (l : List Row) (d : List Gain) → length d ≡ table_rows
     → length (gained_in goes l d) ≡ length l

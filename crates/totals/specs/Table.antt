@@ -1,11 +1,9 @@
 -- A row's totals and the table of sixteen rows: which sums fit, and what is left. Document 02, T-09 ("The sixteen
 -- rows are one lent table of records"; "12, a total would pass 64 bits (sum signed, counts unsigned)"). Assumes
 -- nothing.
-use Rattle.std.specs.Prelude.{ℕ, ◌+◌, List, Bool, ◌&&◌, pos, ◌+ℤ◌}
-use Rattle.laws.specs.Tests.{pick}
+use Rattle.std.specs.Prelude.{ℕ, ◌+◌, Bool, ◌&&◌, pos, ◌+ℤ◌}
 use Rattle.totals.specs.declared.Row.{Row}
 use Rattle.totals.specs.Sums.{count_fits, sum_fits}
-use Rattle.totals.specs.Two.{every_two, map_two}
 
 -- refusal 12: "a total would pass 64 bits"
 abbrev pub passes : ℕ
@@ -34,7 +32,3 @@ row_sum a d =
       ticks = a.ticks + d.ticks;
       sum = a.sum +ℤ d.sum;
     }
-
--- sixteen rows and sixteen more; where a total would pass 64 bits, the rows unchanged
-unfoldable pub added_rows : List Row → List Row → List Row
-added_rows t d = pick (every_two row_fits t d) (map_two row_sum t d) t

@@ -1,14 +1,11 @@
 -- Laws of the definitions in Table.
-use Rattle.std.specs.Prelude.{◌+◌, ◌<◌, ◌≡◌, List, Bool, true, false, ◌&&◌, ◌+ℤ◌}
+use Rattle.std.specs.Prelude.{◌+◌, ◌<◌, ◌≡◌, true, ◌&&◌, ◌+ℤ◌}
 use Rattle.std.specs.Int.Signed.{mag}
 use Rattle.std.proofs.Common.{ltb-true}
-use Rattle.laws.specs.Tests.{pick}
 use Rattle.laws.specs.TestsLaws.{and_left, and_right}
 use Rattle.totals.specs.declared.Row.{Row}
 use Rattle.totals.specs.Sums.{count_fits, sum_fits}
-use Rattle.totals.specs.SumsLaws.{back, sum_back}
-use Rattle.totals.specs.Two.{every_two, map_two}
-use Rattle.totals.specs.Table.{row_fits, row_sum, added_rows}
+use Rattle.totals.specs.Table.{row_fits}
 
 -- what two rows that add up tell of each total
 pub record Fitting (a d : Row) : Type 0 where
@@ -32,21 +29,3 @@ fitting a d e =
       ticks = ltb-true (a.ticks + d.ticks) 18446744073709551616 (and_left t s e2);
       sum = ltb-true (mag (a.sum +ℤ d.sum)) 9223372036854775808 (and_right t s e2);
     }
-
--- the tests of the code, of what is read back from the bits of the sums
-pub fits-says : (a d : Row) {p q t s : Bool} → mag a.sum < 9223372036854775808 → mag d.sum < 9223372036854775808
-    → p ≡ count_fits (a.packets + d.packets) → q ≡ count_fits (a.reports + d.reports)
-    → t ≡ count_fits (a.ticks + d.ticks)
-    → s ≡ sum_fits (back a.sum +ℤ back d.sum) → (p && (q && (t && s))) ≡ row_fits a d
-unfolding row_fits
-fits-says a d h k ep eq et es = rw (ep, eq, et, es, sum_back a.sum d.sum h k)
-
--- the two ways of adding sixteen rows
-pub added-fits : (t d : List Row) {u : List Row} → every_two row_fits t d ≡ true → u ≡ map_two row_sum t d
-    → u ≡ added_rows t d
-unfolding added_rows pick
-added-fits t d f q = rw f q
-
-pub added-passes : (t d : List Row) → every_two row_fits t d ≡ false → t ≡ added_rows t d
-unfolding added_rows pick
-added-passes t d f = rw f

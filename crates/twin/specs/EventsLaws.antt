@@ -1,5 +1,5 @@
 -- Laws of the definitions in Events.
-use Rattle.std.specs.Prelude.{◌≡◌, ℕ, zero, suc, ◌+◌, ◌-◌, ◌≤◌, Bool, true, false, ◌&&◌, List, [], ◌∷◌, ◌++◌, length, take, drop, replicate, ◌==◌, ◌≢◌, nat_le, slice_index, slice_index_or, slice_set}
+use Rattle.std.specs.Prelude.{◌≡◌, ℕ, zero, suc, ◌+◌, ◌-◌, ◌≤◌, Bool, true, false, ◌&&◌, List, [], ◌∷◌, ◌++◌, length, take, drop, replicate, ◌==◌, ◌≢◌, nat_le, slice_index, slice_index_or, slice_set, Some, None}
 use Rattle.std.proofs.Math.Path.{refl, sym, ap, subst}
 use Rattle.std.proofs.Common.{◌∙◌, append-nil, arith, le-leb, eq-eqb, length-append, length-take, drop-cons, take-take}
 use Rattle.std.proofs.Math.Option.{some}
@@ -120,47 +120,34 @@ event-put head p h state out at {n} {u} {row} {o} {r} l f room a b c x =
     octets-is (prefix_in head) h p state (omega arith) in
     (omega (arith, w.count), subst (λ (ys : List ℕ). PutAt out at ys o r) v w)
 
-numbered_is : (t : List ℕ) (j : ℕ) (q : Packet) → some q ≡ numbered t j → (1 ≤ j) × (q ≡ packet_at t j)
-unfolding numbered
-numbered_is t zero q e = absurd (none≢some (sym e))
-numbered_is t (suc j) q e =
-    let z : j ≡ suc j - 1 = omega arith in
-    (omega arith, some_one q (packet_of (payload_at t j)) e ∙ ap (λ (x : ℕ). packet_of (payload_at t x)) z)
-  where
-    some_one : (x y : Packet) → some x ≡ some y → x ≡ y
-    some_one x y e = cc
+-- a window without a latest packet, and with one
+module _ (t : List ℕ) (a k i : ℕ) (packets sum : ℕ) (w : Tells t a k i packets sum None) where
+  pub window-empty : (out : List ℕ) (at h : ℕ) → PutAt out at (window_says (start_of t h a k) (after t k (i - k))) out 0
+  unfolding window_says has_told when numbered
+  window-empty out at h = rw (← w.last-is h) (nothing out at)
 
-module _ (t : List ℕ) (a k i : ℕ) (packets sum last : ℕ) (w : Tells t a k i packets sum last) where
+module _ (t : List ℕ) (a k i : ℕ) (packets sum last : ℕ) (w : Tells t a k i packets sum (Some last)) where
   abbrev l : List Typed
   l = after t k (i - k)
 
-  empty-says : (x : List Packet) (s : Pair.Start) → 0 ≡ length x
-      → when (has_told [] [] s (newest x)) (window_report (pair_of s l)) ≡ []
-  unfolding newest has_told when
-  empty-says [] s e = refl
-  empty-says (q ∷ x) s e = absurd (omega arith)
-
-  pub window-empty : (out : List ℕ) (at : ℕ) → packets ≡ 0 → (h : ℕ)
-      → PutAt out at (window_says (start_of t h a k) l) out 0
-  unfolding window_says
-  window-empty out at z h =
-      rw (empty-says (window (start_of t h a k) l) (start_of t h a k) (sym z ∙ w.packets-is h)) (nothing out at)
+  newest-some : (x : List Packet) (p : Packet) → some p ≡ newest x → 1 ≤ length x
+  unfolding newest
+  newest-some [] p e = absurd (none≢some (sym e))
+  newest-some (q ∷ x) p e = omega arith
 
   -- the latest packet
-  module _ (n : packets ≡ 0 → ⊥) (h : ℕ) where
-    latest : (x : List Packet) → window (start_of t h a k) l ≡ x
-        → (1 ≤ last) × (newest (window (start_of t h a k) l) ≡ some (packet_at t last))
-    unfolding newest
-    latest [] e = absurd (n (w.packets-is h ∙ ap length e))
-    latest (q ∷ x) e =
-        let d = numbered_is t last q (sym (w.last-is h ∙ ap newest e)) in
-        (d.0, ap newest e ∙ ap some d.1)
+  pub window-some : 1 ≤ packets
+  unfolding numbered
+  window-some =
+      let n : packets ≡ length (window (start_of t 0 a k) l) = w.packets-is 0 in
+      let m : 1 ≤ length (window (start_of t 0 a k) l) =
+      newest-some (window (start_of t 0 a k) l) (packet_at t last) (w.last-is 0) in
+      omega arith
 
-    pub last_some : 1 ≤ last
-    last_some = (latest (window (start_of t h a k) l) refl).0
-
+  module _ (h : ℕ) where
     newest-is : newest (window (start_of t h a k) l) ≡ some (packet_at t last)
-    newest-is = (latest (window (start_of t h a k) l) refl).1
+    unfolding numbered
+    newest-is = sym (w.last-is h)
 
     told_is : has_told [] [] (start_of t h a k) (newest (window (start_of t h a k) l))
         ≡ allows (mon_at t a) (packet_at t last).event
@@ -181,7 +168,6 @@ module _ (t : List ℕ) (a k i : ℕ) (packets sum last : ℕ) (w : Tells t a k 
     window-says e z f = rw (told_is ∙ sym e ∙ z) (rw (f, newest-is, ← (w.packets-is h), ← (w.sum_is h)))
 
   pub window-put : (out : List ℕ) (at : ℕ) {e m r : ℕ} {d adv o : List ℕ} {b : Bool} → sifts (mon_at t a) ≡ false
-      → (packets ≢ 0)
       → b ≡ allows (mon_at t a) (packet_at t last).event → b ≡ true → e ≡ (packet_at t last).event
       → d ≡ payload_at t (k - 1) → 10 ≤ length d
       → adv ≡ (packet_at t last).adv → length adv ≤ most_data → m ≡ mean sum packets → at + report_most ≤ length out
@@ -191,7 +177,7 @@ module _ (t : List ℕ) (a k i : ℕ) (packets sum last : ℕ) (w : Tells t a k 
       (report_octets e (take 7 (drop 1 d)) adv m))
       → (r ≤ report_most) × ((h : ℕ) → PutAt out at (window_says (start_of t h a k) l) o r)
   unfolding report_fits packet_of
-  window-put out at {e} {m} {r} {d} {adv} {o} f n eb zb ee ed ld ea la em room x =
+  window-put out at {e} {m} {r} {d} {adv} {o} f eb zb ee ed ld ea la em room x =
       let dev : List ℕ = take 7 (drop 1 d) in
       let e1 : length (drop 1 d) ≡ length d - 1 = length-drop 1 d in
       let l7 : length dev ≡ 7 = length-take-le 7 (drop 1 d) (omega arith) in
@@ -211,7 +197,7 @@ module _ (t : List ℕ) (a k i : ℕ) (packets sum last : ℕ) (w : Tells t a k 
       (mean sum packets) = rw (ee, ed, ea, em) in (
         omega (arith, y.count),
         λ h. subst (λ (ys : List ℕ). PutAt out at ys o r)
-            (v ∙ z ∙ sym (window-says n h eb zb f)) y,
+            (v ∙ z ∙ sym (window-says h eb zb f)) y,
       )
 
 -- one part behind another

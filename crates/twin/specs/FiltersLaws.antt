@@ -1,6 +1,6 @@
 -- What a kept monitor's command and a kept packet say, octet by octet: the watch's run, windows, report filtering,
 -- event type and data; duplicates. Document 01, Watching, by history; document 02, T-13. Assumes nothing.
-use Rattle.std.specs.Prelude.{◌≡◌, ℕ, zero, suc, ◌+◌, ◌-◌, ◌*◌, ◌%◌, ◌<◌, ◌≤◌, Bool, true, false, ◌&&◌, List, length, take, drop, ◌==◌, ◌≢◌, nat_le, slice_index, slice_index_or, refl}
+use Rattle.std.specs.Prelude.{◌≡◌, ℕ, zero, suc, ◌+◌, ◌-◌, ◌*◌, ◌%◌, ◌<◌, ◌≤◌, Bool, true, false, ◌&&◌, List, length, take, drop, ◌==◌, ◌≢◌, nat_le, slice_index, slice_index_or, refl, Some, None}
 use Rattle.std.proofs.Common.{sym, ap₂, ◌∙◌, eq-eqb, ne_eqb, get_or-take, get_or-drop}
 use Rattle.std.proofs.Math.Path.{ap}
 use native.Mathlib.Omega.{arith}
@@ -106,29 +106,25 @@ unfolding packet_of
 data-read t r n l e q = let z : 9 + n - 9 ≡ slice_index_or l 8 0 = omega arith in rw z (rw e)
 
 -- duplicates
+pub alike-none : (t : List ℕ) (q : ℕ) → false ≡ alike (packet_at t q) (numbered t None)
+unfolding alike numbered
+alike-none t q = refl
+
 module _ (t : List ℕ) (r q : ℕ) where
-  pub alike-none : r ≡ 0 → false ≡ alike (packet_at t q) (numbered t r)
+  like : alike (packet_at t q) (numbered t (Some r))
+      ≡ ((packet_at t r).event == (packet_at t q).event && sames (packet_at t r).adv (packet_at t q).adv)
   unfolding alike numbered
-  alike-none e = rw e
+  like = refl
 
-  like : (n : ℕ) → (n ≢ 0)
-      → alike (packet_at t q) (numbered t n)
-      ≡ ((packet_at t n).event == (packet_at t q).event && sames (packet_at t n).adv (packet_at t q).adv)
-  unfolding alike numbered
-  like zero z = absurd (z refl)
-  like (suc n) z =
-      let y : n ≡ suc n - 1 = omega arith in
-      ap (λ (j : ℕ). ((packet_of (payload_at t j)).event == (packet_at t q).event)
-      && sames (packet_of (payload_at t j)).adv (packet_at t q).adv) y
+  pub alike-other : {x y : ℕ} → x ≡ (packet_at t r).event → y ≡ (packet_at t q).event → (x ≢ y)
+      → false ≡ alike (packet_at t q) (numbered t (Some r))
+  alike-other ex ey n =
+      sym (like ∙ and-not-left _ _ (ne_eqb (packet_at t r).event (packet_at t q).event (λ e. n (ex ∙ e ∙ sym ey))))
 
-  pub alike-other : {x y : ℕ} → (r ≢ 0) → x ≡ (packet_at t r).event → y ≡ (packet_at t q).event → (x ≢ y)
-      → false ≡ alike (packet_at t q) (numbered t r)
-  alike-other z ex ey n =
-      sym (like r z ∙ and-not-left _ _ (ne_eqb (packet_at t r).event (packet_at t q).event (λ e. n (ex ∙ e ∙ sym ey))))
-
-  pub alike-asked : {x y : ℕ} {l m : List ℕ} {b : Bool} → (r ≢ 0) → x ≡ (packet_at t r).event
+  pub alike-asked : {x y : ℕ} {l m : List ℕ} {b : Bool} → x ≡ (packet_at t r).event
       → y ≡ (packet_at t q).event → x ≡ y
-      → l ≡ (packet_at t r).adv → m ≡ (packet_at t q).adv → b ≡ sames l m → b ≡ alike (packet_at t q) (numbered t r)
-  alike-asked z ex ey n el em e =
+      → l ≡ (packet_at t r).adv → m ≡ (packet_at t q).adv → b ≡ sames l m
+      → b ≡ alike (packet_at t q) (numbered t (Some r))
+  alike-asked ex ey n el em e =
       e ∙ ap₂ sames el em
-      ∙ sym (like r z ∙ rw (eq-eqb (packet_at t r).event (packet_at t q).event (sym ex ∙ n ∙ ey)))
+      ∙ sym (like ∙ rw (eq-eqb (packet_at t r).event (packet_at t q).event (sym ex ∙ n ∙ ey)))

@@ -55,3 +55,4 @@ pub mod RanTurns
 pub mod ForcedLaws
 pub mod KeepingLaws
 pub mod GivenLaws
+pub mod EarlierLaws

@@ -1,6 +1,6 @@
 -- The handles that name a monitor, by the octets that the code keeps: the lowest that names none, whether one is
 -- live; what a command's status lets through. Assumes nothing.
-use Rattle.std.specs.Prelude.{◌≡◌, ℕ, zero, suc, ◌+◌, ◌-◌, ◌<◌, ◌≤◌, Bool, true, false, not, List, [], ◌∷◌, length, drop, ◌==◌, ◌≢◌, nat_lt, slice_index, refl}
+use Rattle.std.specs.Prelude.{◌≡◌, ℕ, zero, suc, ◌+◌, ◌-◌, ◌<◌, ◌≤◌, Bool, true, false, not, List, [], ◌∷◌, length, drop, ◌==◌, ◌≢◌, nat_lt, slice_index, refl, Option as Perhaps, Some, None, is_some, unwrap_or}
 use Rattle.std.proofs.Common.{sym, ◌∙◌, add-one, arith, drop_of_length-le, drop-cons}
 use Rattle.std.proofs.Math.Path.{ap}
 use Rattle.std.proofs.lemmas.Bool.{false≢true}
@@ -17,7 +17,7 @@ use Rattle.statuses.specs.Statuses.{add_of, adds_by, enable_of}
 use Rattle.pasts.specs.Past.{lowest_free}
 use Rattle.twin.specs.declared.watch.Seen.{Seen}
 use Rattle.twin.specs.Numbered.{mon_at}
-use Rattle.twin.specs.Seen.{added_by, enabled_by, free_in, is_live, named_by, with_filter, with_live}
+use Rattle.twin.specs.Seen.{added_by, enabled_by, free_in, free_of, is_live, named_by, with_filter, with_live}
 
 -- the lowest handle that names none: a loop's turns
 module _ (l : List ℕ) (h : ℕ) where
@@ -118,6 +118,54 @@ free-is t names (a ∷ l) k same =
     go true ih = let w : k ≡ k + 0 = omega arith in rw (lt-ltb 0 (suc (length l)) (omega arith)) (ap some w)
     go false ih = ih ∙ more (free_in l)
 
+-- the same, if there is one
+free-by : (l : List ℕ) (b : Bool) → nat_lt (free_in l) (length l) ≡ b → free_of l ≡ pick b (Some (free_in l)) None
+unfolding free_of
+free-by l b e = rw e
+
+pub free-found : (l : List ℕ) (h : ℕ) → h ≡ free_in l → h < length l → Some h ≡ free_of l
+unfolding pick
+free-found l h e b = ap Some e ∙ sym (free-by l true (lt-ltb (free_in l) (length l) (omega arith)))
+
+pub free-missed : (l : List ℕ) → length l ≤ free_in l → None ≡ free_of l
+unfolding pick
+free-missed l b = sym (free-by l false (le-ltb (free_in l) (length l) b))
+
+pub free-got : (l : List ℕ) (h : ℕ) → Some h ≡ free_of l → (h ≡ free_in l) × (h < length l)
+unfolding pick
+free-got l h e = cases-le (length l) (free_in l)
+    (λ b. absurd (some-none h (e ∙ sym (free-missed l b))))
+    (λ b. let q : h ≡ free_in l = some-is h (free_in l) (e ∙ free-by l true (lt-ltb (free_in l) (length l) b)) in
+    (q, omega arith))
+  where
+    some-none : (h : ℕ) → Some h ≡ None → ⊥
+    some-none h e = cc
+
+    some-is : (h k : ℕ) → Some h ≡ Some k → h ≡ k
+    some-is h k e = cc
+
+pub free-none : (l : List ℕ) → None ≡ free_of l → length l ≤ free_in l
+free-none l e = cases-le (length l) (free_in l) (λ b. b)
+    (λ b. absurd (none-some (free_in l) (e ∙ sym (free-found l (free_in l) refl b))))
+  where
+    none-some : (h : ℕ) → None ≡ Some h → ⊥
+    none-some h e = cc
+
+pub free-is_some : (l : List ℕ) → is_some (free_of l) ≡ nat_lt (free_in l) (length l)
+unfolding pick
+free-is_some l = go (nat_lt (free_in l) (length l)) refl
+  where
+    go : (b : Bool) → nat_lt (free_in l) (length l) ≡ b → is_some (free_of l) ≡ b
+    go true e = ap is_some (free-by l true e)
+    go false e = ap is_some (free-by l false e)
+
+pub free-else : (l : List ℕ) → unwrap_or (free_of l) (length l) ≡ free_in l
+unfolding pick
+free-else l = cases-le (length l) (free_in l)
+    (λ b. let m : free_in l ≤ length l = free-most l in
+    ap (λ (o : Perhaps ℕ). unwrap_or o (length l)) (sym (free-missed l b)) ∙ omega arith)
+    (λ b. ap (λ (o : Perhaps ℕ). unwrap_or o (length l)) (sym (free-found l (free_in l) refl b)))
+
 -- what a command's parameters change
 module _ (l : List ℕ) (s : Seen) where
   pub add-off : (i f r : ℕ) → f ≡ free_in s.live → r ≡ add_of (nat_lt f most_monitors) l → (r ≢ 0) → s ≡ added_by l i s
@@ -158,3 +206,14 @@ pub add-room : (l : List ℕ) (f r : ℕ) → r ≡ add_of (nat_lt f most_monito
 add-room l f r e z =
     cases-le most_monitors f
     (λ b. absurd (add-full l (sym z ∙ e ∙ ap (λ (c : Bool). add_of c l) (le-ltb f most_monitors b)))) (λ b. b)
+
+-- a command that finds no handle free changes nothing
+pub add-none : (l : List ℕ) (i : ℕ) (s : Seen) → length s.live ≡ most_monitors → None ≡ free_of s.live → s ≡ added_by l i s
+add-none l i s n e =
+    let b : most_monitors ≤ free_in s.live = let k : length s.live ≤ free_in s.live = free-none s.live e in omega arith in
+    add-off l s i (free_in s.live) (add_of (nat_lt (free_in s.live) most_monitors) l) refl refl
+    (λ z. let k : free_in s.live < most_monitors =
+    add-room l (free_in s.live) (add_of (nat_lt (free_in s.live) most_monitors) l) refl z in omega arith)
+
+pub add-free : (l : List ℕ) (f r : ℕ) → f < most_monitors → r ≡ add_of true l → r ≡ add_of (nat_lt f most_monitors) l
+add-free l f r h e = e ∙ ap (λ (c : Bool). add_of c l) (sym (lt-ltb f most_monitors h))

@@ -1,6 +1,6 @@
 -- Frames told by their numbers: the monitor that frame number a added, packet number r or none, the frames behind
 -- number k. Document 02, T-07. Assumes nothing.
-use Rattle.std.specs.Prelude.{◌≡◌, ℕ, zero, suc, ◌-◌, ◌<◌, ◌≤◌, List, length, drop}
+use Rattle.std.specs.Prelude.{◌≡◌, ℕ, ◌-◌, ◌<◌, ◌≤◌, List, length, drop, Option as Perhaps, Some, None}
 use Rattle.std.proofs.Math.Option.{Option, none, some}
 use Rattle.model.specs.Types.{Monitor, Packet}
 use Rattle.model.specs.Frames.{packet_of}
@@ -28,14 +28,18 @@ pub record Sent (t : List ℕ) (r : ℕ) : Type 0 where
 abbrev pub packet_at : List ℕ → ℕ → Packet
 packet_at t r = packet_of (payload_at t (r - 1))
 
--- a packet's number, of the first n frames, or 0 for none
-pub record Maybe (t : List ℕ) (n r : ℕ) : Type 0 where
-  pub most : r ≤ n
-  pub sent : 1 ≤ r → Sent t r
+-- a packet's number, if there is one; and it is of the first n frames
+abbrev pub May : List ℕ → Perhaps ℕ → Type 0
+May t None = Unit
+May t (Some r) = Sent t r
 
-unfoldable pub numbered : List ℕ → ℕ → Option Packet
-numbered t zero = none
-numbered t (suc i) = some (packet_of (payload_at t i))
+pub record Maybe (t : List ℕ) (n : ℕ) (o : Perhaps ℕ) : Type 0 where
+  pub most : (r : ℕ) → o ≡ Some r → r ≤ n
+  pub sent : May t o
+
+unfoldable pub numbered : List ℕ → Perhaps ℕ → Option Packet
+numbered t None = none
+numbered t (Some r) = some (packet_at t r)
 
 -- the frames behind number k, up to n
 pub record Follows (t : List ℕ) (k n : ℕ) : Type 0 where
@@ -44,7 +48,7 @@ pub record Follows (t : List ℕ) (k n : ℕ) : Type 0 where
   pub formed : (i : ℕ) → i < n → Formed t i
 
 -- what a start's last window tells, by packets, sum and the number of the latest
-pub record Tells (t : List ℕ) (a k n packets sum last : ℕ) : Type 0 where
+pub record Tells (t : List ℕ) (a k n packets sum : ℕ) (last : Perhaps ℕ) : Type 0 where
   pub packets-is : (h : ℕ) → packets ≡ length (window (start_of t h a k) (after t k (n - k)))
   pub sum_is : (h : ℕ) → sum ≡ sum_of (window (start_of t h a k) (after t k (n - k)))
   pub last-is : (h : ℕ) → numbered t last ≡ newest (window (start_of t h a k) (after t k (n - k)))

@@ -1,5 +1,5 @@
 -- Laws of the definitions in PairRows.
-use Rattle.std.specs.Prelude.{◌≡◌, ℕ, suc, ◌+◌, ◌-◌, ◌*◌, ◌<◌, ◌≤◌, Bool, true, false, List, [], ◌∷◌, ◌++◌, map, length, get_or, take, drop, set, replicate, nat_le, slice_index, slice_index_or, slice_set, refl}
+use Rattle.std.specs.Prelude.{◌≡◌, ℕ, suc, ◌+◌, ◌-◌, ◌*◌, ◌<◌, ◌≤◌, Bool, true, false, List, [], ◌∷◌, ◌++◌, map, length, get_or, take, drop, set, replicate, nat_le, slice_index, slice_index_or, slice_set, refl, Option as Perhaps, Some, None}
 use Rattle.std.proofs.Common.{sym, ap, ap₂, ◌∙◌, append_assoc, append-nil, arith, length-append, length-drop, length-set, length-take, length-take-le, take_all}
 use Rattle.std.proofs.Math.Option.{Option}
 use Rattle.laws.specs.Tests.{pick}
@@ -62,8 +62,8 @@ numbers-put s x y p m r {a} {b} {c} n ea eb ec =
     let g : o2 ++ (y ∷ []) ++ o4 ++ o8 ++ (r ∷ []) ≡ o2 ++ (y ∷ (o4 ++ (o8 ++ (r ∷ [])))) = simp append_assoc in
     w4 ∙ ap (put s since_good_at) g
 
-pub numbers-written : (t : List ℕ) (n a k : ℕ) (s : List ℕ) {x y p m l r : ℕ} {u v w : List ℕ} {f g e : Bool}
-    → length s ≡ pair_size → Tells t a k n p m l
+pub numbers-written : (t : List ℕ) (n a k : ℕ) (s : List ℕ) {x y p m : ℕ} {l : Perhaps ℕ} {r : ℕ} {u v w : List ℕ}
+    {f g e : Bool} → length s ≡ pair_size → Tells t a k n p m l
     → ((h : ℕ) → x ≡ silent_in (start_of t h a k) (after t k (n - k)))
     → ((h : ℕ) → y ≡ window_ticks (start_of t h a k) (after t k (n - k)))
     → ((h : ℕ) → r ≡ kept_in (start_of t h a k) (after t k (n - k)))
@@ -89,35 +89,34 @@ numbers-written t n a k s {x} {y} {p} {m} {l} {r} {u} {v} {w} z tells ex ey er e
     ∙ ap (put s since_good_at) (rw (ex h, ey h, er h, tells.packets-is h, tells.sum_is h))
 
 -- the last fields
-pub latest-none : (t : List ℕ) (r e : ℕ) (s : List ℕ) → length s ≡ pair_size → r ≡ 0
-    → slice_set (slice_set s event_at e) length_at 0 ≡ put s event_at (latest_by e (numbered t r))
+pub latest-none : (t : List ℕ) (e : ℕ) (s : List ℕ) → length s ≡ pair_size
+    → slice_set (slice_set s event_at e) length_at 0 ≡ put s event_at (latest_by e (numbered t None))
 unfolding latest_by numbered event_or adv_of
-latest-none t r e s n z =
-    put-push s event_at (e ∷ []) 0 (omega arith) (omega arith) (set-put s event_at e (omega arith)) ∙ sym (rw z)
+latest-none t e s n = put-push s event_at (e ∷ []) 0 (omega arith) (omega arith) (set-put s event_at e (omega arith))
 
-pub latest-some : (t : List ℕ) (r e v : ℕ) (s d : List ℕ) {u : List ℕ} {f : Bool} → length s ≡ pair_size → 1 ≤ r
+pub latest-some : (t : List ℕ) (r e v : ℕ) (s d : List ℕ) {u : List ℕ} {f : Bool} → length s ≡ pair_size
     → length d ≤ most_data → v ≡ (packet_at t r).event → d ≡ (packet_at t r).adv
     → (f ≡ nat_le (data_at + length d) (length (slice_set (slice_set s event_at v) length_at (length d))))
     × (u ≡ put_if f (slice_set (slice_set s event_at v) length_at (length d)) data_at d)
-    → u ≡ put s event_at (latest_by e (numbered t r))
+    → u ≡ put s event_at (latest_by e (numbered t (Some r)))
 unfolding latest_by event_or adv_of
-latest-some t r e v s d n l b ev ed q =
+latest-some t r e v s d n b ev ed q =
     let s2 : List ℕ = set (slice_set s event_at v) length_at (length d) in
     let k : length s2 ≡ pair_size = length-set (slice_set s event_at v) length_at (length d) ∙ length-set s event_at v ∙ n in
     let w : s2 ≡ put s event_at (v ∷ length d ∷ []) =
     put-push s event_at (v ∷ []) (length d) (omega arith) (omega arith) (set-put s event_at v (omega arith)) in
     put_then s event_at (v ∷ length d ∷ []) data_at d (omega arith) w (omega arith)
     (put-made s2 data_at d (length d) q (omega arith)) refl
-    ∙ ap₂ (λ (i : ℕ) (x : List ℕ). put s event_at (i ∷ length x ∷ x)) ev ed ∙ sym (rw (first-number t r l))
+    ∙ ap₂ (λ (i : ℕ) (x : List ℕ). put s event_at (i ∷ length x ∷ x)) ev ed ∙ sym (rw (first-number t r))
 
 -- the packet that they tell of
-pub last-sifted : (t : List ℕ) (a k n r : ℕ) {b : Bool} → b ≡ sifts (mon_at t a) → b ≡ true
+pub last-sifted : (t : List ℕ) (a k n : ℕ) (r : Perhaps ℕ) {b : Bool} → b ≡ sifts (mon_at t a) → b ≡ true
     → ((h : ℕ) → numbered t r ≡ last_reason (start_of t h a k) (matching_packets (start_of t h a k) (after t k (n - k))))
     → (h : ℕ) → numbered t r ≡ kept_packet (start_of t h a k) (after t k (n - k))
 unfolding kept_packet pick start_of
 last-sifted t a k n r e z w h = w h ∙ sym (rw (sym e ∙ z))
 
-pub last-window : (t : List ℕ) (a k n r : ℕ) {b : Bool} → b ≡ sifts (mon_at t a) → b ≡ false
+pub last-window : (t : List ℕ) (a k n : ℕ) (r : Perhaps ℕ) {b : Bool} → b ≡ sifts (mon_at t a) → b ≡ false
     → ((h : ℕ) → numbered t r ≡ newest (window (start_of t h a k) (after t k (n - k))))
     → (h : ℕ) → numbered t r ≡ kept_packet (start_of t h a k) (after t k (n - k))
 unfolding kept_packet pick start_of
@@ -147,7 +146,7 @@ fields_join t n h a k e o d ed ee eo =
     (octets_of 4 q.packets)
     (octets_of 8 q.sum) (q.event ∷ length q.adv ∷ q.adv)
 
-pub row_written : (t : List ℕ) (n h a k e r : ℕ) {p x y z : List ℕ} {f : Bool} → Start t a k → p ≡ payload_at t (k - 1)
+pub row_written : (t : List ℕ) (n h a k e : ℕ) (r : Perhaps ℕ) {p x y z : List ℕ} {f : Bool} → Start t a k → p ≡ payload_at t (k - 1)
     → 8 ≤ length p
     → (f ≡ nat_le (address_type_at + length (take 7 (drop 1 p))) (length (slice_set (replicate pair_size 0) 0 h)))
     × (x ≡ put_if f (slice_set (replicate pair_size 0) 0 h) address_type_at (take 7 (drop 1 p)))

@@ -1,6 +1,6 @@
 -- Whether a packet is reported at once: by a pair under watch, by a start. Document 01, Watching, by history;
 -- document 02, T-13. Assumes nothing.
-use Rattle.std.specs.Prelude.{◌≡◌, ℕ, zero, suc, ◌+◌, ◌-◌, ◌<◌, ◌≤◌, Bool, true, false, not, ◌&&◌, ◌||◌, List, [], ◌∷◌, ◌++◌, length, drop, ◌==◌, ◌≢◌, nat_eq, slice_index, slice_index_or}
+use Rattle.std.specs.Prelude.{◌≡◌, ℕ, zero, suc, ◌+◌, ◌-◌, ◌<◌, ◌≤◌, Bool, true, false, not, ◌&&◌, ◌||◌, List, [], ◌∷◌, ◌++◌, length, drop, ◌==◌, ◌≢◌, nat_eq, slice_index, slice_index_or, Option as Perhaps}
 use Rattle.std.proofs.Math.Path.{refl, sym, ap}
 use Rattle.std.proofs.Common.{ap₂, ◌∙◌, subst}
 use Rattle.std.proofs.lemmas.Bool.{false≢true}
@@ -94,7 +94,7 @@ module _ (t : List ℕ) (i a k h : ℕ) (c : Comes t i) (f : Formed t i) (o : k 
     pub reason-barred : b ≡ false → false ≡ reason_by [] (past_at t i) P S
     reason-barred z = sym (reason-is ∙ rw (sym g ∙ y, sampled, sym allowed ∙ z))
 
-    pub reason-asked : {d : Bool} (q : ℕ) → b ≡ true
+    pub reason-asked : {d : Bool} (q : Perhaps ℕ) → b ≡ true
         → numbered t q ≡ last_reason S (matching_packets S (after t k (i - k)))
         → d ≡ (sifts (mon_at t a) && alike (packet_at t (i + 1)) (numbered t q)) → not d ≡ reason_by [] (past_at t i) P S
     reason-asked {d} q z w v =

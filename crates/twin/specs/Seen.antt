@@ -1,7 +1,7 @@
 -- What the code keeps while it reads the kept frames: the pairs under watch by their starts, the frame that added
 -- each handle's monitor, the filter; and how that stands for what past frames say. Document 02, T-07. Definitions
 -- alone.
-use Rattle.std.specs.Prelude.{◌≡◌, ℕ, zero, suc, ◌+◌, ◌-◌, ◌<◌, ◌≤◌, Bool, true, false, not, ◌&&◌, ◌⊎◌, List, [], ◌∷◌, ◌++◌, map, length, take, drop, ◌==◌, ◌≢◌, nat_lt, slice_index, slice_index_or, slice_set}
+use Rattle.std.specs.Prelude.{◌≡◌, ℕ, zero, suc, ◌+◌, ◌-◌, ◌<◌, ◌≤◌, Bool, true, false, not, ◌&&◌, ◌⊎◌, List, [], ◌∷◌, ◌++◌, map, length, take, drop, ◌==◌, ◌≢◌, nat_lt, slice_index, slice_index_or, slice_set, Option as Perhaps, Some, None}
 use Rattle.std.proofs.Math.Option.{Option, none, some}
 use Rattle.laws.specs.Tests.{pick, sames}
 use Rattle.laws.specs.Loops.{keep, when}
@@ -9,7 +9,7 @@ use Rattle.rule.specs.Base.{All}
 use Rattle.model.specs.Types.{Monitor, Packet, device_of}
 use Rattle.model.specs.Level.{level}
 use Rattle.model.specs.Frames.{Typed, packet, packet_of}
-use Rattle.model.specs.Monitors.{monitor_of, run_of}
+use Rattle.model.specs.Monitors.{accepts, monitor_of, run_of}
 use Rattle.model.specs.Layout.{most_monitors, most_pairs}
 use Rattle.statuses.specs.Statuses.{add_of, cancel_of, enable_of}
 use Rattle.twins.specs.Twin.{most_kept}
@@ -19,6 +19,8 @@ use Rattle.pasts.specs.Past
 use Rattle.pasts.specs.Past.{filter_after, goes_for, is_start, monitor_after, turns_by}
 use Rattle.twin.specs.declared.watch.Begun.{Begun}
 use Rattle.twin.specs.declared.watch.Seen.{Seen}
+use Rattle.twin.specs.declared.watch.Deed.{Deed}
+use Rattle.twin.specs.declared.watch.Deed.TheVariants.{Still, Joined, Displaced}
 use Rattle.twin.specs.declared.watch.Turn.{Turn}
 use Rattle.twin.specs.Table.{Sends, after, kind_at, past_at, payload_at, typed_at}
 use Rattle.twin.specs.Hears.{Formed, Start, start_of}
@@ -66,10 +68,13 @@ but_at g [] = []
 but_at zero (b ∷ l) = l
 but_at (suc g) (b ∷ l) = b ∷ but_at g l
 
--- the first handle without a monitor, 16 where all have one; whether one has
+-- the first handle without a monitor, 16 where all have one; the same if there is one; whether one has
 unfoldable pub free_in : List ℕ → ℕ
 free_in [] = 0
 free_in (a ∷ l) = pick (a == 0) 0 (suc (free_in l))
+
+unfoldable pub free_of : List ℕ → Perhaps ℕ
+free_of l = pick (nat_lt (free_in l) (length l)) (Some (free_in l)) None
 
 unfoldable pub is_live : List ℕ → ℕ → Bool
 is_live l h = not (slice_index l h == 0)
@@ -129,6 +134,11 @@ pub record Marked (t : List ℕ) (n : ℕ) (b : Begun) : Type 0 where
   pub order : b.packet ≤ n
   pub handle : b.handle < most_monitors
 
+-- it is under watch when frame i comes, so its monitor was accepted
+pub record Watches (t : List ℕ) (i : ℕ) (b : Begun) : Type 0 where
+  pub marked : Marked t i b
+  pub accepted : accepts (start_at t b).mon ≡ true
+
 -- its starts are told by frames among the first n, its monitors and filter are those of a past
 pub record Shows (t : List ℕ) (n : ℕ) (past : List Typed) (s : Seen) : Type 0 where
   pub held : Held s
@@ -152,17 +162,25 @@ unfoldable pub begins : List Typed → Packet → Option Monitor → ℕ → Lis
 begins past p none h w = false
 begins past p (some m) h w = is_start past p m h w
 
--- the start at an index that goes for another; 64 for none
-unfoldable pub gone_by : List ℕ → Seen → ℕ → List Pair.Start
-gone_by t s g = when (nat_lt g most_pairs) (start_at t (begun_at s g) ∷ [])
+-- whether a deed gives a start; the start at an index that goes for it
+abbrev pub starts_by : Deed → Bool
+starts_by Still = false
+starts_by Joined = true
+starts_by (Displaced g) = true
+
+unfoldable pub gone_by : List ℕ → Seen → Deed → List Pair.Start
+gone_by t s Still = []
+gone_by t s Joined = []
+gone_by t s (Displaced g) = start_at t (begun_at s g) ∷ []
 
 -- what the turn of handle h at packet i gives
 pub record Took (t : List ℕ) (i h : ℕ) (s : Seen) (r : Turn) : Type 0 where
   pub turns : Turns t i (h + 1) r.seen
-  pub started : r.started
+  pub started : starts_by r.deed
       ≡ begins (past_at t i) (packet_of (payload_at t i)) (monitor_after (past_at t i) h) h (starts_of t s)
-  pub gone : when r.started (goes_for (past_at t i) (packet_of (payload_at t i)) (starts_of t s)) ≡ gone_by t s r.gone
-  pub within : r.gone < most_pairs → r.gone < s.count
+  pub gone : when (starts_by r.deed) (goes_for (past_at t i) (packet_of (payload_at t i)) (starts_of t s))
+      ≡ gone_by t s r.deed
+  pub within : (g : ℕ) → r.deed ≡ Displaced g → g < s.count
 
 -- the first of the first j starts of which none is smaller, by their levels
 pub record Least (f : ℕ → ℕ) (j w : ℕ) : Type 0 where
@@ -174,8 +192,7 @@ pub record Least (f : ℕ → ℕ) (j w : ℕ) : Type 0 where
 -- for the first that keeps it
 pub record Room (b : Begun) (s : Seen) (r : Turn) : Type 0 where
   pub few : s.count < most_pairs
-  pub started : r.started ≡ true
-  pub gone : r.gone ≡ most_pairs
+  pub deed : r.deed ≡ Joined
   pub rest : Rest s (list_of s ++ (b ∷ [])) r.seen
 
 pub record Weak (t : List ℕ) (i : ℕ) (s : Seen) (w : ℕ) : Type 0 where
@@ -186,15 +203,15 @@ pub record Keeps (t : List ℕ) (i : ℕ) (s : Seen) (r : Turn) : Type 0 where
   pub at : ℕ
   pub weak : Weak t i s at
   pub above : level (packet_of (payload_at t i)).rssi ≤ level_in t (i + 1) (begun_at s at)
-  pub started : r.started ≡ false
-  pub gone : r.gone ≡ most_pairs
+  pub deed : r.deed ≡ Still
   pub seen : r.seen ≡ s
 
 pub record Displaces (t : List ℕ) (i : ℕ) (b : Begun) (s : Seen) (r : Turn) : Type 0 where
-  pub weak : Weak t i s r.gone
-  pub above : level_in t (i + 1) (begun_at s r.gone) < level (packet_of (payload_at t i)).rssi
-  pub started : r.started ≡ true
-  pub rest : Rest s (but_at r.gone (list_of s) ++ (b ∷ [])) r.seen
+  pub at : ℕ
+  pub weak : Weak t i s at
+  pub above : level_in t (i + 1) (begun_at s at) < level (packet_of (payload_at t i)).rssi
+  pub deed : r.deed ≡ Displaced at
+  pub rest : Rest s (but_at at (list_of s) ++ (b ∷ [])) r.seen
 
 abbrev pub Joins : List ℕ → ℕ → Begun → Seen → Turn → Type 0
 Joins t i b s r = Room b s r ⊎ (Keeps t i s r ⊎ Displaces t i b s r)

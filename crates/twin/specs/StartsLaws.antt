@@ -1,14 +1,15 @@
 -- The laws of the starts that the code keeps: one more behind the others, those that pass a test, all but one, the
 -- first of the smallest. Assumes nothing.
-use Rattle.std.specs.Prelude.{◌≡◌, ℕ, zero, suc, ◌+◌, ◌<◌, ◌≤◌, Bool, true, false, not, List, [], ◌∷◌, ◌++◌, length, take, drop, ◌==◌, nat_lt, slice_index_or, slice_set, refl}
-use Rattle.std.proofs.Common.{sym, ◌∙◌, append-nil, add-one, arith, eq-eqb, ne_eqb, le-ltb, lt-ltb, length-set, take_all, take-suc, take-suc-set, drop-cons}
+use Rattle.std.specs.Prelude.{◌≡◌, ℕ, zero, suc, ◌+◌, ◌-◌, ◌<◌, ◌≤◌, Bool, true, false, not, ◌==◌, List, [], ◌∷◌, ◌++◌, length, take, drop, nat_lt, slice_index_or, slice_set, refl}
+use Rattle.std.proofs.Common.{sym, ◌∙◌, append-nil, add-one, arith, eq-eqb, ne_eqb, le-ltb, lt-ltb, length-set, length-append, length-drop, take_all, take-suc, take-suc-set, drop-cons}
 use Rattle.std.proofs.Math.Path.{ap}
 use Rattle.std.proofs.Math.Seq.{length-take-le, get_or-take}
+use Rattle.std.proofs.lemmas.List.{take-append-le}
 use Rattle.std.proofs.Math.ListN
 use Rattle.laws.specs.Tests.{pick}
 use Rattle.laws.specs.TestsLaws.{cases-le, cases_eq}
 use Rattle.laws.specs.Loops.{keep, only, some as some_of}
-use Rattle.laws.specs.LoopsLaws.{keep-take, length-keep}
+use Rattle.laws.specs.LoopsLaws.{keep-take}
 use Rattle.rule.specs.Base.{All}
 use Rattle.model.specs.Layout.{most_pairs}
 use Rattle.twin.specs.declared.watch.Begun.{Begun}
@@ -79,47 +80,84 @@ rest-count s r l x = sym (list_length r x.held) ∙ ap length x.list
 pub rest-room : (s r : Seen) (l : List Begun) → Rest s l r → length l < most_pairs → r.count < most_pairs
 rest-room s r l x h = let n : r.count ≡ length l = rest-count s r l x in omega arith
 
--- a start carried on, or not
-rest-carry : (s r : Seen) (l : List Begun) (b : Begun) (on : Bool) → Rest s l r → r.count < most_pairs
-    → Rest s (l ++ only on b) (pick on (pushed r b) r)
-unfolding pick only
-rest-carry s r l b true x h = rest-push s r l b x h
-rest-carry s r l b false x h = rw (append-nil l) x
+-- those of a list that pass a test, as far as a loop has come
+pub record Passed (P : Begun → Bool → Type 0) (s : Seen) (l : List Begun) (r : Seen) : Type 0 where
+  pub rest : Rest s (list_of r) r
+  pub few : r.count ≤ length l
+  pub is : (f : Begun → Bool) → ((b : Begun) (o : Bool) → P b o → o ≡ f b) → list_of r ≡ keep f l
 
-take-length : (s : Seen) (i : ℕ) → Held s → i < s.count → length (take i (list_of s)) ≡ i
-take-length s i v h = let n : length (list_of s) ≡ s.count =
-    list_length s v in length-take-le i (list_of s) (omega arith)
-
-take_whole : (s : Seen) (i : ℕ) → Held s → s.count ≤ i → take i (list_of s) ≡ list_of s
-take_whole s i v h = let n : length (list_of s) ≡ s.count = list_length s v in take_all i (list_of s) (omega arith)
-
--- those that pass a test: a loop's turns
-module _ (f : Begun → Bool) (s r : Seen) (i : ℕ) (v : Held s) (x : Rest s (keep f (take i (list_of s))) r) where
-  pub keep-room : i < s.count → r.count < most_pairs
-  keep-room h =
-      let c : length (keep f (take i (list_of s))) ≤ length (take i (list_of s)) = length-keep f (take i (list_of s)) in
-      let d : length (take i (list_of s)) ≡ i = take-length s i v h in
-      let m : s.count ≤ most_pairs = v.few in
-      rest-room s r (keep f (take i (list_of s))) x (omega arith)
-
-  pub keep-turn : {on : Bool} {r' : Seen} → i < s.count → on ≡ f (begun_at s i)
-      → r' ≡ pick on (pushed r (begun_at s i)) r
-      → Rest s (keep f (take (i + 1) (list_of s))) r'
-  keep-turn {on} {r'} h e q =
-      let n : length (list_of s) ≡ s.count = list_length s v in
-      rw (q, keep-take f (list_of s) i no_begun (omega arith), list_at s v i h, ← e)
-      (rest-carry s r (keep f (take i (list_of s))) (begun_at s i) on x (keep-room h))
-
-  pub keep-end : s.count ≤ i → Rest s (keep f (list_of s)) r
-  keep-end h = rw (take_whole s i v h) at x
-
-pub keep-none : (f : Begun → Bool) (s r : Seen) → Rest s [] r → Rest s (keep f (take 0 (list_of s))) r
+pub passed_none : (P : Begun → Bool → Type 0) (s r : Seen) → Held s → r ≡ bare s → Passed P s [] r
 unfolding keep
-keep-none f s r x = x
+passed_none P s r v e =
+    let x : Rest s [] r = rest-bare s r v e in
+    let n : r.count ≡ 0 = rest-count s r [] x in
+    record {
+      rest = record { held = x.held; list = refl; live = x.live; filter = x.filter };
+      few = omega arith;
+      is = λ f k. x.list;
+    }
 
-pub other-is : (h x : ℕ) (b : Begun) → x ≡ b.handle → not (x == h) ≡ of_other h b
-unfolding of_other
-other-is h x b e = rw e
+-- one more start looked at
+module _ (P : Begun → Bool → Type 0) (s r : Seen) (l : List Begun) (i : ℕ) (h : i < length l)
+    (x : Passed P s (take i l) r) where
+  pub passed-room : length l ≤ most_pairs → r.count < most_pairs
+  passed-room m =
+      let n : r.count ≤ length (take i l) = x.few in
+      let d : length (take i l) ≡ i = length-take-le i l (omega arith) in
+      omega arith
+
+  passed-more : take (i + 1) l ≡ take i l ++ (slice_index_or l i no_begun ∷ [])
+  passed-more = rw (add-one i) (take-suc l i no_begun h)
+
+  keep-more : (f : Begun → Bool) → keep f (take (i + 1) l)
+      ≡ keep f (take i l) ++ only (f (slice_index_or l i no_begun)) (slice_index_or l i no_begun)
+  keep-more f = keep-take f l i no_begun h
+
+  longer : length (take i l) < length (take (i + 1) l)
+  longer =
+      let d : length (take i l) ≡ i = length-take-le i l (omega arith) in
+      let e : length (take (i + 1) l) ≡ i + 1 = length-take-le (i + 1) l (omega arith) in
+      omega arith
+
+  pub passed-on : (r' : Seen) → length l ≤ most_pairs → P (slice_index_or l i no_begun) true
+      → r' ≡ pushed r (slice_index_or l i no_begun)
+      → Passed P s (take (i + 1) l) r'
+  unfolding only pushed
+  passed-on r' m p q =
+      let b : Begun = slice_index_or l i no_begun in
+      let y : Rest s (list_of r ++ (b ∷ [])) r' = rw q (rest-push s r (list_of r) b x.rest (passed-room m)) in
+      let n : r.count ≤ length (take i l) = x.few in
+      let c : r'.count ≡ r.count + 1 = ap (λ (u : Seen). u.count) q in
+      record {
+        rest = record { held = y.held; list = refl; live = y.live; filter = y.filter };
+        few = let g = longer in omega arith;
+        is = λ f k. y.list ∙ ap (λ (u : List Begun). u ++ (b ∷ [])) (x.is f k)
+            ∙ sym (keep-more f ∙ ap (λ (o : Bool). keep f (take i l) ++ only o b) (sym (k b true p)));
+      }
+
+  pub passed-off : P (slice_index_or l i no_begun) false → Passed P s (take (i + 1) l) r
+  unfolding only
+  passed-off p =
+      let b : Begun = slice_index_or l i no_begun in
+      let n : r.count ≤ length (take i l) = x.few in
+      record {
+        rest = x.rest;
+        few = let g = longer in omega arith;
+        is = λ f k. x.is f k
+            ∙ sym (keep-more f ∙ ap (λ (o : Bool). keep f (take i l) ++ only o b) (sym (k b false p))
+            ∙ append-nil (keep f (take i l)));
+      }
+
+pub passed-end : (P : Begun → Bool → Type 0) (s r : Seen) (l : List Begun) (i : ℕ) → l ≡ list_of s → length l ≤ i
+    → Passed P s (take i l) r → (f : Begun → Bool) → ((b : Begun) (o : Bool) → P b o → o ≡ f b)
+    → Rest s (keep f (list_of s)) r
+passed-end P s r l i e h x f k =
+    record {
+      held = x.rest.held;
+      list = x.is f k ∙ ap (keep f) (take_all i l h ∙ e);
+      live = x.rest.live;
+      filter = x.rest.filter;
+    }
 
 -- all but one
 but-most : (g : ℕ) (l : List Begun) → length (but_at g l) ≤ length l
@@ -140,41 +178,42 @@ but-all P g [] a = tt
 but-all P zero (b ∷ l) a = a.1
 but-all P (suc g) (b ∷ l) a = (a.0, but-all P g l a.1)
 
-suc-eqb : (i g : ℕ) → (suc i == suc g) ≡ (i == g)
-suc-eqb i g =
-    cases_eq i g (λ e. rw (eq-eqb i g e, eq-eqb (suc i) (suc g) (omega arith)))
-    (λ n. rw (ne_eqb i g n, ne_eqb (suc i) (suc g) (λ e. n (omega arith))))
-
-but-take : (g i : ℕ) (l : List Begun) → i < length l → but_at g (take (suc i) l) ≡ but_at g (take i l)
-    ++ only (not (i == g)) (slice_index_or l i no_begun)
-unfolding but_at only
-but-take g i [] h = absurd (omega arith)
-but-take zero zero (b ∷ l) h = refl
-but-take (suc g) zero (b ∷ l) h = ap (λ (m : Bool). only (not m) b) (sym (ne_eqb 0 (suc g) (λ e. omega arith)))
-but-take zero (suc i) (b ∷ l) h = rw (ne_eqb (suc i) 0 (λ e. omega arith)) (take-suc l i no_begun (omega arith))
-but-take (suc g) (suc i) (b ∷ l) h = rw (suc-eqb i g) (ap (λ (m : List Begun). b ∷ m) (but-take g i l (omega arith)))
-
-module _ (g : ℕ) (s r : Seen) (i : ℕ) (v : Held s) (x : Rest s (but_at g (take i (list_of s))) r) where
-  pub but-room : i < s.count → r.count < most_pairs
-  but-room h =
-      let c : length (but_at g (take i (list_of s))) ≤ length (take i (list_of s)) = but-most g (take i (list_of s)) in
-      let d : length (take i (list_of s)) ≡ i = take-length s i v h in
-      let m : s.count ≤ most_pairs = v.few in
-      rest-room s r (but_at g (take i (list_of s))) x (omega arith)
-
-  pub but-turn : {r' : Seen} → i < s.count → r' ≡ pick (not (i == g)) (pushed r (begun_at s i)) r
-      → Rest s (but_at g (take (i + 1) (list_of s))) r'
-  but-turn {r'} h q =
-      let n : length (list_of s) ≡ s.count = list_length s v in
-      rw (q, add-one i, but-take g i (list_of s) (omega arith), list_at s v i h)
-      (rest-carry s r (but_at g (take i (list_of s))) (begun_at s i) (not (i == g)) x (but-room h))
-
-  pub but-end : s.count ≤ i → Rest s (but_at g (list_of s)) r
-  but-end h = rw (take_whole s i v h) at x
-
-pub but-none : (g : ℕ) (s r : Seen) → Rest s [] r → Rest s (but_at g (take 0 (list_of s))) r
+-- the others moved down one place
+but-cut : (g n : ℕ) (l : List Begun) → g < n → n ≤ length l
+    → but_at g (take n l) ≡ take g l ++ take (n - (g + 1)) (drop (g + 1) l)
 unfolding but_at
-but-none g s r x = x
+but-cut g zero l h k = absurd (omega arith)
+but-cut g (suc n) [] h k = absurd (omega arith)
+but-cut zero (suc n) (b ∷ l) h k = let z : suc n - (0 + 1) ≡ n = omega arith in ap (λ (j : ℕ). take j l) (sym z)
+but-cut (suc g) (suc n) (b ∷ l) h k =
+    let z : suc n - (suc g + 1) ≡ n - (g + 1) = omega arith in
+    let y : suc g + 1 ≡ suc (g + 1) = omega arith in
+    rw (z, y) (ap (λ (m : List Begun). b ∷ m) (but-cut g n l (omega arith) (omega arith)))
+
+pub but-moved : (s r : Seen) (g : ℕ) {x : List Begun} → Held s → g < s.count
+    → x ≡ (take g s.starts ++ take (s.count - (g + 1)) (drop (g + 1) s.starts)) ++ drop (g + (s.count - (g + 1))) s.starts
+    → length x ≡ length s.starts
+    → r ≡ record { starts = x; count = s.count - 1; live = s.live; filter = s.filter } → Rest s (but_at g (list_of s)) r
+unfolding list_of
+but-moved s r g {x} v h e z q =
+    let n : length s.starts ≡ most_pairs = v.size in
+    let m : s.count ≤ most_pairs = v.few in
+    let a : List Begun = take g s.starts in
+    let b : List Begun = take (s.count - (g + 1)) (drop (g + 1) s.starts) in
+    let la : length a ≡ g = length-take-le g s.starts (omega arith) in
+    let ld : length (drop (g + 1) s.starts) ≡ length s.starts - (g + 1) = length-drop (g + 1) s.starts in
+    let lb : length b ≡ s.count - (g + 1) = length-take-le (s.count - (g + 1)) (drop (g + 1) s.starts) (omega arith) in
+    let lc : length (a ++ b) ≡ length a + length b = length-append a b in
+    let t : take (s.count - 1) x ≡ a ++ b =
+    ap (take (s.count - 1)) e
+    ∙ take-append-le (s.count - 1) (a ++ b) (drop (g + (s.count - (g + 1))) s.starts) (omega arith)
+    ∙ take_all (s.count - 1) (a ++ b) (omega arith) in
+    rw q (record {
+      held = record { size = z ∙ n; names = v.names; few = omega arith };
+      list = t ∙ sym (but-cut g s.count s.starts h (omega arith));
+      live = refl;
+      filter = refl;
+    })
 
 pub but-place : (g : ℕ) (s r : Seen) → Held s → g < s.count → Rest s (but_at g (list_of s)) r → r.count < most_pairs
 but-place g s r v h x =
@@ -183,27 +222,24 @@ but-place g s r v h x =
     let k : length (but_at g (list_of s)) < length (list_of s) = but-less g (list_of s) (omega arith) in
     rest-room s r (but_at g (list_of s)) x (omega arith)
 
--- whether some start passes a test: a loop's turns
-module _ (f : Begun → Bool) (s : Seen) (i : ℕ) (v : Held s) where
-  rest-cons : i < s.count → drop i (list_of s) ≡ begun_at s i ∷ drop (i + 1) (list_of s)
-  rest-cons h =
-      let n : length (list_of s) ≡ s.count = list_length s v in
-      drop-cons (list_of s) i no_begun (omega arith) ∙ rw (list_at s v i h, add-one i)
+-- whether some start passes a test: a loop's turns over the list
+module _ (f : Begun → Bool) (l : List Begun) (i : ℕ) where
+  rest-cons : i < length l → drop i l ≡ slice_index_or l i no_begun ∷ drop (i + 1) l
+  rest-cons h = drop-cons l i no_begun h ∙ rw (add-one i)
 
-  pub some-hit : {r : Bool} → i < s.count → r ≡ f (begun_at s i) → r ≡ true → some_of f (drop i (list_of s)) ≡ true
+  pub some-hit : {r : Bool} → i < length l → r ≡ f (slice_index_or l i no_begun) → r ≡ true
+      → some_of f (drop i l) ≡ true
   unfolding some_of
   some-hit h e z = rw (rest-cons h, ← e, z)
 
-  pub some-miss : {r : Bool} → i < s.count → r ≡ f (begun_at s i) → r ≡ false
-      → some_of f (drop i (list_of s)) ≡ some_of f (drop (i + 1) (list_of s))
+  pub some-miss : {r : Bool} → i < length l → r ≡ f (slice_index_or l i no_begun) → r ≡ false
+      → some_of f (drop i l) ≡ some_of f (drop (i + 1) l)
   unfolding some_of
   some-miss h e z = ap (some_of f) (rest-cons h) ∙ rw (← e, z)
 
-  pub some_end : s.count ≤ i → some_of f (drop i (list_of s)) ≡ false
+  pub some_end : length l ≤ i → some_of f (drop i l) ≡ false
   unfolding some_of
-  some_end h =
-      let n : length (list_of s) ≡ s.count = list_length s v in
-      ap (some_of f) (ListN.drop_of_length-le (list_of s) {i = i} (omega arith))
+  some_end h = ap (some_of f) (ListN.drop_of_length-le l {i = i} h)
 
 -- the first of the smallest: a loop's turns
 pub least-one : (f : ℕ → ℕ) → Least f 1 0

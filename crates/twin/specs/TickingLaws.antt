@@ -1,6 +1,6 @@
 -- What a tick writes for a pair: the stop event of a watch that ends, or the report of a window that closes. Document
 -- 01, Watching, by history. Assumes nothing.
-use Rattle.std.specs.Prelude.{◌≡◌, ℕ, zero, suc, ◌+◌, ◌-◌, ◌*◌, ◌%◌, ◌<◌, ◌≤◌, Bool, true, false, not, ◌&&◌, List, [], ◌∷◌, ◌++◌, map, length, take, ◌==◌, ◌≢◌, nat_le, nat_lt}
+use Rattle.std.specs.Prelude.{◌≡◌, ℕ, zero, suc, ◌+◌, ◌-◌, ◌*◌, ◌%◌, ◌<◌, ◌≤◌, Bool, true, false, not, ◌&&◌, List, [], ◌∷◌, ◌++◌, map, length, take, ◌==◌, ◌≢◌, nat_le, nat_lt, slice_index_or}
 use Rattle.std.proofs.Math.Path.{refl, sym, ap, subst}
 use Rattle.std.proofs.Common.{◌∙◌, take_all, take-suc}
 use Rattle.std.proofs.lemmas.Bool.{false≢true}
@@ -36,9 +36,9 @@ use Rattle.twin.specs.SilentLaws.{typed-tick}
 use Rattle.twin.specs.Numbered.{mon_at}
 use Rattle.twin.specs.MarksLaws.{looks-at, marked-looks}
 use Rattle.twin.specs.PassedLaws.{frames-less, lasts-is, past-length, past_more, since-past, since-start}
-use Rattle.twin.specs.StartsLaws.{all-at, list_at, list_length}
-use Rattle.twin.specs.Seen.{Agrees, Frames, Marked, begun_at, lasts, list_of, no_begun, start_at, starts_of}
-use Rattle.twin.specs.Events.{event_of, window_says}
+use Rattle.twin.specs.StartsLaws.{all_get_d}
+use Rattle.twin.specs.Seen.{Agrees, Frames, Marked, Watches, lasts, list_of, no_begun, start_at, starts_of}
+use Rattle.twin.specs.Events.{stop_of, window_says}
 use Rattle.twin.specs.EventsLaws.{nothing, stop_is, wrote-two}
 
 not-less : (x y : ℕ) → nat_le x y ≡ not (nat_lt y x)
@@ -50,25 +50,30 @@ all_map P f [] a = tt
 all_map P f (b ∷ l) a = (a.0, all_map P f l a.1)
 
 -- a kept start is under watch, so its monitor was accepted
-pub start-accepted : (t : List ℕ) (i : ℕ) (s : Seen) (j : ℕ) → Agrees t i s → j < s.count
-    → accepts (start_at t (begun_at s j)).mon ≡ true
+pub watches-at : (t : List ℕ) (i : ℕ) (s : Seen) (j : ℕ) → Agrees t i s → j < length (list_of s)
+    → Watches t i (slice_index_or (list_of s) j no_begun)
 unfolding starts_of
-start-accepted t i s j w l =
+watches-at t i s j w l =
     let a : All (Watched (past_at t i)) (map (start_at t) (list_of s)) =
     subst (All (Watched (past_at t i))) (sym w.watch) (watched-all (past_at t i)) in
-    (all-at s w.shows.held _ j (all_map (Watched (past_at t i)) (start_at t) (list_of s) a) l).accepted
+    let b : All (λ (b : Begun). Watched (past_at t i) (start_at t b)) (list_of s) =
+    all_map (Watched (past_at t i)) (start_at t) (list_of s) a in
+    record {
+      marked = all_get_d (Marked t i) (list_of s) j no_begun w.shows.marks l;
+      accepted = (all_get_d (λ (b : Begun). Watched (past_at t i) (start_at t b)) (list_of s) j no_begun b l).accepted;
+    }
 
-pub start-looks : (t : List ℕ) (i n : ℕ) (s : Seen) (j : ℕ) → Frames t n → n ≡ i + 1 → Agrees t i s → j < s.count
-    → Looks t (begun_at s j).monitor (begun_at s j).packet n × Looks t (begun_at s j).monitor (begun_at s j).packet i
-start-looks t i n s j f e w l =
-    let m : Marked t i (begun_at s j) = all-at s w.shows.held _ j w.shows.marks l in
-    let k : Marked t n (begun_at s j) =
+pub watches-looks : (t : List ℕ) (i n : ℕ) (b : Begun) → Frames t n → n ≡ i + 1 → Watches t i b
+    → Looks t b.monitor b.packet n × Looks t b.monitor b.packet i
+watches-looks t i n b f e w =
+    let m : Marked t i b = w.marked in
+    let k : Marked t n b =
     record {
       start = m.start;
-      order = let o : (begun_at s j).packet ≤ i = m.order in omega arith;
+      order = let o : b.packet ≤ i = m.order in omega arith;
       handle = m.handle;
     } in
-    (marked-looks t n (begun_at s j) f k, marked-looks t i (begun_at s j) (frames-less t n i (omega arith) f) m)
+    (marked-looks t n b f k, marked-looks t i b (frames-less t n i (omega arith) f) m)
 
 told-any : (prefix : List ℕ) (past : List Typed) (s : Pair.Start) (o : Option Packet)
     → has_told prefix past s o ≡ has_told [] [] s o
@@ -87,15 +92,12 @@ module _ (prefix t : List ℕ) (i : ℕ) (b : Begun) (e : typed_at t i ≡ tick)
   unfolding ends
   ends_is = not-less (run_of S.mon) (silent_in S (tick ∷ since_start S Q)) ∙ ap not (sym (lasts-is t i b e o))
 
-  pub tick-ends : {out v p : List ℕ} {at r x k : ℕ} {g : Bool} → g ≡ lasts t (i + 1) b → g ≡ false → x ≡ b.handle
-      → k ≡ b.packet → p ≡ payload_at t (k - 1)
-      → (r ≤ event_most) × PutAt out at (event_of prefix x (packet_of p) 0) v r → (r ≤ report_most)
+  pub tick-ends : {out v : List ℕ} {at r : ℕ} {g : Bool} → g ≡ lasts t (i + 1) b → g ≡ false
+      → (r ≤ event_most) × PutAt out at (stop_of t prefix b) v r → (r ≤ report_most)
       × PutAt out at (tick_says_of prefix Q S) v r
   unfolding tick_says_of pick start_at start_of
-  tick-ends {out} {v} {p} {at} {r} {x} {k} g z ex ek ep w =
-      let q : event_of prefix b.handle (packet_of (payload_at t (b.packet - 1))) 0
-      ≡ event_of prefix x (packet_of p) 0 = rw (← ex, ← ek, ← ep) in
-      (omega (arith, w.0), rw (ends_is ∙ ap not (sym g ∙ z), stop_is prefix Q (start_at t b), q) w.1)
+  tick-ends {out} {v} {at} {r} g z w =
+      (omega (arith, w.0), rw (ends_is ∙ ap not (sym g ∙ z), stop_is prefix Q (start_at t b)) w.1)
 
   module _ {g : Bool} (ge : g ≡ lasts t (i + 1) b) (gz : g ≡ true) where
     stays : tick_says_of prefix Q S ≡ when (tells_window prefix Q S) (window_report (Past.pair_after Q S))
@@ -183,29 +185,27 @@ module _ (prefix t : List ℕ) (i : ℕ) (s : Seen) (w : Agrees t i s) where
   unfolding each
   ticks-none out = nothing out 0
 
-  pub ticks-more : (j : ℕ) {out o v : List ℕ} {at n : ℕ} → j < s.count → at ≤ length out
+  pub ticks-more : (j : ℕ) {out o v : List ℕ} {at n : ℕ} → j < length (list_of s) → at ≤ length out
       → PutAt out 0 (each F (take j (list_of s))) o at
-      → PutAt o at (F (begun_at s j)) v n → PutAt out 0 (each F (take (j + 1) (list_of s))) v (at + n)
+      → PutAt o at (F (slice_index_or (list_of s) j no_begun)) v n
+      → PutAt out 0 (each F (take (j + 1) (list_of s))) v (at + n)
   ticks-more j {out} {o} {v} {at} {n} l room a c =
       let z : 0 + at ≡ at = omega arith in
-      let m : j < length (list_of s) = let k : length (list_of s) ≡ s.count =
-      list_length s w.shows.held in omega arith in
-      let y : each F (take (j + 1) (list_of s)) ≡ each F (take j (list_of s)) ++ F (begun_at s j) =
-      each_take F (list_of s) j no_begun m
-      ∙ ap (λ (b : Begun). each F (take j (list_of s)) ++ F b) (list_at s w.shows.held j l) in
-      rw y (wrote-two out 0 (each F (take j (list_of s))) (F (begun_at s j)) (omega arith) a (rw z c))
+      let b : Begun = slice_index_or (list_of s) j no_begun in
+      let y : each F (take (j + 1) (list_of s)) ≡ each F (take j (list_of s)) ++ F b =
+      each_take F (list_of s) j no_begun l in
+      rw y (wrote-two out 0 (each F (take j (list_of s))) (F b) (omega arith) a (rw z c))
 
   each_map : (l : List Begun) → each F l ≡ each (tick_says_of prefix (past_at t i)) (map (start_at t) l)
   unfolding each
   each_map [] = refl
   each_map (b ∷ l) = rw (each_map l)
 
-  pub ticks-all : (j : ℕ) {out o : List ℕ} {at : ℕ} → s.count ≤ j → PutAt out 0 (each F (take j (list_of s))) o at
+  pub ticks-all : (j : ℕ) {out o : List ℕ} {at : ℕ} → length (list_of s) ≤ j → PutAt out 0 (each F (take j (list_of s))) o at
       → PutAt out 0 (tick_says prefix (past_at t i)) o at
   unfolding tick_says starts_of
   ticks-all j {out} {o} {at} l a =
-      let n : length (list_of s) ≡ s.count = list_length s w.shows.held in
       let y : each F (take j (list_of s)) ≡ each (tick_says_of prefix (past_at t i)) (watch (past_at t i)) =
-      ap (each F) (take_all j (list_of s) (omega arith)) ∙ each_map (list_of s)
+      ap (each F) (take_all j (list_of s) l) ∙ each_map (list_of s)
       ∙ ap (each (tick_says_of prefix (past_at t i))) w.watch in
       subst (λ (x : List ℕ). PutAt out 0 x o at) y a

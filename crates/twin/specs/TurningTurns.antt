@@ -24,37 +24,17 @@ use Rattle.pasts.specs.Past.{goes_for, is_start, monitor_after, pair_after, turn
 use Rattle.pasts.specs.Says.{is_reported, packet_says, reason_by, tells_start, turn_says, turns_say}
 use Rattle.twin.specs.declared.watch.Begun.{Begun}
 use Rattle.twin.specs.declared.watch.Seen.{Seen}
+use Rattle.twin.specs.declared.watch.Deed.{Deed}
+use Rattle.twin.specs.declared.watch.Deed.TheVariants.{Still, Joined, Displaced}
 use Rattle.twin.specs.declared.watch.Turn.{Turn}
 use Rattle.twin.specs.Table.{Stands, past_at, payload_at}
 use Rattle.twin.specs.Hears.{Start, start_of}
-use Rattle.twin.specs.StartsLaws.{all-at}
-use Rattle.twin.specs.Seen.{Comes, Took, Turns, begins, begun_at, gone_by, start_at, starts_of}
-use Rattle.twin.specs.Events.{event_of, gone_says}
+use Rattle.twin.specs.StartsLaws.{all-at, below-pairs}
+use Rattle.twin.specs.Seen.{Comes, Took, Turns, begins, begun_at, gone_by, start_at, starts_by, starts_of}
+use Rattle.twin.specs.Events.{event_of, gone_says, stop_of}
 use Rattle.twin.specs.EventsLaws.{nothing, start_is, stop_is, wrote-two}
 
--- the start that goes
-pub gone-none : (prefix t : List ℕ) (s : Seen) (g : ℕ) (out : List ℕ) (at : ℕ) → most_pairs ≤ g → (0 ≤ event_most)
-    × PutAt out at (gone_says prefix (gone_by t s g)) out 0
-unfolding gone_by gone_says each when
-gone-none prefix t s g out at h = (omega arith, rw (le-ltb g most_pairs h) (nothing out at))
-
-pub gone_one : (prefix t : List ℕ) (s : Seen) (g : ℕ) {out o p : List ℕ} {at r x k : ℕ} → g < most_pairs
-    → x ≡ (begun_at s g).handle → k ≡ (begun_at s g).packet
-    → p ≡ payload_at t (k - 1) → (r ≤ event_most) × PutAt out at (event_of prefix x (packet_of p) 0) o r
-    → (r ≤ event_most) × PutAt out at (gone_says prefix (gone_by t s g)) o r
-unfolding gone_by gone_says each when start_at start_of
-gone_one prefix t s g {out} {o} {p} {at} {r} {x} {k} h ex ek ep w =
-    let q : event_of prefix (begun_at s g).handle (packet_of (payload_at t ((begun_at s g).packet - 1))) 0
-    ≡ event_of prefix x (packet_of p) 0 = rw (← ex, ← ek, ← ep) in (
-      w.0,
-      rw (
-        lt-ltb g most_pairs h,
-        append-nil
-            (event_of prefix (begun_at s g).handle (packet_of (payload_at t ((begun_at s g).packet - 1))) 0),
-        q,
-      ) w.1,
-    )
-
+-- the start of a kept one
 pub start-stands : (t : List ℕ) (a k j : ℕ) → Start t a k → j ≡ k → Stands t (j - 1)
 start-stands t a k j s e = rw e s.sends.stands
 
@@ -88,31 +68,55 @@ module _ (prefix t : List ℕ) (i h : ℕ) (s : Seen) (r : Turn) (k : Took t i h
   says_some (some m) e =
       rw (e, each-stops prefix Q (goes_for Q p (starts_of t s)), start_is prefix (Past.start_of Q p m h))
 
-  pub turn-still : (out : List ℕ) (at : ℕ) → r.started ≡ false → (0 ≤ turn_most)
+  pub turn-still : (out : List ℕ) (at : ℕ) → r.deed ≡ Still → (0 ≤ turn_most)
       × PutAt out at (turn_says prefix Q p (monitor_after Q h) h (starts_of t s)) out 0
-  turn-still out at z = (omega arith, rw (says_none (monitor_after Q h) (sym k.started ∙ z)) (nothing out at))
+  turn-still out at z =
+      (omega arith, rw (says_none (monitor_after Q h) (sym k.started ∙ ap starts_by z)) (nothing out at))
 
-  gone-is : r.started ≡ true → goes_for Q p (starts_of t s) ≡ gone_by t s r.gone
+  gone-is : starts_by r.deed ≡ true → goes_for Q p (starts_of t s) ≡ gone_by t s r.deed
   unfolding when
   gone-is z = rw z at k.gone
 
-  pub turn-moves : {out o v x : List ℕ} {at n m : ℕ} → r.started ≡ true → at + turn_most ≤ length out
+  says-is : (d : Deed) → r.deed ≡ d → starts_by d ≡ true
+      → turn_says prefix Q p (monitor_after Q h) h (starts_of t s) ≡ gone_says prefix (gone_by t s d) ++ event_of prefix h p 1
+  says-is d e z =
+      let y : starts_by r.deed ≡ true = ap starts_by e ∙ z in
+      says_some (monitor_after Q h) (sym k.started ∙ y)
+      ∙ ap (λ (l : List Pair.Start). gone_says prefix l ++ event_of prefix h p 1) (gone-is y ∙ ap (gone_by t s) e)
+
+  -- one behind the others
+  pub turn-joins : {o x : List ℕ} {out : List ℕ} {at m : ℕ} → r.deed ≡ Joined → x ≡ payload_at t i
+      → (m ≤ event_most) × PutAt out at (event_of prefix h (packet_of x) 1) o m
+      → (m ≤ turn_most) × PutAt out at (turn_says prefix Q p (monitor_after Q h) h (starts_of t s)) o m
+  unfolding gone_by gone_says each
+  turn-joins {o} {x} {out} {at} {m} z e b =
+      let c : PutAt out at (event_of prefix h p 1) o m =
+      subst (λ (l : List ℕ). PutAt out at (event_of prefix h (packet_of l) 1) o m) e b.1 in
+      (omega (arith, b.0), rw (says-is Joined z refl) c)
+
+  -- one for another, whose stop event comes first
+  pub turn-moves : (g : ℕ) {out o v x : List ℕ} {at n m : ℕ} → r.deed ≡ Displaced g → at + turn_most ≤ length out
       → x ≡ payload_at t i
-      → (n ≤ event_most) × PutAt out at (gone_says prefix (gone_by t s r.gone)) o n
+      → (n ≤ event_most) × PutAt out at (stop_of t prefix (begun_at s g)) o n
       → (m ≤ event_most) × PutAt o (at + n) (event_of prefix h (packet_of x) 1) v m
       → (n + m ≤ turn_most) × PutAt out at (turn_says prefix Q p (monitor_after Q h) h (starts_of t s)) v (n + m)
-  turn-moves {out} {o} {v} {x} {at} {n} {m} z room e a b =
+  unfolding gone_by gone_says each start_at start_of
+  turn-moves g {out} {o} {v} {x} {at} {n} {m} z room e a b =
       let c : PutAt o (at + n) (event_of prefix h p 1) v m =
-      subst (λ (l : List ℕ). PutAt o (at + n) (event_of prefix h (packet_of l) 1) v m) e b.1 in (
+      subst (λ (l : List ℕ). PutAt o (at + n) (event_of prefix h (packet_of l) 1) v m) e b.1 in
+      let w : gone_says prefix (gone_by t s (Displaced g)) ≡ stop_of t prefix (begun_at s g) =
+      append-nil (stop_of t prefix (begun_at s g)) in (
         omega (arith, a.0, b.0),
-        rw (says_some (monitor_after Q h) (sym k.started ∙ z), gone-is z)
-            (wrote-two out at (gone_says prefix (gone_by t s r.gone)) (event_of prefix h p 1) (omega (arith, a.0))
-            a.1 c),
+        rw (says-is (Displaced g) z refl, w)
+            (wrote-two out at (stop_of t prefix (begun_at s g)) (event_of prefix h p 1) (omega (arith, a.0)) a.1 c),
       )
 
-  pub gone-start : Turns t i h s → r.gone < most_pairs
-      → Start t (begun_at s r.gone).monitor (begun_at s r.gone).packet
-  gone-start w l = (all-at s w.shows.held _ r.gone w.shows.marks (k.within l)).start
+  pub gone-start : (g : ℕ) → Turns t i h s → r.deed ≡ Displaced g
+      → Start t (begun_at s g).monitor (begun_at s g).packet
+  gone-start g w e = (all-at s w.shows.held _ g w.shows.marks (k.within g e)).start
+
+  pub gone-within : (g : ℕ) → Turns t i h s → r.deed ≡ Displaced g → g < most_pairs
+  gone-within g w e = below-pairs s w.shows.held g (k.within g e)
 
 -- whether a packet is reported does not ask for the prefix
 reported-any : (prefix : List ℕ) (past : List Typed) (p : Packet) → is_reported prefix past p ≡ is_reported [] past p

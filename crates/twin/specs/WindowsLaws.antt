@@ -52,31 +52,19 @@ module _ (t : List ℕ) where
   unfolding ticks_among
   ticks-one k i l f = rw (after_more k i l) (tick-typed t i f (ticks_among (after t k (i - k))))
 
-  ticks-more : (k i : ℕ) {r : Bool} → k ≤ i → Formed t i → r ≡ (kind_at t i == 3) → r ≡ true
+  pub ticks-more : (k i : ℕ) {r : Bool} → k ≤ i → Formed t i → r ≡ (kind_at t i == 3) → r ≡ true
       → ticks_among (after t k (i + 1 - k)) ≡ ticks_among (after t k (i - k)) + 1
   unfolding pick
   ticks-more k i l f e z = ticks-one k i l f ∙ rw (sym e ∙ z)
 
-  ticks-same : (k i : ℕ) {r : Bool} → k ≤ i → Formed t i → r ≡ (kind_at t i == 3) → r ≡ false
+  pub ticks-same : (k i : ℕ) {r : Bool} → k ≤ i → Formed t i → r ≡ (kind_at t i == 3) → r ≡ false
       → ticks_among (after t k (i + 1 - k)) ≡ ticks_among (after t k (i - k))
   unfolding pick
   ticks-same k i l f e z = ticks-one k i l f ∙ rw (sym e ∙ z)
 
-  pub back-tick : (k i : ℕ) {r : Bool} → k < i → Formed t (i - 1) → r ≡ (kind_at t (i - 1) == 3) → r ≡ true
-      → ticks_among (after t k (i - k)) ≡ ticks_among (after t k (i - 1 - k)) + 1
-  back-tick k i l f e z =
-      let y : i ≡ i - 1 + 1 = omega arith in
-      ap (λ (j : ℕ). ticks_among (after t k (j - k))) y ∙ ticks-more k (i - 1) (omega arith) f e z
-
-  pub back-idle : (k i : ℕ) {r : Bool} → k < i → Formed t (i - 1) → r ≡ (kind_at t (i - 1) == 3) → r ≡ false
-      → ticks_among (after t k (i - k)) ≡ ticks_among (after t k (i - 1 - k))
-  back-idle k i l f e z =
-      let y : i ≡ i - 1 + 1 = omega arith in
-      ap (λ (j : ℕ). ticks_among (after t k (j - k))) y ∙ ticks-same k (i - 1) (omega arith) f e z
-
-  pub back_end : (k i : ℕ) → i ≤ k → ticks_among (after t k (i - k)) ≡ 0
+  pub ticks-none : (k : ℕ) → ticks_among (after t k (k - k)) ≡ 0
   unfolding ticks_among after
-  back_end k i l = let z : i - k ≡ 0 = omega arith in ap (λ (j : ℕ). ticks_among (after t k j)) z
+  ticks-none k = let z : k - k ≡ 0 = omega arith in ap (λ (j : ℕ). ticks_among (after t k j)) z
 
 -- the stretch of the last ticks, looked for from the newest frame back: what stands behind frame i, and what is left
 -- of it

@@ -5,21 +5,21 @@ ghost use Rattle.sessions.specs.Machine.{answer_room};
 ghost use Rattle.model.specs.Level.{mean};
 ghost use Rattle.model.specs.Frames.{packet_of};
 ghost use Rattle.model.specs.Monitors.{allows, sifts};
-ghost use Rattle.model.specs.Layout.{block_size, event_most, most_monitors, most_pairs, report_most, turn_most, turns_most};
+ghost use Rattle.model.specs.Layout.{block_size, event_most, most_monitors, report_most, turn_most, turns_most};
 ghost use Rattle.commands.specs.Replies.{prefix_in};
 ghost use Rattle.packets.specs.Writes.{PutAt};
-ghost use Rattle.pasts.specs.Past.{monitor_after, watch as watched_in};
+ghost use Rattle.pasts.specs.Past.{filter_after, monitor_after, watch as watched_in};
 ghost use Rattle.pasts.specs.Says.{is_reported, packet_says, reason_by, tick_says, tick_says_of, turn_says, turns_say};
 ghost use Rattle.twin.specs.Table.{after, kind_at, past_at, payload_at};
 ghost use Rattle.twin.specs.Hears.{Formed, Start, start_of};
 ghost use Rattle.twin.specs.Silent.{Looks};
 ghost use Rattle.twin.specs.Numbered.{mon_at};
-ghost use Rattle.twin.specs.Seen.{Agrees, Comes, Frames, Shows, Took, Turns, begun_at, gone_by, start_at, starts_of};
+ghost use Rattle.twin.specs.Seen.{Agrees, Comes, Frames, Shows, Took, Turns, Watches, start_at, starts_of};
 ghost use Rattle.twin.specs.Answers.{says_at};
-ghost use Rattle.twin.specs.Events.{gone_says, window_says};
+ghost use Rattle.twin.specs.Events.{stop_of, window_says};
 ghost use Rattle.twin.specs.Told.{tells_to};
 
-use super::watch::{Seen, Turn};
+use super::watch::{Begun, Deed, Seen, Turn};
 use super::{heard, kept, pairs, replies, watch, writes};
 use state::State;
 
@@ -49,12 +49,10 @@ fn is_told(t: &[u8], i: usize, seen: Seen) -> bool
         ≡ some_of (reason_by [] (past_at t.now i) (packet_of (payload_at t.now i)))
         (watched_in (past_at t.now i)) }
 {
-    let mut j = 0;
-    while j < seen.count {
-        if is_reason(t, i, watch::monitor_of(seen, j), watch::packet_of(seen, j)) {
+    for b in seen.list() {
+        if is_reason(t, i, usize::from(b.monitor), usize::from(b.packet)) {
             return true;
         }
-        j += 1;
     }
     false
 }
@@ -81,14 +79,12 @@ fn starts_tell(t: &[u8], i: usize, seen: Seen) -> bool
     ensures { result ≡ tells_to t.now i most_monitors }
 {
     let mut next = seen;
-    let mut h = 0u8;
-    while h < State::HANDLES {
+    for h in 0u8..State::HANDLES {
         let turned = watch::take_turn(t, i, h, next);
-        if turn_tells(t, i, h, next, turned.started) {
+        if turn_tells(t, i, h, next, turned.deed.starts()) {
             return true;
         }
         next = turned.seen;
-        h += 1;
     }
     false
 }
@@ -107,20 +103,14 @@ fn is_reported(t: &[u8], i: usize, seen: Seen) -> bool
     starts_tell(t, i, seen)
 }
 
-// The stop event of the start at an index that goes for another; none at 64.
-fn put_gone(head: &[u8], t: &[u8], gone: usize, seen: Seen, out: &mut [u8], at: usize) -> usize
-    requires { (length head.now ≡ block_size)
-        × (gone < most_pairs → Start t.now (begun_at seen gone).monitor (begun_at seen gone).packet)
-        × (at + event_most ≤ length out.old) }
+// The stop event of a start.
+fn put_stop(head: &[u8], t: &[u8], b: Begun, out: &mut [u8], at: usize) -> usize
+    requires { (length head.now ≡ block_size) × Start t.now b.monitor b.packet × (at + event_most ≤ length out.old) }
     ensures { (result ≤ event_most)
-        × PutAt out.old at (gone_says (prefix_in head.now) (gone_by t.now seen gone))
-        out.new result }
+        × PutAt out.old at (stop_of t.now (prefix_in head.now) b) out.new result }
 {
-    if State::PAIRS <= gone {
-        return 0;
-    }
-    let p = kept::payload_at(t, watch::packet_of(seen, gone) - 1);
-    writes::put_event(head, p, watch::handle_of(seen, gone), 0, out, at)
+    let p = kept::payload_at(t, usize::from(b.packet) - 1);
+    writes::put_event(head, p, b.handle, 0, out, at)
 }
 
 // What the turn of handle h at packet i writes.
@@ -141,12 +131,14 @@ fn put_turn(
         (turn_says (prefix_in head.now) (past_at t.now i) (packet_of (payload_at t.now i))
         (monitor_after (past_at t.now i) h) h (starts_of t.now seen)) out.new result }
 {
-    if !turned.started {
-        return 0;
+    match turned.deed {
+        Deed::Still => 0,
+        Deed::Joined => writes::put_event(head, kept::payload_at(t, i), h, 1, out, at),
+        Deed::Displaced(gone) => {
+            let n = put_stop(head, t, seen.starts[gone], out, at);
+            n + writes::put_event(head, kept::payload_at(t, i), h, 1, out, at + n)
+        }
     }
-    let n = put_gone(head, t, turned.gone, seen, out, at);
-    let m = writes::put_event(head, kept::payload_at(t, i), h, 1, out, at + n);
-    n + m
 }
 
 // What the turns of packet i write.
@@ -160,12 +152,10 @@ fn put_turns(head: &[u8], t: &[u8], i: usize, seen: Seen, out: &mut [u8]) -> usi
 {
     let mut next = seen;
     let mut at = 0;
-    let mut h = 0u8;
-    while h < State::HANDLES {
+    for h in 0u8..State::HANDLES {
         let turned = watch::take_turn(t, i, h, next);
         at += put_turn(head, t, i, h, next, turned, out, at);
         next = turned.seen;
-        h += 1;
     }
     at
 }
@@ -194,10 +184,9 @@ fn put_window(t: &[u8], i: usize, a: usize, k: usize, out: &mut [u8], at: usize)
         (window_says (start_of t.now h a k) (after t.now k (i - k))) out.new result) }
 {
     let w = pairs::window_of(t, a, k, i);
-    if w.packets == 0 {
+    let Some(last) = w.last else {
         return 0;
-    }
-    let last = w.last;
+    };
     if !pairs::allows(t, a, last) {
         return 0;
     }
@@ -213,39 +202,31 @@ fn put_window(t: &[u8], i: usize, a: usize, k: usize, out: &mut [u8], at: usize)
     )
 }
 
-// What tick i writes for the start at an index: the stop event of a watch that ends, or the report of a window that
-// closes.
+// What tick i writes for a start: the stop event of a watch that ends, or the report of a window that closes.
 fn put_tick(
     head: &[u8],
     t: &[u8],
     i: usize,
-    seen: Seen,
-    j: usize,
+    filter: u8,
+    b: Begun,
     out: &mut [u8],
     at: usize,
 ) -> usize
     requires { (length head.now ≡ block_size) × Frames t.now (i + 1) × (kind_at t.now i ≡ 3)
-        × Agrees t.now i seen × (j < seen.count) × (at + report_most ≤ length out.old) }
+        × Watches t.now i b × (filter ≡ filter_after (past_at t.now i)) × (at + report_most ≤ length out.old) }
     ensures { (result ≤ report_most)
         × PutAt out.old at
         (tick_says_of (prefix_in head.now) (past_at t.now i)
-        (start_at t.now (begun_at seen j))) out.new result }
+        (start_at t.now b)) out.new result }
 {
-    let a = watch::monitor_of(seen, j);
-    let k = watch::packet_of(seen, j);
-    if !watch::goes_on(t, i + 1, seen, j) {
-        return writes::put_event(
-            head,
-            kept::payload_at(t, k - 1),
-            watch::handle_of(seen, j),
-            0,
-            out,
-            at,
-        );
+    if !watch::goes_on(t, i + 1, b) {
+        return put_stop(head, t, b, out, at);
     }
-    if seen.filter != 1 {
+    if filter != 1 {
         return 0;
     }
+    let a = usize::from(b.monitor);
+    let k = usize::from(b.packet);
     if !pairs::windowed(t, a) {
         return 0;
     }
@@ -264,10 +245,8 @@ fn tick(head: &[u8], t: &[u8], i: usize, out: &mut [u8]) -> usize
 {
     let seen = watch::after_all(t, i);
     let mut at = 0;
-    let mut j = 0;
-    while j < seen.count {
-        at += put_tick(head, t, i, seen, j, out, at);
-        j += 1;
+    for b in seen.list() {
+        at += put_tick(head, t, i, seen.filter, *b, out, at);
     }
     at
 }
@@ -278,10 +257,10 @@ pub(super) fn answer(head: &[u8], t: &[u8], i: usize, out: &mut [u8]) -> usize
     ensures { PutAt out.old 0 (says_at head.now t.now i) out.new result }
 {
     let kind = kept::kind_at(t, i);
-    if kind == 1 {
+    if kind == kept::COMMAND {
         return replies::reply(head, t, i, watch::after_all(t, i), out);
     }
-    if kind == 3 {
+    if kind == kept::TICK {
         return tick(head, t, i, out);
     }
     packet(head, t, i, out)

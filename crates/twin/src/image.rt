@@ -14,7 +14,7 @@ ghost use Rattle.twin.specs.Table.{after, past_at};
 ghost use Rattle.twin.specs.Heard.{Adds};
 ghost use Rattle.twin.specs.Hears.{start_of};
 ghost use Rattle.twin.specs.Silent.{Looks};
-ghost use Rattle.twin.specs.Numbered.{Added, Maybe, Sent, mon_at, numbered};
+ghost use Rattle.twin.specs.Numbered.{Added, May, Maybe, mon_at, numbered};
 ghost use Rattle.twin.specs.Seen.{Frames, Held, Marked, list_of, named_by};
 ghost use Rattle.twin.specs.MonitorRows.{Names, places_of};
 ghost use Rattle.twin.specs.PairRows.{latest_by, numbers_of, pair_at, place_of, rows_of};
@@ -70,11 +70,9 @@ fn put_monitors(b: &mut [u8], t: &[u8], live: &[u8; State::MONITORS])
     ensures { (b.new ≡ put b.old monitors_at (places_of t.now live.now most_monitors))
         × (length (places_of t.now live.now most_monitors) ≡ monitor_size * most_monitors) }
 {
-    let mut h = 0;
-    while h < State::MONITORS {
+    for h in 0..State::MONITORS {
         let row = monitor_row(t, h as u8, octets::wide(live[h]));
         parts::copy(b, State::MONITORS_AT + State::MONITOR_ROW * h, &row);
-        h += 1;
     }
 }
 
@@ -93,9 +91,9 @@ fn put_numbers(row: &mut [u8], t: &[u8], n: usize, a: usize, k: usize)
     row[State::RSSI_AT] = pairs::kept_rssi(t, a, k, n);
 }
 
-// The number of the packet that the last fields tell of, 0 where there is none: the last reason for a report where
-// the monitor filters duplicates, else the latest in the window.
-fn last_of(t: &[u8], a: usize, k: usize, n: usize) -> usize
+// The number of the packet that the last fields tell of, if there is one: the last reason for a report where the
+// monitor filters duplicates, else the latest in the window.
+fn last_of(t: &[u8], a: usize, k: usize, n: usize) -> Option<usize>
     requires { Looks t.now a k n }
     ensures { Maybe t.now n result
         × ((h : ℕ) → numbered t.now result
@@ -119,16 +117,16 @@ fn no_event(t: &[u8], a: usize) -> u8
     0
 }
 
-// Writes event type and data of packet number r, or an event type and no data.
-fn put_latest(row: &mut [u8], t: &[u8], none: u8, r: usize)
-    requires { (length row.old ≡ pair_size) × (1 ≤ r → Sent t.now r) }
+// Writes event type and data of packet number r, or, where there is none, an event type and no data.
+fn put_latest(row: &mut [u8], t: &[u8], none: u8, r: Option<usize>)
+    requires { (length row.old ≡ pair_size) × May t.now r }
     ensures { row.new ≡ put row.old event_at (latest_by none (numbered t.now r)) }
 {
-    if r == 0 {
+    let Some(r) = r else {
         row[State::EVENT_AT] = none;
         row[State::LENGTH_AT] = 0;
         return;
-    }
+    };
     let data = pairs::data_of(t, r);
     row[State::EVENT_AT] = pairs::event_of(t, r);
     row[State::LENGTH_AT] = data.len() as u8;
@@ -155,17 +153,16 @@ fn put_pairs(b: &mut [u8], t: &[u8], n: usize, seen: Seen)
     ensures { (b.new ≡ put b.old pairs_at (rows_of t.now n (list_of seen)))
         × (length (rows_of t.now n (list_of seen)) ≡ pair_size * seen.count) }
 {
-    let mut j = 0;
-    while j < seen.count {
+    for j in 0..seen.count {
+        let s = seen.starts[j];
         let row = pair_row(
             t,
             n,
-            watch::handle_of(seen, j),
-            watch::monitor_of(seen, j),
-            watch::packet_of(seen, j),
+            s.handle,
+            usize::from(s.monitor),
+            usize::from(s.packet),
         );
         parts::copy(b, State::PAIRS_AT + State::PAIR_ROW * j, &row);
-        j += 1;
     }
 }
 

@@ -9,7 +9,7 @@ ghost use Rattle.pasts.specs.Pair.{matching_packets, kept_in, last_reason, silen
 ghost use Rattle.twin.specs.Table.{after};
 ghost use Rattle.twin.specs.Hears.{Formed, Start, start_of};
 ghost use Rattle.twin.specs.Silent.{Looks, refreshes};
-ghost use Rattle.twin.specs.Numbered.{Added, Follows, Maybe, Sent, Tells, mon_at, numbered, packet_at};
+ghost use Rattle.twin.specs.Numbered.{Added, Follows, May, Maybe, Sent, Tells, mon_at, numbered, packet_at};
 ghost use Rattle.twin.specs.Gathered.{Gathers};
 ghost use Rattle.twin.specs.Reasons.{reasons};
 ghost use Rattle.twins.specs.Twin.{most_kept};
@@ -35,9 +35,7 @@ pub(super) fn silent(t: &[u8], a: usize, k: usize, n: usize) -> u16
     ensures { (h : ℕ) → result ≡ silent_in (start_of t.now h a k) (after t.now k (n - k)) }
 {
     let mut c = 0u16;
-    let mut i = n;
-    while k < i {
-        i -= 1;
+    for i in (k..n).rev() {
         if is_good(t, a, k, i) {
             return c;
         }
@@ -53,9 +51,7 @@ pub(super) fn kept_rssi(t: &[u8], a: usize, k: usize, n: usize) -> u8
     requires { Looks t.now a k n }
     ensures { (h : ℕ) → result ≡ kept_in (start_of t.now h a k) (after t.now k (n - k)) }
 {
-    let mut i = n;
-    while k < i {
-        i -= 1;
+    for i in (k..n).rev() {
         if heard::is_heard(t, a, k, i) {
             return kept::rssi_at(t, i);
         }
@@ -77,9 +73,7 @@ fn ticks(t: &[u8], k: usize, n: usize) -> usize
     ensures { result ≡ ticks_among (after t.now k (n - k)) }
 {
     let mut c = 0;
-    let mut i = n;
-    while k < i {
-        i -= 1;
+    for i in k..n {
         if kept::is_tick(t, i) {
             c += 1;
         }
@@ -115,9 +109,7 @@ fn behind_tick(t: &[u8], k: usize, n: usize, last: usize) -> usize
         × (after t.now result (n - result) ≡ stretch last (after t.now k (n - k))) }
 {
     let mut left = last;
-    let mut i = n;
-    while k < i {
-        i -= 1;
+    for i in (k..n).rev() {
         if kept::is_tick(t, i) {
             if left == 0 {
                 return i + 1;
@@ -125,7 +117,7 @@ fn behind_tick(t: &[u8], k: usize, n: usize, last: usize) -> usize
             left -= 1;
         }
     }
-    i
+    k
 }
 
 // Where the window begins; at the end where there are no windows.
@@ -141,12 +133,12 @@ fn window_from(t: &[u8], a: usize, k: usize, n: usize) -> usize
     behind_tick(t, k, n, phase(t, a, k, n))
 }
 
-// The packets of a window, the sum of their RSSI, and the number of the latest, 0 where there is none.
+// The packets of a window, the sum of their RSSI, and the number of the latest, if there is one.
 #[derive(Clone, Copy)]
 pub(super) struct Window {
     pub packets: u32,
     pub sum: u64,
-    pub last: usize,
+    pub last: Option<usize>,
 }
 
 // An RSSI octet as 8 octets of two's complement.
@@ -170,7 +162,7 @@ fn gathered(w: Window, t: &[u8], a: usize, k: usize, i: usize) -> Window
     Window {
         packets: w.packets + 1,
         sum: std::num::wrapping_add_u64(w.sum, extended(kept::rssi_at(t, i))),
-        last: i + 1,
+        last: Some(i + 1),
     }
 }
 
@@ -182,12 +174,10 @@ pub(super) fn window_of(t: &[u8], a: usize, k: usize, n: usize) -> Window
     let mut w = Window {
         packets: 0,
         sum: 0,
-        last: 0,
+        last: None,
     };
-    let mut i = window_from(t, a, k, n);
-    while i < n {
+    for i in window_from(t, a, k, n)..n {
         w = gathered(w, t, a, k, i);
-        i += 1;
     }
     w
 }
@@ -209,14 +199,14 @@ pub(super) fn data_of(t: &[u8], r: usize) -> &[u8]
     &p[9..end]
 }
 
-// Whether packet number q has the event type and the data of packet number r, 0 being none.
-fn alike(t: &[u8], r: usize, q: usize) -> bool
-    requires { (1 ≤ r → Sent t.now r) × Sent t.now q }
+// Whether packet number q has the event type and the data of packet number r, if there is one.
+fn alike(t: &[u8], r: Option<usize>, q: usize) -> bool
+    requires { May t.now r × Sent t.now q }
     ensures { result ≡ Pair.alike (packet_at t.now q) (numbered t.now r) }
 {
-    if r == 0 {
+    let Some(r) = r else {
         return false;
-    }
+    };
     if event_of(t, r) != event_of(t, q) {
         return false;
     }
@@ -231,9 +221,9 @@ pub(super) fn is_sifting(t: &[u8], a: usize) -> bool
     heard::filtering_of(heard::params_of(t, a)) % 2 == 1
 }
 
-// Whether packet number q is a duplicate of packet number r, 0 being none.
-pub(super) fn duplicates(t: &[u8], a: usize, r: usize, q: usize) -> bool
-    requires { Added t.now a × (1 ≤ r → Sent t.now r) × Sent t.now q }
+// Whether packet number q is a duplicate of packet number r, if there is one.
+pub(super) fn duplicates(t: &[u8], a: usize, r: Option<usize>, q: usize) -> bool
+    requires { Added t.now a × May t.now r × Sent t.now q }
     ensures { result
         ≡ (sifts (mon_at t.now a) && Pair.alike (packet_at t.now q) (numbered t.now r)) }
 {
@@ -251,21 +241,21 @@ pub(super) fn allows(t: &[u8], a: usize, q: usize) -> bool
     state::lets_through(heard::filtering_of(heard::params_of(t, a)), event_of(t, q))
 }
 
-// The start packet's number, if it is a reason for a report, else 0.
-fn start_reason(t: &[u8], a: usize, k: usize) -> usize
+// The start packet's number, if it is a reason for a report.
+fn start_reason(t: &[u8], a: usize, k: usize) -> Option<usize>
     requires { Start t.now a k }
-    ensures { result ≡ pick (Monitors.allows (mon_at t.now a) (packet_at t.now k).event) k 0 }
+    ensures { result ≡ pick (Monitors.allows (mon_at t.now a) (packet_at t.now k).event) (Some k) None }
 {
     if allows(t, a, k) {
-        return k;
+        return Some(k);
     }
-    0
+    None
 }
 
 // The last reason for a report after frame i, packet number r being the last before it.
-fn reason_after(t: &[u8], a: usize, k: usize, r: usize, i: usize) -> usize
-    requires { Start t.now a k × Formed t.now i × (1 ≤ r → Sent t.now r) × (i < most_kept) }
-    ensures { result ≡ pick (reasons t.now a k r i) (i + 1) r }
+fn reason_after(t: &[u8], a: usize, k: usize, r: Option<usize>, i: usize) -> Option<usize>
+    requires { Start t.now a k × Formed t.now i × May t.now r × (i < most_kept) }
+    ensures { result ≡ pick (reasons t.now a k r i) (Some (i + 1)) r }
 {
     if !heard::is_heard(t, a, k, i) {
         return r;
@@ -276,11 +266,11 @@ fn reason_after(t: &[u8], a: usize, k: usize, r: usize, i: usize) -> usize
     if alike(t, r, i + 1) {
         return r;
     }
-    i + 1
+    Some(i + 1)
 }
 
-// The number of the last packet that was a reason for a report, 0 where there is none.
-pub(super) fn last_reason(t: &[u8], a: usize, k: usize, n: usize) -> usize
+// The number of the last packet that was a reason for a report, if there is one.
+pub(super) fn last_reason(t: &[u8], a: usize, k: usize, n: usize) -> Option<usize>
     requires { Looks t.now a k n }
     ensures { Maybe t.now n result
         × ((h : ℕ) → numbered t.now result
@@ -288,10 +278,8 @@ pub(super) fn last_reason(t: &[u8], a: usize, k: usize, n: usize) -> usize
         (matching_packets (start_of t.now h a k) (after t.now k (n - k)))) }
 {
     let mut r = start_reason(t, a, k);
-    let mut i = k;
-    while i < n {
+    for i in k..n {
         r = reason_after(t, a, k, r, i);
-        i += 1;
     }
     r
 }

@@ -78,18 +78,18 @@ fn status_of(t: &[u8], i: usize, params: &[u8], seen: Seen) -> u8
     let sub = params[0];
     let live = seen.live;
     if sub == 0 {
-        return statuses::read_status(params);
+        return statuses::code_of(statuses::read_status(params));
     }
     if statuses::is_add(sub) {
         let free = watch::lowest_free(&live);
-        return statuses::add_status(params, free < State::MONITORS);
+        return statuses::code_of(statuses::add_status(params, free.is_some()));
     }
     if sub == 4 {
         let known = watch::is_live(&live, octets::get8(params, 1));
-        return statuses::cancel_status(params, known);
+        return statuses::code_of(statuses::cancel_status(params, known));
     }
     if sub == 5 {
-        return statuses::enable_status(params, seen.filter);
+        return statuses::code_of(statuses::enable_status(params, seen.filter));
     }
     1
 }
@@ -102,7 +102,7 @@ fn handle_of(seen: Seen, status: u8) -> u8
         return 0;
     }
     let live = seen.live;
-    watch::lowest_free(&live) as u8
+    watch::lowest_free(&live).unwrap_or(State::MONITORS) as u8
 }
 
 // The answer to the command that is frame i, behind what was seen before it.

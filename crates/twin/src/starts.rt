@@ -1,11 +1,11 @@
 // The starts that are kept: one more, none, those that pass a test.
-ghost use Rattle.std.specs.Prelude.{◌≡◌, ◌<◌};
+ghost use Rattle.std.specs.Prelude.{◌≡◌, ◌<◌, Bool};
 ghost use Rattle.laws.specs.Loops.{keep};
-ghost use Rattle.laws.specs.Tests.{pick};
+ghost use Rattle.rule.specs.Base.{All};
 ghost use Rattle.model.specs.Layout.{most_pairs};
-ghost use Rattle.twin.specs.Seen.{Held, Rest, bare, begun_at, but_at, list_of, of_other, pushed};
+ghost use Rattle.twin.specs.Seen.{Held, Rest, bare, but_at, list_of, of_other, pushed};
+ghost use Rattle.twin.specs.declared.watch.Begun.{Begun};
 
-use super::watch;
 use super::watch::{Begun, Seen};
 
 // One start more, behind the others.
@@ -29,16 +29,20 @@ pub(super) fn emptied(seen: Seen) -> Seen
     next
 }
 
-// Start i of some behind others, where it stays.
-pub(super) fn carry(to: Seen, from: Seen, i: usize, stays: bool) -> Seen
-    requires { (to.count < most_pairs) × (i < most_pairs) }
-    ensures { result ≡ pick stays (pushed to (begun_at from i)) to }
+// The starts that pass a test.
+pub(super) fn only<F: Fn(Begun) -> bool>(seen: Seen, stays: F) -> Seen
+    requires held { Held seen }
+    requires pre { All (λ b. F.pre stays b) (list_of seen) }
+    ensures { (f : Begun → Bool) → ((b : Begun) (r : Bool) → F.post stays b r → r ≡ f b)
+        → Rest seen (keep f (list_of seen)) result }
 {
-    if !stays {
-        return to;
+    let mut next = emptied(seen);
+    for b in seen.list() {
+        if stays(*b) {
+            next = push(next, *b);
+        }
     }
-    let b = from.starts[i];
-    push(to, b)
+    next
 }
 
 // The starts but those of a handle.
@@ -46,26 +50,16 @@ pub(super) fn without_handle(seen: Seen, h: u8) -> Seen
     requires { Held seen }
     ensures { Rest seen (keep (of_other h) (list_of seen)) result }
 {
-    let mut next = emptied(seen);
-    let mut i = 0;
-    while i < seen.count {
-        let other = watch::handle_of(seen, i) != h;
-        next = carry(next, seen, i, other);
-        i += 1;
-    }
-    next
+    only(seen, |b| b.handle != h)
 }
 
 // The starts but one.
 pub(super) fn without_start(seen: Seen, gone: usize) -> Seen
-    requires { Held seen }
+    requires { Held seen × (gone < seen.count) }
     ensures { Rest seen (but_at gone (list_of seen)) result }
 {
-    let mut next = emptied(seen);
-    let mut i = 0;
-    while i < seen.count {
-        next = carry(next, seen, i, i != gone);
-        i += 1;
-    }
+    let mut next = seen;
+    next.starts.copy_within(gone + 1..seen.count, gone);
+    next.count -= 1;
     next
 }

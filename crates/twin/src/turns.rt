@@ -1,5 +1,5 @@
 // A handle's turn at a packet: whether it would start a pair, and the room that the start takes.
-ghost use Rattle.std.specs.Prelude.{◌≡◌, ◌+◌, ◌<◌, ◌≤◌, false, not, ◌&&◌, nat_lt};
+ghost use Rattle.std.specs.Prelude.{◌≡◌, ◌+◌, ◌<◌, ◌≤◌, not, ◌&&◌, nat_lt};
 ghost use Rattle.laws.specs.Loops.{some};
 ghost use Rattle.laws.specs.Tests.{pick};
 ghost use Rattle.rule.specs.Base.{All};
@@ -9,21 +9,22 @@ ghost use Rattle.model.specs.Monitors.{matches, strong};
 ghost use Rattle.twin.specs.Table.{payload_at};
 ghost use Rattle.twin.specs.Silent.{Looks};
 ghost use Rattle.twin.specs.Numbered.{Added, mon_at};
+ghost use Rattle.twin.specs.declared.watch.Deed.TheVariants.{Still};
 ghost use Rattle.twin.specs.Seen.{Comes, Frames, Held, Joins, Least, Marked, begun_at, level_in, list_of, pair_in};
 
-use super::watch::{Begun, Seen, Turn};
-use super::{heard, kept, pairs, starts, watch};
+use super::watch::{Begun, Deed, Seen, Turn};
+use super::{heard, kept, pairs, starts};
 use state::State;
 
-// Whether start j is of a handle and the device of packet i.
-fn is_pair(t: &[u8], i: usize, h: u8, seen: Seen, j: usize) -> bool
-    requires { (j < most_pairs) × Comes t.now i × Marked t.now (i + 1) (begun_at seen j) }
-    ensures { result ≡ pair_in t.now i h (begun_at seen j) }
+// Whether a start is of a handle and the device of packet i.
+fn is_pair(t: &[u8], i: usize, h: u8, b: Begun) -> bool
+    requires { Comes t.now i × Marked t.now (i + 1) b }
+    ensures { result ≡ pair_in t.now i h b }
 {
-    if watch::handle_of(seen, j) != h {
+    if b.handle != h {
         return false;
     }
-    let d = kept::payload_at(t, watch::packet_of(seen, j) - 1);
+    let d = kept::payload_at(t, usize::from(b.packet) - 1);
     let p = kept::payload_at(t, i);
     parts::same(&d[1..8], &p[1..8])
 }
@@ -33,23 +34,21 @@ fn holds(t: &[u8], i: usize, h: u8, seen: Seen) -> bool
     requires { Comes t.now i × Held seen × All (Marked t.now (i + 1)) (list_of seen) }
     ensures { result ≡ some (pair_in t.now i h) (list_of seen) }
 {
-    let mut j = 0;
-    while j < seen.count {
-        if is_pair(t, i, h, seen, j) {
+    for b in seen.list() {
+        if is_pair(t, i, h, *b) {
             return true;
         }
-        j += 1;
     }
     false
 }
 
-// The level of what start j keeps, packet i heard already.
-fn level_at(t: &[u8], i: usize, seen: Seen, j: usize) -> u8
-    requires { (j < most_pairs) × Looks t.now (begun_at seen j).monitor (begun_at seen j).packet (i + 1) }
-    ensures { result ≡ level_in t.now (i + 1) (begun_at seen j) }
+// The level of what a start keeps, packet i heard already.
+fn level_at(t: &[u8], i: usize, b: Begun) -> u8
+    requires { Looks t.now b.monitor b.packet (i + 1) }
+    ensures { result ≡ level_in t.now (i + 1) b }
 {
-    let k = watch::packet_of(seen, j);
-    state::level_of(pairs::kept_rssi(t, watch::monitor_of(seen, j), k, i + 1))
+    let k = usize::from(b.packet);
+    state::level_of(pairs::kept_rssi(t, usize::from(b.monitor), k, i + 1))
 }
 
 // Of starts v and w the one that keeps less, v where they keep the same.
@@ -60,7 +59,7 @@ fn lower(t: &[u8], i: usize, seen: Seen, v: usize, w: usize) -> usize
         ≡ pick (nat_lt (level_in t.now (i + 1) (begun_at seen w))
         (level_in t.now (i + 1) (begun_at seen v))) w v }
 {
-    if level_at(t, i, seen, w) < level_at(t, i, seen, v) {
+    if level_at(t, i, seen.starts[w]) < level_at(t, i, seen.starts[v]) {
         return w;
     }
     v
@@ -72,21 +71,18 @@ fn weakest(t: &[u8], i: usize, seen: Seen) -> usize
     ensures { Least (λ j. level_in t.now (i + 1) (begun_at seen j)) seen.count result }
 {
     let mut found = 0;
-    let mut j = 1;
-    while j < seen.count {
+    for j in 1..seen.count {
         found = lower(t, i, seen, found, j);
-        j += 1;
     }
     found
 }
 
 pub(super) fn no_turn(seen: Seen) -> Turn
-    ensures { (result.seen ≡ seen) × (result.started ≡ false) × (result.gone ≡ most_pairs) }
+    ensures { (result.seen ≡ seen) × (result.deed ≡ Still) }
 {
     Turn {
         seen: seen,
-        started: false,
-        gone: State::PAIRS,
+        deed: Deed::Still,
     }
 }
 
@@ -117,17 +113,15 @@ pub(super) fn join(t: &[u8], i: usize, b: Begun, seen: Seen) -> Turn
     if seen.count < State::PAIRS {
         return Turn {
             seen: starts::push(seen, b),
-            started: true,
-            gone: State::PAIRS,
+            deed: Deed::Joined,
         };
     }
     let w = weakest(t, i, seen);
-    if state::level_of(kept::rssi_at(t, i)) <= level_at(t, i, seen, w) {
+    if state::level_of(kept::rssi_at(t, i)) <= level_at(t, i, seen.starts[w]) {
         return no_turn(seen);
     }
     Turn {
         seen: starts::push(starts::without_start(seen, w), b),
-        started: true,
-        gone: w,
+        deed: Deed::Displaced(w),
     }
 }

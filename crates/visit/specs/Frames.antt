@@ -1,30 +1,39 @@
 -- What an executed frame says to the book of open visits, beside the events of its answer; and the book that an
 -- image's pairs make. Document 01, Lines, Commands, Watching, by history, The image; document 02, T-05, T-06. For any
 -- octets; FramesLaws says that for the frames that the model reads it is what the model reads. Assumes nothing.
-use Rattle.std.specs.Prelude.{ℕ, ◌+◌, ◌-◌, ◌*◌, min, Bool, true, false, ◌&&◌, ◌||◌, List, map, length, drop, replicate, ◌==◌, nat_le, nat_lt, slice_index}
+use Rattle.std.specs.Prelude.{ℕ, ◌+◌, ◌-◌, ◌*◌, min, Bool, ◌&&◌, ◌||◌, List, Option, None, Some, map, length, drop, replicate, ◌==◌, nat_le, nat_lt, slice_index}
 use Rattle.laws.specs.Tests.{pick}
 use Rattle.laws.specs.Put.{put}
 use Rattle.octets.specs.Little.{value}
 use Rattle.octets.specs.Numbers.{number_at}
 use Rattle.sessions.specs.Machine.{last_number}
-use Rattle.model.specs.Types.{Packet, Pair, device_of, watched}
+use Rattle.model.specs.Types.{Pair, device_of, watched}
 use Rattle.model.specs.Level.{level}
 use Rattle.model.specs.Frames.{frame_of, packet_of}
 use Rattle.model.specs.Commands.{sub_of}
 use Rattle.model.specs.Block.{model_of}
 use Rattle.model.specs.Layout.{block_size, most_pairs}
 use Rattle.visit.specs.declared.Visit.{Visit}
-use Rattle.visit.specs.Book.{nobody, devices, begun_at, heard_in}
+use Rattle.visit.specs.declared.Range.{Range}
+use Rattle.visit.specs.declared.End.{End}
+use Rattle.visit.specs.declared.End.TheVariants.{Silence, Full, Cancelled, There}
+use Rattle.visit.specs.declared.frames.Kind.{Kind}
+use Rattle.visit.specs.declared.frames.Kind.TheVariants.{Command, Packet, Tick, Scanned}
+use Rattle.visit.specs.Book.{devices, begun_at, heard_in}
 
--- how a visit ended: by silence, by a full table, with its monitor; any other number says that it is still there
-abbrev pub by_silence : ℕ
-by_silence = 0
+-- the numbers of how a visit ended: 0 by silence, 1 by a full table, 2 with its monitor, 3 that it is still there
+abbrev pub number_from : End → ℕ
+number_from Silence = 0
+number_from Full = 1
+number_from Cancelled = 2
+number_from There = 3
 
-abbrev pub by_full : ℕ
-by_full = 1
-
-abbrev pub by_cancel : ℕ
-by_cancel = 2
+-- "01 command", "02 packet", "03 tick", T-06: "Add packet kind 04"
+abbrev pub octet_of : Kind → ℕ
+octet_of Command = 1
+octet_of Packet = 2
+octet_of Tick = 3
+octet_of Scanned = 4
 
 -- "A journal line has a kind octet, a 4-octet frame number, a payload"
 unfoldable pub kind_of : List ℕ → ℕ
@@ -55,8 +64,8 @@ tick_of ticks = ticks - 1
 -- how a visit ended whose stop event is in the answer to a frame: "The tick that completes such a run ends the
 -- watch", by silence; at a packet T-05: "When a packet would start a pair but 64 are under watch, .. that pair ..
 -- gets its stop event"
-unfoldable pub end_of : List ℕ → ℕ
-end_of frame = pick (is_tick frame) by_silence by_full
+unfoldable pub end_of : List ℕ → End
+end_of frame = pick (is_tick frame) Silence Full
 
 -- "01 command: opcode (2), parameter length (1), parameters"; the first of them is the sub-opcode
 unfoldable pub parameters_of : List ℕ → List ℕ
@@ -84,8 +93,14 @@ least_key handle = handle * devices
 unfoldable pub most_key : ℕ → ℕ
 most_key handle = handle * devices + (devices - 1)
 
+-- from which key to which the visits are that it ends
+unfoldable pub cancelled_in : List ℕ → List ℕ → Option Range
+cancelled_in frame answer =
+    pick (cancels frame answer)
+    (Some (record { low = least_key (handle_of frame); high = most_key (handle_of frame) })) None
+
 -- a packet heard by the open visits of its device, "(type and address)"; another frame changes nothing
-unfoldable pub heard_of : List ℕ → List Visit → List Visit
+unfoldable pub heard_of : List ℕ → List (Option Visit) → List (Option Visit)
 heard_of frame rows =
     pick (is_packet frame) (heard_in (value (device_of (packet_of (payload_of frame))))
     (level (packet_of (payload_of frame)).rssi) rows) rows
@@ -95,11 +110,11 @@ unfoldable pub key_of : Pair → ℕ
 key_of q = value (watched q) + q.handle * devices
 
 -- the visit of a pair of an image: begun before the journal, with no frame and no tick
-unfoldable pub visit_of : Pair → Visit
-visit_of q = begun_at (key_of q) 0 0
+unfoldable pub visit_of : Pair → Option Visit
+visit_of q = Some (begun_at (key_of q) 0 0)
 
 -- "A2 per pair, in start order": the book of the pairs held, in their order; a block that is too short has none
-unfoldable pub begun_in : List ℕ → List Visit
+unfoldable pub begun_in : List ℕ → List (Option Visit)
 begun_in s =
-    pick (nat_lt (length s) block_size) (replicate most_pairs nobody)
-    (put (replicate most_pairs nobody) 0 (map visit_of (model_of s).pairs))
+    pick (nat_lt (length s) block_size) (replicate most_pairs None)
+    (put (replicate most_pairs None) 0 (map visit_of (model_of s).pairs))

@@ -1,6 +1,6 @@
 -- Theorems of Frames and Book: for a frame that the model reads, what Frames says of its octets is what the model
 -- reads in them; a range of keys is one of a handle; the key of a pair is that of its events, and of its visit.
-use Rattle.std.specs.Prelude.{◌≡◌, ℕ, zero, suc, ◌+◌, ◌-◌, ◌*◌, ◌/◌, ◌%◌, ◌^◌, ◌<◌, ◌≤◌, min, Bool, true, false, ◌&&◌, ◌||◌, List, [], ◌∷◌, ◌++◌, map, length, take, drop, replicate, ◌==◌, nat_eq, nat_le, slice_index, slice_index_or}
+use Rattle.std.specs.Prelude.{◌≡◌, ℕ, zero, suc, ◌+◌, ◌-◌, ◌*◌, ◌/◌, ◌%◌, ◌^◌, ◌<◌, ◌≤◌, min, Bool, true, false, ◌&&◌, ◌||◌, List, [], ◌∷◌, Option, None, Some, ◌++◌, map, length, take, drop, replicate, ◌==◌, nat_eq, nat_le, slice_index, slice_index_or}
 use Rattle.std.proofs.Math.Path.{refl, sym, ap}
 use Rattle.std.proofs.Common.{◌∙◌, append_assoc, lt-ltb, le-ltb, le-leb, eq-eqb, ne_eqb, leb-true, eqb-true, length-drop, take_at}
 use Rattle.std.proofs.lemmas.Bool.{false≢true, lt-leb}
@@ -26,35 +26,33 @@ use Rattle.model.specs.Layout.{block_size, most_pairs}
 use Rattle.blocks.specs.RowsLaws.{get_d_past, little-past}
 use Rattle.steps.specs.TypedLaws.{fielded}
 use Rattle.visit.specs.declared.Visit.{Visit}
+use Rattle.visit.specs.declared.End.TheVariants.{Silence, Full}
 use Rattle.visit.specs.declared.News.{News}
 use Rattle.visit.specs.declared.News.TheVariants.{Start, Stop, Other}
-use Rattle.visit.specs.Book.{nobody, devices, last_key, is_in, begun_at, heard_in, told_of}
+use Rattle.visit.specs.Book.{devices, last_key, is_in, begun_at, heard_in, told_of}
 use Rattle.visit.specs.BookLaws.{told-stop, told-start}
-use Rattle.visit.specs.Frames.{by_silence, by_full, kind_of, payload_of, is_tick, is_packet, ticks_with, end_of, parameters_of, handle_of, status_of, cancels, least_key, most_key, heard_of, key_of, visit_of, begun_in}
+use Rattle.visit.specs.Frames.{kind_of, payload_of, is_tick, is_packet, ticks_with, end_of, parameters_of, handle_of, status_of, cancels, least_key, most_key, heard_of, key_of, visit_of, begun_in}
 
 -- the visits that a cancelled handle ends are the open ones of that handle
-pub range-handle : (h : ℕ) (v : Visit) → is_in (least_key h) (most_key h) v ≡ (v.here && v.key / devices == h)
+pub range-handle : (h : ℕ) → (is_in (least_key h) (most_key h) None ≡ false)
+    × ((v : Visit) → is_in (least_key h) (most_key h) (Some v) ≡ (v.key / devices == h))
 unfolding is_in least_key most_key
-range-handle h v = ap (λ (t : Bool). v.here && t) go
+range-handle h = (refl, λ v. go v.key)
   where
-    go : (nat_le (h * devices) v.key && nat_le v.key (h * devices + (devices - 1))) ≡ (v.key / devices == h)
-    go =
-        cases-le (h * devices) v.key
-        (λ a. cases-le v.key (h * devices + (devices - 1))
-        (λ b. rw (le-leb (h * devices) v.key a, le-leb v.key (h * devices + (devices - 1)) b)
-        (sym (eq-eqb (v.key / devices) h (omega arith))))
-        (λ b. rw (le-leb (h * devices) v.key a, lt-leb v.key (h * devices + (devices - 1)) b)
-        (sym (ne_eqb (v.key / devices) h (λ q. omega arith)))))
-        (λ a. rw (lt-leb (h * devices) v.key a) (sym (ne_eqb (v.key / devices) h (λ q. omega arith))))
+    go : (k : ℕ) → (nat_le (h * devices) k && nat_le k (h * devices + (devices - 1))) ≡ (k / devices == h)
+    go k =
+        cases-le (h * devices) k
+        (λ a. cases-le k (h * devices + (devices - 1))
+        (λ b. rw (le-leb (h * devices) k a, le-leb k (h * devices + (devices - 1)) b)
+        (sym (eq-eqb (k / devices) h (omega arith))))
+        (λ b. rw (le-leb (h * devices) k a, lt-leb k (h * devices + (devices - 1)) b)
+        (sym (ne_eqb (k / devices) h (λ q. omega arith)))))
+        (λ a. rw (lt-leb (h * devices) k a) (sym (ne_eqb (k / devices) h (λ q. omega arith))))
 
 -- at a journal's end all that are open are still there: every key has 8 octets
-pub range_all : (v : Visit) → v.key ≤ last_key → is_in 0 last_key v ≡ v.here
+pub range_all : (is_in 0 last_key None ≡ false) × ((v : Visit) → v.key ≤ last_key → is_in 0 last_key (Some v) ≡ true)
 unfolding is_in
-range_all v h = rw (le-leb 0 v.key (omega arith), le-leb v.key last_key h) (go v.here)
-  where
-    go : (b : Bool) → (b && true) ≡ b
-    go true = refl
-    go false = refl
+range_all = (refl, λ v h. rw (le-leb 0 v.key (omega arith), le-leb v.key last_key h) refl)
 
 -- which of the model's frames there is: 1 a command, 2 a packet, 3 a tick, 0 none
 tag_of : Typed → ℕ
@@ -127,17 +125,17 @@ module _ (l : List ℕ) (p : Packet) where
 
 -- a tick is counted, and ends visits by silence
 pub tick-read : (frame : List ℕ) (ticks : ℕ) → typed (frame_of frame).body ≡ tick
-    → (ticks_with ticks frame ≡ min (ticks + 1) last_number) × (end_of frame ≡ by_silence)
+    → (ticks_with ticks frame ≡ min (ticks + 1) last_number) × (end_of frame ≡ Silence)
 unfolding ticks_with end_of is_tick kind_of typed tag_of
 tick-read frame ticks e =
     let b = (frame_of frame).body in
     let k : nat_eq b.kind 3 ≡ true = tick-kind b.payload (packet_of b.payload) (is_command b.payload)
     (is_plain b.payload) (is_empty b.payload) (is_scanned b.payload) (b.kind == 1) (b.kind == 2)
     (b.kind == 3) (b.kind == 4) (ap tag_of e) in
-    (pick_true (min (ticks + 1) last_number) ticks k, pick_true by_silence by_full k)
+    (pick_true (min (ticks + 1) last_number) ticks k, pick_true Silence Full k)
 
 -- a packet is heard by the open visits of its device, with its RSSI's level
-pub packet-read : (frame : List ℕ) (p : Packet) (rows : List Visit) → typed (frame_of frame).body ≡ packet p
+pub packet-read : (frame : List ℕ) (p : Packet) (rows : List (Option Visit)) → typed (frame_of frame).body ≡ packet p
     → heard_of frame rows ≡ heard_in (value (device_of p)) (level p.rssi) rows
 unfolding heard_of is_packet kind_of payload_of frame_of typed tag_of packet_in has_packet
 packet-read frame p rows e =
@@ -188,19 +186,24 @@ pub begun-pairs : (s : List ℕ) → block_size ≤ length s → take (length (m
     ≡ map visit_of (model_of s).pairs
 unfolding begun_in
 begun-pairs s h =
-    rw (pick-false (replicate most_pairs nobody) (put (replicate most_pairs nobody) 0 (map visit_of (model_of s).pairs))
+    rw (pick-false (replicate most_pairs None) (put (replicate most_pairs None) 0 (map visit_of (model_of s).pairs))
     (le-ltb (length s) block_size h))
     (rw (← length-map (model_of s).pairs visit_of)
-    (take_put (replicate most_pairs nobody) 0 (map visit_of (model_of s).pairs) (omega arith)))
+    (take_put (replicate most_pairs None) 0 (map visit_of (model_of s).pairs) (omega arith)))
+
+-- the key of a row's visit
+abbrev key_in : Option Visit → Option ℕ
+key_in None = None
+key_in (Some v) = Some v.key
 
 pub begun-keys : (s : List ℕ) → block_size ≤ length s
-    → map (λ (v : Visit). v.key) (take (length (model_of s).pairs) (begun_in s)) ≡ map key_of (model_of s).pairs
+    → map key_in (take (length (model_of s).pairs) (begun_in s)) ≡ map (λ (q : Pair). Some (key_of q)) (model_of s).pairs
 unfolding visit_of begun_at
-begun-keys s h = ap (map (λ (v : Visit). v.key)) (begun-pairs s h) ∙ go (model_of s).pairs
+begun-keys s h = ap (map key_in) (begun-pairs s h) ∙ go (model_of s).pairs
   where
-    go : (qs : List Pair) → map (λ (v : Visit). v.key) (map visit_of qs) ≡ map key_of qs
+    go : (qs : List Pair) → map key_in (map visit_of qs) ≡ map (λ (q : Pair). Some (key_of q)) qs
     go [] = refl
-    go (q ∷ qs) = ap (λ (x : List ℕ). key_of q ∷ x) (go qs)
+    go (q ∷ qs) = ap (λ (x : List (Option ℕ)). Some (key_of q) ∷ x) (go qs)
 
 -- the key that an event has is its pair's: a start event begins the visit that the pair's stop event ends
 module _ (prefix : List ℕ) (q : Pair) (n : length q.address ≡ 6) where

@@ -1,5 +1,5 @@
 -- Laws of the definitions in Frames.
-use Rattle.std.specs.Prelude.{◌≡◌, ℕ, zero, suc, ◌+◌, ◌-◌, ◌*◌, ◌/◌, ◌^◌, ◌<◌, ◌≤◌, min, Bool, true, false, ◌&&◌, ◌||◌, List, [], ◌∷◌, ◌++◌, map, length, get_or, take, drop, replicate, ◌==◌, nat_eq, nat_le, slice_index, slice_index_or, slice_set, refl}
+use Rattle.std.specs.Prelude.{◌≡◌, ℕ, zero, suc, ◌+◌, ◌-◌, ◌*◌, ◌/◌, ◌^◌, ◌<◌, ◌≤◌, min, Bool, true, false, ◌&&◌, ◌||◌, List, [], ◌∷◌, Option, None, Some, ◌++◌, map, length, get_or, take, drop, replicate, ◌==◌, nat_eq, nat_le, slice_index, slice_index_or, slice_set, refl}
 use Rattle.std.proofs.Math.Path.{sym, ap}
 use Rattle.std.proofs.Common.{◌∙◌, drop-cons, take_all, length-take-le}
 use native.Mathlib.Omega.{arith}
@@ -28,8 +28,10 @@ use Rattle.model.specs.Block.{model_of, pair_table}
 use Rattle.model.specs.Layout.{block_size, count_at, most_pairs, pair_size, pairs_at}
 use Rattle.statuses.specs.AnswersLaws.{octet-at}
 use Rattle.visit.specs.declared.Visit.{Visit}
-use Rattle.visit.specs.Book.{nobody, devices, begun_at, heard_in}
-use Rattle.visit.specs.Frames.{by_silence, by_full, kind_of, payload_of, is_tick, is_packet, ticks_with, tick_of, end_of, parameters_of, handle_of, status_of, cancels, least_key, most_key, heard_of, key_of, visit_of, begun_in}
+use Rattle.visit.specs.declared.Range.{Range}
+use Rattle.visit.specs.declared.End.TheVariants.{Silence, Full}
+use Rattle.visit.specs.Book.{devices, begun_at, heard_in}
+use Rattle.visit.specs.Frames.{kind_of, payload_of, is_tick, is_packet, ticks_with, tick_of, end_of, parameters_of, handle_of, status_of, cancels, least_key, most_key, cancelled_in, heard_of, key_of, visit_of, begun_in}
 
 -- a frame's kind as it is read
 pub kind-read : (frame : List ℕ) (k : ℕ) {c : ℕ} → c ≡ number_at 1 frame 0 → (c == k) ≡ (kind_of frame == k)
@@ -54,13 +56,13 @@ module _ (frame : List ℕ) (b : Bool) (e : b ≡ (kind_of frame == 3)) where
   unfolding ticks_with is_tick
   ticks-same ticks t = sym (pick-false (min (ticks + 1) last_number) ticks (sym e ∙ t))
 
-  pub end-silence : b ≡ true → by_silence ≡ end_of frame
+  pub end-silence : b ≡ true → Silence ≡ end_of frame
   unfolding end_of is_tick
-  end-silence t = sym (pick_true by_silence by_full (sym e ∙ t))
+  end-silence t = sym (pick_true Silence Full (sym e ∙ t))
 
-  pub end-full : b ≡ false → by_full ≡ end_of frame
+  pub end-full : b ≡ false → Full ≡ end_of frame
   unfolding end_of is_tick
-  end-full t = sym (pick-false by_silence by_full (sym e ∙ t))
+  end-full t = sym (pick-false Silence Full (sym e ∙ t))
 
 pub tick-none : (ticks : ℕ) → ticks ≡ 0 → 0 ≡ tick_of ticks
 unfolding tick_of
@@ -77,20 +79,25 @@ unfolding parameters_of payload_of frame_of
 parameter-at frame i e =
     octet-at frame (5 + (3 + i)) e ∙ sym (get_or-drop 3 (drop 5 frame) i 0 ∙ get_or-drop 5 frame (3 + i) 0)
 
+abbrev pub range_in : ℕ → ℕ → Range
+range_in low high = record { low = low; high = high }
+
 module _ (frame answer : List ℕ) (b : Bool) (sub status : ℕ) (e : b ≡ (kind_of frame == 1))
     (s : sub ≡ number_at 1 frame 8) (t : status ≡ number_at 1 answer 5) where
-  pub cancels-read : (b && (sub == 4 && status == 0)) ≡ cancels frame answer
+  cancels-read : (b && (sub == 4 && status == 0)) ≡ cancels frame answer
   unfolding cancels status_of sub_of
   cancels-read = rw (e, parameter-at frame 0 s, octet-at answer 5 t)
 
-module _ (frame : List ℕ) (h : ℕ) (e : h ≡ number_at 1 frame 9) where
-  pub least-read : h * devices ≡ least_key (handle_of frame)
-  unfolding least_key handle_of
-  least-read = ap (λ (x : ℕ). x * devices) (parameter-at frame 1 e)
+  pub cancel-none : (b && (sub == 4 && status == 0)) ≡ false → None ≡ cancelled_in frame answer
+  unfolding cancelled_in
+  cancel-none k = sym (pick-false _ None (sym cancels-read ∙ k))
 
-  pub most-read : h * devices + (devices - 1) ≡ most_key (handle_of frame)
-  unfolding most_key handle_of
-  most-read = ap (λ (x : ℕ). x * devices + (devices - 1)) (parameter-at frame 1 e)
+  pub cancel-some : (h : ℕ) → (b && (sub == 4 && status == 0)) ≡ true → h ≡ number_at 1 frame 9
+      → Some (range_in (h * devices) (h * devices + (devices - 1))) ≡ cancelled_in frame answer
+  unfolding cancelled_in least_key most_key handle_of
+  cancel-some h k q =
+      ap (λ (x : ℕ). Some (range_in (x * devices) (x * devices + (devices - 1)))) (parameter-at frame 1 q)
+      ∙ sym (pick_true _ None (sym cancels-read ∙ k))
 
 -- a packet's frame
 module _ (frame : List ℕ) (a b : Bool) (p : a ≡ (kind_of frame == 2)) (q : b ≡ (kind_of frame == 4)) where
@@ -138,8 +145,8 @@ frame-level frame {o} h e =
     ∙ sym (get_or-drop 5 frame (length (drop 5 frame) - 1) 0)
 
 -- a packet heard, or another frame
-module _ (frame : List ℕ) (rows : List Visit) (b : Bool) (e : b ≡ is_packet frame) where
-  pub heard-packet : (d o v : ℕ) {r : List Visit} → b ≡ true → 15 ≤ length frame → d ≡ little 7 frame 6
+module _ (frame : List ℕ) (rows : List (Option Visit)) (b : Bool) (e : b ≡ is_packet frame) where
+  pub heard-packet : (d o v : ℕ) {r : List (Option Visit)} → b ≡ true → 15 ≤ length frame → d ≡ little 7 frame 6
       → o ≡ number_at 1 frame (length frame - 1) → v ≡ level o → r ≡ heard_in d v rows → r ≡ heard_of frame rows
   unfolding heard_of
   heard-packet d o v t h p q w r =
@@ -175,17 +182,17 @@ module _ (s : List ℕ) (i : ℕ) (n : block_size ≤ length s) (h : i < most_pa
       ∙ ap (λ (x : ℕ). value (slice_index (row pair_size i t) 1 ∷ take 6 (drop 2 (row pair_size i t))) + x * devices) w
 
 -- the book of the first so many rows of a block
-unfoldable pub book_to : List ℕ → ℕ → List Visit
-book_to s i = put (replicate most_pairs nobody) 0 (map visit_of (map pair_in (take i (pair_table s))))
+unfoldable pub book_to : List ℕ → ℕ → List (Option Visit)
+book_to s i = put (replicate most_pairs None) 0 (map visit_of (map pair_in (take i (pair_table s))))
 
-pub book-none : (s : List ℕ) → replicate most_pairs nobody ≡ book_to s 0
+pub book-none : (s : List ℕ) → replicate most_pairs None ≡ book_to s 0
 unfolding book_to put
 book-none s = refl
 
 -- one pair more
-pub book-turn : (s : List ℕ) (i : ℕ) {m : List Visit} {k : ℕ} → i < most_pairs → m ≡ book_to s i
+pub book-turn : (s : List ℕ) (i : ℕ) {m : List (Option Visit)} {k : ℕ} → i < most_pairs → m ≡ book_to s i
     → k ≡ key_of (pair_in (row pair_size i (drop pairs_at s)))
-    → slice_set m i (begun_at k 0 0) ≡ book_to s (i + 1)
+    → slice_set m i (Some (begun_at k 0 0)) ≡ book_to s (i + 1)
 unfolding book_to pair_table visit_of
 book-turn s i h e q =
     let t : List (List ℕ) = rows pair_size most_pairs (drop pairs_at s) in
@@ -194,16 +201,17 @@ book-turn s i h e q =
     let d : length (map visit_of (map pair_in (take i t))) ≡ i =
     length-map (map pair_in (take i t)) visit_of ∙ length-map (take i t) pair_in ∙ c in
     let r : get_or t i [] ≡ row pair_size i (drop pairs_at s) = row_at pair_size most_pairs i (drop pairs_at s) h in
-    let z : length (replicate most_pairs nobody) ≡ most_pairs = length-replicate most_pairs nobody in
+    let z : length (replicate {A = Option Visit} most_pairs None) ≡ most_pairs =
+    length-replicate {A = Option Visit} most_pairs None in
     let g : map visit_of (map pair_in (take (i + 1) t))
     ≡ map visit_of (map pair_in (take i t)) ++ (visit_of (pair_in (slice_index_or t i [])) ∷ []) =
     ap (map visit_of) (map-take pair_in t i [] (omega arith))
     ∙ map-append visit_of (map pair_in (take i t)) (pair_in (slice_index_or t i []) ∷ []) in
-    rw (g, r, q) (put-push (replicate most_pairs nobody) 0 (map visit_of (map pair_in (take i t)))
-    (begun_at (key_of (pair_in (row pair_size i (drop pairs_at s)))) 0 0) (omega arith) (omega arith) e)
+    rw (g, r, q) (put-push (replicate most_pairs None) 0 (map visit_of (map pair_in (take i t)))
+    (Some (begun_at (key_of (pair_in (row pair_size i (drop pairs_at s)))) 0 0)) (omega arith) (omega arith) e)
 
 -- all of them
-pub book-all : (s : List ℕ) (c n : ℕ) {m : List Visit} → block_size ≤ length s → c ≡ number_at 1 s count_at
+pub book-all : (s : List ℕ) (c n : ℕ) {m : List (Option Visit)} → block_size ≤ length s → c ≡ number_at 1 s count_at
     → n ≡ at_most c most_pairs → m ≡ book_to s n → m ≡ begun_in s
 unfolding book_to begun_in model_of pair_table
 book-all s c n h p q e =
@@ -213,10 +221,10 @@ book-all s c n h p q e =
     cases-le c most_pairs (λ b. ap (λ (j : ℕ). take j t) (q ∙ sym (at-is c most_pairs b)))
     (λ b. ap (λ (j : ℕ). take j t) (q ∙ sym (at-over c most_pairs b)) ∙ take_all most_pairs t (omega arith)
     ∙ sym (take_all c t (omega arith))) in
-    e ∙ ap (λ (x : List (List ℕ)). put (replicate most_pairs nobody) 0 (map visit_of (map pair_in x)))
+    e ∙ ap (λ (x : List (List ℕ)). put (replicate most_pairs None) 0 (map visit_of (map pair_in x)))
     (w ∙ ap (λ (j : ℕ). take j t) (octet-at s count_at p))
-    ∙ sym (pick-false (replicate most_pairs nobody) _ (le-ltb (length s) block_size h))
+    ∙ sym (pick-false (replicate most_pairs None) _ (le-ltb (length s) block_size h))
 
-pub book-short : (s : List ℕ) → length s < block_size → replicate most_pairs nobody ≡ begun_in s
+pub book-short : (s : List ℕ) → length s < block_size → replicate most_pairs None ≡ begun_in s
 unfolding begun_in
-book-short s h = sym (pick_true (replicate most_pairs nobody) _ (lt-ltb (length s) block_size h))
+book-short s h = sym (pick_true (replicate most_pairs None) _ (lt-ltb (length s) block_size h))

@@ -6,19 +6,19 @@ ghost use Rattle.model.specs.Layout.{most_pairs, pair_size, pairs_at, block_size
 ghost use Rattle.laws.specs.Rows.{row};
 ghost use Rattle.octets.specs.Little.{little};
 ghost use Rattle.visit.specs.Book.{devices, last_key};
-ghost use Rattle.visit.specs.Frames.{kind_of, number_of, is_tick, is_packet, ticks_with, tick_of, end_of, cancels, handle_of, least_key, most_key, heard_of, key_of, begun_in};
+ghost use Rattle.visit.specs.Frames.{kind_of, number_of, octet_of, is_tick, is_packet, ticks_with, tick_of, end_of, cancelled_in, heard_of, key_of, begun_in};
 
-use super::{DEVICES, Visit};
+use super::{Book, DEVICES, End, Range, Visit};
 use state::State;
 
 // The kinds of frames.
-const COMMAND: u8 = 1;
-
-const PACKET: u8 = 2;
-
-const TICK: u8 = 3;
-
-const SCANNED: u8 = 4;
+#[derive(Clone, Copy)]
+enum Kind {
+    Command,
+    Packet,
+    Tick,
+    Scanned,
+}
 
 // Where a frame has its number and its payload, a command's its sub-opcode and a handle; the sub-opcode of a cancel;
 // where an answer has its status.
@@ -44,19 +44,25 @@ const TWO: u64 = 65536;
 
 const FOUR: u64 = 4294967296;
 
-// Visits to be closed: whether there are any, and from which key to which.
-#[derive(Clone, Copy)]
-pub struct Range {
-    pub any: bool,
-    pub low: u64,
-    pub high: u64,
+impl Kind {
+    // The octet that a frame of it begins with.
+    fn octet(self) -> u8
+        ensures { result ≡ octet_of self }
+    {
+        match self {
+            Kind::Command => 1,
+            Kind::Packet => 2,
+            Kind::Tick => 3,
+            Kind::Scanned => 4,
+        }
+    }
 }
 
 // Whether a frame is of a kind.
-fn is_kind(frame: &[u8], kind: u8) -> bool
-    ensures { result ≡ (kind_of frame.now == kind) }
+fn is_kind(frame: &[u8], kind: Kind) -> bool
+    ensures { result ≡ (kind_of frame.now == octet_of kind) }
 {
-    octets::get8(frame, 0) == kind
+    octets::get8(frame, 0) == kind.octet()
 }
 
 // A frame's number.
@@ -70,7 +76,7 @@ pub fn number_of(frame: &[u8]) -> u32
 pub fn ticks_with(ticks: u32, frame: &[u8]) -> u32
     ensures { result ≡ ticks_with ticks frame.now }
 {
-    if is_kind(frame, TICK) {
+    if is_kind(frame, Kind::Tick) {
         if ticks < State::LAST {
             return ticks + 1;
         }
@@ -89,37 +95,37 @@ pub fn tick_of(ticks: u32) -> u32
 }
 
 // How a visit ended whose stop event is in the answer to a frame: at a tick by silence, at a packet by a full table.
-pub fn end_of(frame: &[u8]) -> u8
+pub fn end_of(frame: &[u8]) -> End
     ensures { result ≡ end_of frame.now }
 {
-    if is_kind(frame, TICK) {
-        return super::SILENCE;
+    if is_kind(frame, Kind::Tick) {
+        return End::Silence;
     }
-    super::FULL
+    End::Full
 }
 
 // The visits that a frame with its answer ends by a cancel: those of the monitor, whatever its handle.
-pub fn cancelled(frame: &[u8], answer: &[u8]) -> Range
-    ensures { (result.any ≡ cancels frame.now answer.now)
-        × (result.low ≡ least_key (handle_of frame.now)) × (result.high ≡ most_key (handle_of frame.now)) }
+pub fn cancelled(frame: &[u8], answer: &[u8]) -> Option<Range>
+    ensures { result ≡ cancelled_in frame.now answer.now }
 {
-    let command = is_kind(frame, COMMAND);
+    let command = is_kind(frame, Kind::Command);
     let sub = octets::get8(frame, SUB_AT);
     let status = octets::get8(answer, STATUS_AT);
-    let low = octets::get8(frame, HANDLE_AT) as u64 * DEVICES;
-    Range {
-        any: command & ((sub == CANCEL) & (status == 0)),
-        low,
-        high: low + (DEVICES - 1),
+    if command & ((sub == CANCEL) & (status == 0)) {
+        let low = octets::get8(frame, HANDLE_AT) as u64 * DEVICES;
+        return Some(Range {
+            low,
+            high: low + (DEVICES - 1),
+        });
     }
+    None
 }
 
 // All visits: those that are open when a journal ends are still there.
 pub fn everyone() -> Range
-    ensures { (result.any ≡ true) × (result.low ≡ 0) × (result.high ≡ last_key) }
+    ensures { (result.low ≡ 0) × (result.high ≡ last_key) }
 {
     Range {
-        any: true,
         low: 0,
         high: u64::MAX,
     }
@@ -129,8 +135,8 @@ pub fn everyone() -> Range
 fn is_packet(frame: &[u8]) -> bool
     ensures { (result ≡ is_packet frame.now) × (result ≡ true → 15 ≤ length frame.now) }
 {
-    let plain = is_kind(frame, PACKET);
-    let scanned = is_kind(frame, SCANNED);
+    let plain = is_kind(frame, Kind::Packet);
+    let scanned = is_kind(frame, Kind::Scanned);
     (SHORTEST <= frame.len()) & (plain | scanned)
 }
 
@@ -145,16 +151,15 @@ fn device_at(l: &[u8], at: usize) -> u64
     low + FOUR * (middle + TWO * high)
 }
 
-// The book after a frame: a packet is heard by the open visits of its device.
-pub fn hear(rows: [Visit; State::PAIRS], frame: &[u8]) -> [Visit; State::PAIRS]
-    ensures { result ≡ heard_of frame.now rows }
+// A frame heard by a book: a packet by the open visits of its device.
+pub fn hear(book: &mut Book, frame: &[u8])
+    ensures { book.new.rows ≡ heard_of frame.now book.old.rows }
 {
     if is_packet(frame) {
         let device = device_at(frame, DEVICE_AT);
         let level = state::level_of(octets::get8(frame, frame.len() - 1));
-        return super::hear(rows, device, level);
+        book.hear(device, level);
     }
-    rows
 }
 
 // The key of the pair in a place of a block.
@@ -168,26 +173,17 @@ fn key_at(block: &[u8], i: usize) -> u64
 }
 
 // The visits that the pairs of a block are, begun before the journal.
-pub fn begun(block: &[u8]) -> [Visit; State::PAIRS]
-    ensures { result ≡ begun_in block.now }
+pub fn begun(block: &[u8]) -> Book
+    ensures { result.rows ≡ begun_in block.now }
 {
-    let mut book = super::blank();
+    let mut book = Book::new();
     if block.len() < State::SIZE {
         return book;
     }
     let n = octets::at_most(octets::get8(block, State::COUNT_AT), State::PAIRS);
-    let mut i = 0;
-    while i < n {
+    for i in 0..n {
         let key = key_at(block, i);
-        book[i] = Visit {
-            here: true,
-            key,
-            frame: 0,
-            tick: 0,
-            packets: 0,
-            sum: 0,
-        };
-        i += 1;
+        book.rows[i] = Some(Visit::begun(key, 0, 0));
     }
     book
 }

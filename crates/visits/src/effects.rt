@@ -1,139 +1,91 @@
 // What an executed frame and its answer do to the record: a row for each visit that ends. What a frame says to the
 // book of open visits is visit::frames'.
-use crate::rows;
+use crate::rows::Form;
+use bars::Kept;
 use index::Whole;
 use state::State;
-use stays::Clock;
-use visit::frames::Range;
-use visit::{Visit, frames};
+use stays::Row;
+use visit::{Book, End, Range, Visit, frames};
 
-// Where the journal is: the open visits, the ticks, the lines and the rows so far, and whether to go on.
-#[derive(Clone, Copy)]
+// Where the journal is: what the rows are written by, those that are kept, the open visits, the ticks, the lines and
+// the rows so far, and whether to go on.
+// Kept: `goes` is a flag, for each row of a frame is tried, also behind one that could not be written.
+#[derive(Drop)]
 pub struct Run {
-    pub book: [Visit; State::PAIRS],
+    pub form: Form,
+    pub kept: Kept,
+    pub book: Book,
     pub ticks: u32,
     pub lines: u64,
     pub rows: u64,
     pub goes: bool,
 }
 
-// What the rows are written by, and how.
-#[derive(Clone, Copy)]
-pub struct Form {
-    pub rt: HostRuntime,
-    pub style: u8,
-    pub clock: Clock,
-}
-
-// A run with another book, and a row of a closed visit written.
-fn closed(
-    run: Run,
-    form: Form,
-    kept: &mut [u8; bars::SIZE],
-    change: visit::Change,
-    frame: u32,
-    tick: u32,
-    how: u8,
-) -> Run {
-    let book = change.rows;
-    let v = change.visit;
-    let mut rows = run.rows;
-    let mut goes = run.goes;
-    if change.closed {
-        let clock = form.clock;
-        goes = rows::show(&form.rt, form.style, clock, kept, rows, v, frame, tick, how);
-        rows = std::num::wrapping_add_u64(rows, 1);
+impl Run {
+    // A run before the journal's first line.
+    pub fn fresh(form: Form, block: &[u8; Whole::SIZE]) -> Run {
+        Run {
+            form,
+            kept: Kept::new(),
+            book: frames::begun(block),
+            ticks: 0,
+            lines: 0,
+            rows: 0,
+            goes: true,
+        }
     }
-    Run {
-        book,
-        ticks: run.ticks,
-        lines: run.lines,
-        rows,
-        goes,
-    }
-}
 
-// The events of an answer.
-fn walk(run: Run, form: Form, kept: &mut [u8; bars::SIZE], frame: &[u8], answer: &[u8]) -> Run {
-    let number = frames::number_of(frame);
-    let how = frames::end_of(frame);
-    let tick = frames::tick_of(run.ticks);
-    let n = answer.len();
-    let mut now = run;
-    let mut at = 0;
-    while at < n {
-        let e = at + captures::event_octets(answer, at);
-        let book = now.book;
-        let change = visit::follow(book, &answer[at..e], number, tick);
-        let next = closed(now, form, kept, change, number, tick, how);
-        now = next;
-        at = e;
+    // The tick that the journal is at.
+    pub fn tick(&self) -> u32 {
+        frames::tick_of(self.ticks)
     }
-    now
-}
 
-// The visits of a range closed, at most as many as the book has.
-pub(super) fn close_all(
-    run: Run,
-    form: Form,
-    kept: &mut [u8; bars::SIZE],
-    range: Range,
-    number: u32,
-    how: u8,
-) -> Run {
-    if !range.any {
-        return run;
+    // A row of a closed visit.
+    fn ended(&mut self, visit: Visit, frame: u32, how: End) {
+        let row = Row {
+            visit,
+            frame,
+            tick: self.tick(),
+            how,
+        };
+        let form = self.form;
+        self.goes = form.show(&mut self.kept, self.rows, row).is_ok();
+        self.rows = self.rows.wrapping_add(1);
     }
-    let tick = frames::tick_of(run.ticks);
-    let mut now = run;
-    let mut i = 0;
-    while i < State::PAIRS {
-        let book = now.book;
-        let change = visit::close(book, range.low, range.high);
-        let next = closed(now, form, kept, change, number, tick, how);
-        now = next;
-        i += 1;
+
+    // The events of an answer.
+    // Kept: the loop counts by itself, for each event says how long it is.
+    fn walk(&mut self, frame: &[u8], answer: &[u8]) {
+        let number = frames::number_of(frame);
+        let how = frames::end_of(frame);
+        let tick = self.tick();
+        let n = answer.len();
+        let mut at = 0;
+        while at < n {
+            let e = at + captures::event_octets(answer, at);
+            if let Some(visit) = self.book.follow(&answer[at..e], number, tick) {
+                self.ended(visit, number, how);
+            }
+            at = e;
+        }
     }
-    now
-}
 
-// A run with another book and other ticks.
-fn with(run: Run, book: [Visit; State::PAIRS], ticks: u32) -> Run {
-    Run {
-        book,
-        ticks,
-        lines: run.lines,
-        rows: run.rows,
-        goes: run.goes,
+    // The visits of a range closed, at most as many as the book has.
+    pub fn close_all(&mut self, range: Range, number: u32, how: End) {
+        for _ in 0..State::PAIRS {
+            if let Some(visit) = self.book.close(range) {
+                self.ended(visit, number, how);
+            }
+        }
     }
-}
 
-// What an executed frame does: its tick, the answer's events, a cancel, a packet heard.
-pub(super) fn executed(
-    run: Run,
-    form: Form,
-    kept: &mut [u8; bars::SIZE],
-    frame: &[u8],
-    answer: &[u8],
-) -> Run {
-    let book = run.book;
-    let ticked = with(run, book, frames::ticks_with(run.ticks, frame));
-    let walked = walk(ticked, form, kept, frame, answer);
-    let number = frames::number_of(frame);
-    let range = frames::cancelled(frame, answer);
-    let left = close_all(walked, form, kept, range, number, visit::CANCELLED);
-    let open = left.book;
-    with(left, frames::hear(open, frame), left.ticks)
-}
-
-// A run before the journal's first line.
-pub(super) fn fresh(block: &[u8; Whole::SIZE]) -> Run {
-    let book = frames::begun(block);
-    Run {
-        book,
-        ticks: 0,
-        lines: 0,
-        rows: 0,
-        goes: true,
+    // What an executed frame does: its tick, the answer's events, a cancel, a packet heard.
+    pub fn executed(&mut self, frame: &[u8], answer: &[u8]) {
+        self.ticks = frames::ticks_with(self.ticks, frame);
+        self.walk(frame, answer);
+        if let Some(range) = frames::cancelled(frame, answer) {
+            self.close_all(range, frames::number_of(frame), End::Cancelled);
+        }
+        frames::hear(&mut self.book, frame);
     }
 }

@@ -13,16 +13,17 @@ mod rows;
 
 use index::Whole;
 use outside::{STDERR, Source};
-use stays::Clock;
+use rows::{Form, Output};
+use shell::Status;
+use stays::Style;
 
-// What the options ask: words on how far it is, how rows are written, the clock; whether they are good; the place of
-// the first name.
+// What good options ask: words on how far it is, how the record is written, the time of day at the first tick; the
+// place of the first name.
 #[derive(Clone, Copy)]
 struct Asked {
     progress: bool,
-    style: u8,
-    clock: Clock,
-    good: bool,
+    output: Output,
+    clock: Option<u32>,
     at: usize,
 }
 
@@ -34,81 +35,57 @@ fn usage() {
         STDERR,
         b"usage: visits [--csv|--json|--svg] [--from TIME] IMAGE JOURNAL\n",
     );
-    shell::status(shell::USAGE);
+    shell::tell(Status::Usage);
 }
 
 // The clock in a word of the command.
-fn clock_at(rt: &HostRuntime, at: usize) -> Clock {
+fn clock_at(rt: &HostRuntime, at: usize) -> Option<u32> {
     let mut word = io::buffer();
     let n = outside::word(rt, at, &mut word);
     stays::clock_of(&word[..n])
 }
 
-// No good options.
-fn bad() -> Asked {
-    Asked {
-        progress: false,
-        style: stays::TABLE,
-        clock: Clock {
-            given: false,
-            from: 0,
-        },
-        good: false,
-        at: 1,
-    }
-}
-
-// The clock in the word behind an option.
-fn with_clock(rt: &HostRuntime, progress: bool, style: u8, at: usize) -> Asked {
-    if at > MOST {
-        return bad();
-    }
-    let clock = clock_at(rt, at + 1);
-    Asked {
-        progress,
-        style,
-        clock,
-        good: clock.given,
-        at: at + 2,
-    }
-}
-
 // The clock's option, where it stands at a place.
-fn clocked(rt: &HostRuntime, progress: bool, style: u8, at: usize) -> Asked {
-    if shell::is(rt, at, b"--from") {
-        return with_clock(rt, progress, style, at);
+fn clocked(rt: &HostRuntime, progress: bool, output: Output, at: usize) -> Option<Asked> {
+    if !shell::is(rt, at, b"--from") {
+        return Some(Asked {
+            progress,
+            output,
+            clock: None,
+            at,
+        });
     }
-    Asked {
+    if at > MOST {
+        return None;
+    }
+    let clock = clock_at(rt, at + 1)?;
+    Some(Asked {
         progress,
-        style,
-        clock: Clock {
-            given: false,
-            from: 0,
-        },
-        good: true,
-        at,
-    }
+        output,
+        clock: Some(clock),
+        at: at + 2,
+    })
 }
 
-// How rows are written, and the options behind.
-fn styled(rt: &HostRuntime, progress: bool, at: usize) -> Asked {
+// How the record is written, and the options behind.
+fn styled(rt: &HostRuntime, progress: bool, at: usize) -> Option<Asked> {
     if at > MOST {
-        return bad();
+        return None;
     }
     if shell::is(rt, at, b"--csv") {
-        return clocked(rt, progress, stays::CSV, at + 1);
+        return clocked(rt, progress, Output::Rows(Style::Csv), at + 1);
     }
     if shell::is(rt, at, b"--json") {
-        return clocked(rt, progress, stays::JSON, at + 1);
+        return clocked(rt, progress, Output::Rows(Style::Json), at + 1);
     }
     if shell::is(rt, at, b"--svg") {
-        return clocked(rt, progress, rows::SVG, at + 1);
+        return clocked(rt, progress, Output::Picture, at + 1);
     }
-    clocked(rt, progress, stays::TABLE, at)
+    clocked(rt, progress, Output::Rows(Style::Table), at)
 }
 
 // The options before the names.
-fn options(rt: &HostRuntime) -> Asked {
+fn options(rt: &HostRuntime) -> Option<Asked> {
     if shell::is(rt, 1, b"--progress") {
         return styled(rt, true, 2);
     }
@@ -117,27 +94,31 @@ fn options(rt: &HostRuntime) -> Asked {
 
 // An open journal on a restored image.
 fn follow_file(rt: &HostRuntime, state: Whole, source: &Source, name: &[u8], a: Asked) {
-    let clock = a.clock;
     let mut block = state.block;
-    journal::follow_all(rt, &mut block, source, name, a.style, clock, a.progress);
+    let form = Form {
+        rt: *rt,
+        output: a.output,
+        clock: a.clock,
+    };
+    journal::follow_all(form, &mut block, source, name, a.progress);
 }
 
 // The journal of a name on a restored image.
 fn follow(rt: &HostRuntime, image: &[u8], name: &[u8], a: Asked) {
-    let restored = shell::restore(rt, image);
-    if !restored.good {
-        return;
-    }
-    if let Some(source) = shell::open(rt, name) {
-        let state = restored.state;
-        follow_file(rt, state, &source, name, a);
+    if let Some(state) = shell::restore(rt, image) {
+        if let Some(source) = shell::open(rt, name) {
+            follow_file(rt, state, &source, name, a);
+        }
     }
 }
 
 fn main(rt: HostRuntime) {
-    let a = options(&rt);
+    let Some(a) = options(&rt) else {
+        usage();
+        return;
+    };
     let names = shell::last_two(&rt, a.at);
-    if !(a.good & names.good) {
+    if !names.good {
         usage();
         return;
     }

@@ -1,104 +1,87 @@
 // Rows written to standard output, with what stands around them.
-use crate::effects::Form;
+use crate::drawing::{Unwritten, done};
 use crate::picture;
-use stays::{Clock, Row};
-use visit::Visit;
+use bars::Kept;
+use shell::Status;
+use stays::{Row, Style};
 
-// A picture, beside the ways to write a row.
-pub const SVG: u8 = 3;
-
-// Whether it was written; where it was not, the status is told.
-fn wrote(good: bool) -> bool {
-    if !good {
-        shell::status(shell::FAILED);
-    }
-    good
+// What the record is written as: rows of a style, or a picture.
+#[derive(Clone, Copy, PartialEq, Eq)]
+pub enum Output {
+    Rows(Style),
+    Picture,
 }
 
-fn put(rt: &HostRuntime, words: &[u8]) -> bool {
-    wrote(outside::put(rt, words))
+// What the record is written by, and how; the time of day at the first tick, where it is known.
+#[derive(Clone, Copy)]
+pub struct Form {
+    pub rt: HostRuntime,
+    pub output: Output,
+    pub clock: Option<u32>,
 }
 
-// The table's first line.
-fn heads(rt: &HostRuntime) -> bool {
-    if !put(
-        rt,
-        b"DEVICE             TYPE    MONITOR  FROM FRAME  FROM           ",
-    ) {
-        return false;
+// What was written; where it was not, the status is told.
+fn wrote(r: Result<(), Unwritten>) -> Result<(), Unwritten> {
+    if r.is_err() {
+        shell::tell(Status::Failed);
     }
-    put(
-        rt,
-        b"TO FRAME    TO             ENDED        PACKETS     MEAN RSSI\n",
-    )
+    r
 }
 
-// What stands before the rows.
-pub(super) fn open(rt: &HostRuntime, style: u8) -> bool {
-    if style == stays::TABLE {
-        return heads(rt);
+impl Form {
+    // Words written.
+    fn put(&self, words: &[u8]) -> Result<(), Unwritten> {
+        wrote(done(outside::put(&self.rt, words)))
     }
-    if style == stays::CSV {
-        return put(
-            rt,
-            b"device,type,monitor,start_frame,start,stop_frame,stop,ended,packets,mean_rssi\n",
-        );
-    }
-    if style == stays::JSON {
-        return put(rt, b"[");
-    }
-    true
-}
 
-// What stands behind them: the picture, where one is drawn.
-pub(super) fn close(form: Form, kept: &[u8; bars::SIZE], count: u64, tick: u32) -> bool {
-    if form.style == SVG {
-        return wrote(picture::draw(&form.rt, kept, count, tick, form.clock));
+    // The table's first line.
+    fn heads(&self) -> Result<(), Unwritten> {
+        self.put(b"DEVICE             TYPE    MONITOR  FROM FRAME  FROM           ")?;
+        self.put(b"TO FRAME    TO             ENDED        PACKETS     MEAN RSSI\n")
     }
-    if form.style != stays::JSON {
-        return true;
-    }
-    if count == 0 {
-        return put(&form.rt, b"]\n");
-    }
-    put(&form.rt, b"\n]\n")
-}
 
-// What stands between two.
-fn between(rt: &HostRuntime, style: u8, count: u64) -> bool {
-    if style != stays::JSON {
-        return true;
+    // What stands before the rows.
+    pub fn open(&self) -> Result<(), Unwritten> {
+        match self.output {
+            Output::Rows(Style::Table) => self.heads(),
+            Output::Rows(Style::Csv) => self.put(
+                b"device,type,monitor,start_frame,start,stop_frame,stop,ended,packets,mean_rssi\n",
+            ),
+            Output::Rows(Style::Json) => self.put(b"["),
+            Output::Picture => Ok(()),
+        }
     }
-    if count == 0 {
-        return put(rt, b"\n");
-    }
-    put(rt, b",\n")
-}
 
-// A visit's row, behind so many others: written, or kept for a picture.
-pub(super) fn show(
-    rt: &HostRuntime,
-    style: u8,
-    clock: Clock,
-    kept: &mut [u8; bars::SIZE],
-    count: u64,
-    visit: Visit,
-    frame: u32,
-    tick: u32,
-    how: u8,
-) -> bool {
-    let row = Row {
-        visit,
-        frame,
-        tick,
-        how,
-    };
-    if style == SVG {
-        bars::keep(kept, count, row);
-        return true;
+    // What stands behind them: the picture, where one is drawn.
+    pub fn close(&self, kept: &Kept, count: u64, tick: u32) -> Result<(), Unwritten> {
+        match self.output {
+            Output::Picture => wrote(picture::draw(&self.rt, kept, count, tick, self.clock)),
+            Output::Rows(Style::Json) if count == 0 => self.put(b"]\n"),
+            Output::Rows(Style::Json) => self.put(b"\n]\n"),
+            Output::Rows(_) => Ok(()),
+        }
     }
-    if !between(rt, style, count) {
-        return false;
+
+    // What stands between two.
+    fn between(&self, style: Style, count: u64) -> Result<(), Unwritten> {
+        match style {
+            Style::Json if count == 0 => self.put(b"\n"),
+            Style::Json => self.put(b",\n"),
+            _ => Ok(()),
+        }
     }
-    wrote(shell::show(rt, stays::written(style, clock, row)))
+
+    // A visit's row, behind so many others: written, or kept for a picture.
+    pub fn show(&self, kept: &mut Kept, count: u64, row: Row) -> Result<(), Unwritten> {
+        match self.output {
+            Output::Picture => {
+                kept.keep(count, row);
+                Ok(())
+            }
+            Output::Rows(style) => {
+                self.between(style, count)?;
+                wrote(done(shell::show(&self.rt, stays::written(style, self.clock, row))))
+            }
+        }
+    }
 }

@@ -4,34 +4,31 @@
 // What is asked and said is the crate desk's; here are files and arguments.
 #![tactic(auto)]
 
-use engine::Loaded;
-use index::{Watch, Whole};
+use index::{Watchers, Whole};
 use outside::{STDERR, STDOUT};
 use refusals::Refusal;
-
-// The exit status where no monitor watches the device.
-const NOBODY: u8 = 1;
+use shell::Status;
 
 fn usage() {
     io::write_all(STDERR, b"usage: watchers IMAGE ADDRESS [public|random]\n");
-    shell::status(shell::USAGE);
+    shell::tell(Status::Usage);
 }
 
 // A refused image: the refusal's number, and the message behind the file's name.
 fn refuse(image: &[u8], x: Refusal) {
-    let n = refusals::number_of(x);
+    let n = u8::from(x);
     io::print_decimal(STDOUT, n as u64);
     io::write_all(STDOUT, b"\n");
     io::write_all(STDERR, image);
     shell::put(STDERR, reports::refused(x));
-    shell::status(shell::REFUSED);
+    shell::tell(Status::Refused);
 }
 
 // The exit status of an answer.
-fn status_of(w: Watch) -> u8 {
+fn status_of(w: Option<Watchers>) -> Status {
     match w {
-        Watch::Nobody => NOBODY,
-        _ => shell::THROUGH,
+        Some(_) => Status::Through,
+        None => Status::Nobody,
     }
 }
 
@@ -40,10 +37,10 @@ fn answer(rt: &HostRuntime, state: Whole, kind: u8, address: [u8; 6]) {
     let block = state.block;
     let w = index::ask(&block, kind, &address);
     if !shell::show(rt, desk::sentence(w)) {
-        shell::status(shell::FAILED);
+        shell::tell(Status::Failed);
         return;
     }
-    shell::status(status_of(w));
+    shell::tell(status_of(w));
 }
 
 // The image that was read, restored and asked.
@@ -59,8 +56,8 @@ fn ask(
     let answered = restored.answer;
     let state = restored.state;
     match answered {
-        Loaded::Accepted => answer(rt, state, kind, address),
-        Loaded::Rejected(x) => refuse(image, x),
+        Ok(()) => answer(rt, state, kind, address),
+        Err(x) => refuse(image, x),
     }
 }
 
@@ -73,33 +70,30 @@ fn open(rt: &HostRuntime, image: &[u8], kind: u8, address: [u8; 6]) {
 }
 
 // The image, the address and the type's number.
-fn with_all(rt: &HostRuntime, image: &[u8], word: &[u8], kind: u8) {
-    let read = desk::address_of(word);
-    let octets = read.octets;
-    if !read.good {
+fn with_all(rt: &HostRuntime, image: &[u8], word: &[u8], kind: Option<u8>) {
+    let Some(octets) = desk::address_of(word) else {
         usage();
         return;
+    };
+    match kind {
+        Some(kind) => open(rt, image, kind, octets),
+        None => usage(),
     }
-    if 1 < kind {
-        usage();
-        return;
-    }
-    open(rt, image, kind, octets);
 }
 
 // The address read.
-fn with_image(rt: &HostRuntime, image: &[u8], kind: u8) {
+fn with_image(rt: &HostRuntime, image: &[u8], kind: Option<u8>) {
     let mut word = io::buffer();
     let k = outside::word(rt, 2, &mut word);
     with_all(rt, image, &word[..k], kind);
 }
 
 // The image and the address read.
-fn with_type(rt: &HostRuntime, kind: u8) {
+fn with_type(rt: &HostRuntime, kind: Option<u8>) {
     let mut image = io::buffer();
     match outside::word_of(rt, 1, &mut image, b"the image's name") {
         Some(n) => with_image(rt, &image[..n], kind),
-        None => shell::status(shell::FAILED),
+        None => shell::tell(Status::Failed),
     }
 }
 
@@ -113,7 +107,7 @@ fn named(rt: &HostRuntime) {
 fn main(rt: HostRuntime) {
     let words = outside::word_count(&rt);
     if words == 3 {
-        with_type(&rt, 0);
+        with_type(&rt, Some(0));
         return;
     }
     if words == 4 {

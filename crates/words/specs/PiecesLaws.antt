@@ -35,13 +35,6 @@ pub decimal-held : (n : ℕ) {t b : List ℕ} → b ≡ [] → t ≡ take room (
 unfolding decimal
 decimal-held n z e = held (decimal n) (let k = digits-most 19 n in omega arith) z e
 
--- a text's characters, of which there are at most as many as it has room for
-pub told-cut : (octets : List ℕ) (count n : ℕ) → length octets ≡ room → n ≡ min count room
-    → take n octets ≡ take count octets
-told-cut octets count n l e =
-    cases-le count room (λ (h : count ≤ room). ap (λ (j : ℕ). take j octets) (let z : n ≡ count = omega arith in z))
-    (λ (h : room < count). take_all n octets (omega arith) ∙ sym (take_all count octets (omega arith)))
-
 pub name-rows : (rows : List Row) (words : String) (x : ℕ)
     → name_or (table_of rows) (codes words) x ≡ named_or rows words x
 unfolding name_or named_or

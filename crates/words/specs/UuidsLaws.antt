@@ -7,7 +7,7 @@ use Rattle.names.specs.Uuids.{service_rows, member_rows_fc, member_rows_fd, memb
 use Rattle.words.specs.Says.{Says}
 use Rattle.words.specs.SaysLaws.{same, then}
 use Rattle.words.specs.Pieces.{uuid_number}
-use Rattle.words.specs.Uuids.{bracketed, behind_uuid, uuid_text}
+use Rattle.words.specs.Uuids.{behind_uuid, uuid_text}
 
 -- the name by the octet that chooses the table
 module _ (high low : ℕ) where
@@ -35,8 +35,8 @@ module _ (high low : ℕ) where
           unfolding uuid_name pick
           in-standards f = rw (a, b, d, e, f)
 
-          pub in-none : eqb high 255 ≡ false → [] ≡ bracketed (uuid_name high low)
-          unfolding uuid_name bracketed pick
+          pub in-none : eqb high 255 ≡ false → [] ≡ uuid_name high low
+          unfolding uuid_name pick
           in-none f = rw (a, b, d, e, f)
 
 -- words, a UUID's number and its name

@@ -12,6 +12,8 @@ ghost use Rattle.words.specs.Says.{Says};
 ghost use Rattle.words.specs.Pieces.{part_of, number_text, dbm, sum_text, device_of, device_text, groups_text, uuid_number, name_or};
 ghost use Rattle.words.specs.Uuids.{uuid_text};
 
+use texts::Text;
+
 mod tables;
 mod uuids;
 
@@ -21,28 +23,11 @@ pub const ROOM: usize = 8192;
 // The number that begins the negative ones of 8 octets.
 const NEGATIVE: u64 = 9223372036854775808;
 
-// The lesser of two numbers.
-pub fn least(a: usize, b: usize) -> usize
-    ensures { result ≡ min a b }
-{
-    if a < b { a } else { b }
-}
-
-// The room behind an index.
-fn left(at: usize) -> usize
-    ensures { result ≡ 8192 - at }
-{
-    if at < ROOM {
-        return ROOM - at;
-    }
-    0
-}
-
 // Words, as far as there is room.
 pub fn put(out: &mut [u8; ROOM], at: usize, words: &[u8]) -> usize
     ensures { Says out.old at words.now out.new result }
 {
-    let n = least(words.len(), left(at));
+    let n = words.len().min(ROOM.saturating_sub(at));
     parts::copy(out, at, &words[..n]);
     at + n
 }
@@ -73,12 +58,10 @@ pub fn behind(s: &[u8], from: usize) -> &[u8]
 }
 
 // A text.
-fn text(out: &mut [u8; ROOM], at: usize, t: texts::Text) -> usize
+fn text(out: &mut [u8; ROOM], at: usize, t: Text) -> usize
     ensures { Says out.old at (told t) out.new result }
 {
-    let octets = t.octets;
-    let n = least(t.count, texts::ROOM);
-    put(out, at, &octets[..n])
+    put(out, at, t.as_slice())
 }
 
 // Words and a number behind them.
@@ -86,7 +69,7 @@ pub fn said(out: &mut [u8; ROOM], at: usize, words: &[u8], n: u64) -> usize
     ensures { Says out.old at (words.now ++ decimal n) out.new result }
 {
     let a = put(out, at, words);
-    text(out, a, texts::words::said(texts::words::blank(), b"", n))
+    text(out, a, Text::blank().said(b"", n))
 }
 
 // Words and the number of an octet.
@@ -109,7 +92,7 @@ pub fn long(out: &mut [u8; ROOM], at: usize, words: &[u8], s: &[u8], i: usize) -
 fn pair(out: &mut [u8; ROOM], at: usize, x: u8) -> usize
     ensures { Says out.old at (pair_of x) out.new result }
 {
-    text(out, at, texts::pair(texts::words::blank(), x))
+    text(out, at, Text::blank().pair(x))
 }
 
 // Words and octets in hexadecimal, in their order.
@@ -117,11 +100,8 @@ pub fn hex(out: &mut [u8; ROOM], at: usize, words: &[u8], s: &[u8]) -> usize
     ensures { Says out.old at (words.now ++ hex_of s.now) out.new result }
 {
     let mut end = put(out, at, words);
-    let n = s.len();
-    let mut i = 0;
-    while i < n {
-        end = pair(out, end, s[i]);
-        i += 1;
+    for x in s {
+        end = pair(out, end, *x);
     }
     end
 }
@@ -132,10 +112,8 @@ pub fn number(out: &mut [u8; ROOM], at: usize, words: &[u8], s: &[u8]) -> usize
         result }
 {
     let mut end = put(out, at, words);
-    let mut left = s.len();
-    while 0 < left {
-        left -= 1;
-        end = pair(out, end, s[left]);
+    for i in (0..s.len()).rev() {
+        end = pair(out, end, s[i]);
     }
     end
 }
@@ -147,7 +125,7 @@ pub fn level(out: &mut [u8; ROOM], at: usize, words: &[u8], s: &[u8], i: usize) 
 {
     let a = put(out, at, words);
     let x = state::level_of(octets::get8(s, i));
-    let b = text(out, a, texts::level(texts::words::blank(), x));
+    let b = text(out, a, Text::blank().level(x));
     put(out, b, b" dBm")
 }
 
@@ -177,9 +155,9 @@ pub fn device(out: &mut [u8; ROOM], at: usize, words: &[u8], d: u64) -> usize
     ensures { Says out.old at (words.now ++ device_text d) out.new result }
 {
     let a = put(out, at, words);
-    let b = text(out, a, texts::kind(texts::words::blank(), d));
+    let b = text(out, a, Text::blank().kind(d));
     let c = put(out, b, b" ");
-    text(out, c, texts::address(texts::words::blank(), d))
+    text(out, c, Text::blank().address(d))
 }
 
 // A UUID of 16 octets in five groups.

@@ -1,8 +1,8 @@
 // The name of a UUID in brackets, where it has one: 16-bit UUIDs by their two octets, and those of 4 or 16 octets
 // that are one of them widened.
-ghost use Rattle.std.specs.Prelude.{◌≡◌};
-ghost use Rattle.names.specs.Names.{named, name_in};
-ghost use Rattle.names.specs.Uuids.{service_rows, member_rows_fc, member_rows_fd, member_rows_fe, standard_rows, uuid_name};
+ghost use Rattle.std.specs.Prelude.{ℕ, ◌≡◌};
+ghost use Rattle.names.specs.Names.{name_in};
+ghost use Rattle.names.specs.Uuids.{uuid_name};
 ghost use Rattle.words.specs.Says.{Says};
 ghost use Rattle.words.specs.Uuids.{is_wide, is_based, short_of, bracketed, behind_uuid};
 
@@ -73,59 +73,25 @@ fn in_brackets(out: &mut [u8; ROOM], at: usize, table: &[u8], x: u8) -> usize
     crate::put(out, b, b")")
 }
 
-// A service.
-fn service(out: &mut [u8; ROOM], at: usize, low: u8) -> usize
-    ensures { Says out.old at (bracketed (named service_rows low)) out.new result }
+// The names of the UUIDs with a more significant octet.
+fn names_of(high: u8) -> &'static [u8]
+    ensures { (low : ℕ) → name_in result.now low ≡ uuid_name high low }
 {
-    in_brackets(out, at, &tables::SERVICES, low)
-}
-
-// A member's UUID, by its more significant octet.
-fn member_fc(out: &mut [u8; ROOM], at: usize, low: u8) -> usize
-    ensures { Says out.old at (bracketed (named member_rows_fc low)) out.new result }
-{
-    in_brackets(out, at, &tables::MEMBERS_FC, low)
-}
-
-fn member_fd(out: &mut [u8; ROOM], at: usize, low: u8) -> usize
-    ensures { Says out.old at (bracketed (named member_rows_fd low)) out.new result }
-{
-    in_brackets(out, at, &tables::MEMBERS_FD, low)
-}
-
-fn member_fe(out: &mut [u8; ROOM], at: usize, low: u8) -> usize
-    ensures { Says out.old at (bracketed (named member_rows_fe low)) out.new result }
-{
-    in_brackets(out, at, &tables::MEMBERS_FE, low)
-}
-
-// A UUID of another standard.
-fn standard(out: &mut [u8; ROOM], at: usize, low: u8) -> usize
-    ensures { Says out.old at (bracketed (named standard_rows low)) out.new result }
-{
-    in_brackets(out, at, &tables::STANDARDS, low)
+    match high {
+        SERVICE => &tables::SERVICES,
+        MEMBER_FC => &tables::MEMBERS_FC,
+        MEMBER_FD => &tables::MEMBERS_FD,
+        MEMBER_FE => &tables::MEMBERS_FE,
+        STANDARD => &tables::STANDARDS,
+        _ => &[],
+    }
 }
 
 // The name of a 16-bit UUID by its two octets.
 fn by_octets(out: &mut [u8; ROOM], at: usize, high: u8, low: u8) -> usize
     ensures { Says out.old at (bracketed (uuid_name high low)) out.new result }
 {
-    if high == SERVICE {
-        return service(out, at, low);
-    }
-    if high == MEMBER_FC {
-        return member_fc(out, at, low);
-    }
-    if high == MEMBER_FD {
-        return member_fd(out, at, low);
-    }
-    if high == MEMBER_FE {
-        return member_fe(out, at, low);
-    }
-    if high == STANDARD {
-        return standard(out, at, low);
-    }
-    at
+    in_brackets(out, at, names_of(high), low)
 }
 
 // The name behind a UUID's number.

@@ -1,13 +1,13 @@
-use Rattle.engine.specs.declared.Stop.TheVariants.{End}
-use mathlib.Core.Path.{sym, ap, ◌∙◌}
+use mathlib.Core.Path.{refl, ap}
+use Rattle.std.specs.Prelude.{Ok}
+use Rattle.additions.specs.Additions.{next}
 use Rattle.additions.specs.Pieces.{course_after}
 use Rattle.additions.proofs.after.Goals as goal
 
-pub returns-in-Done : goal.returns-in-Done
-unfolding course_after
-returns-in-Done c = ap (λ n. record { held = 0; lines = n; stop = End }) c.next.ensures
-    ∙ sym (ap (course_after c.args.lines) c.in-Done.is)
+pub returns-in-Ok : goal.returns-in-Ok
+unfolding course_after next
+returns-in-Ok c = rw c.in-Ok.is (ap (λ n. record { held = 0; lines = n; stop = Ok tt }) c.saturating_add.ensures)
 
-pub returns-in-Refused : goal.returns-in-Refused
+pub returns-in-Err : goal.returns-in-Err
 unfolding course_after
-returns-in-Refused c = sym (ap (course_after c.args.lines) c.in-Refused.is)
+returns-in-Err c = rw c.in-Err.is refl

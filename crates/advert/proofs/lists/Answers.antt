@@ -1,4 +1,4 @@
-use Rattle.std.proofs.Common.{◌-◌, sym, refl, ◌∙◌, arith}
+use Rattle.std.proofs.Common.{sym, refl, ◌∙◌, arith}
 use Rattle.advert.proofs.UuidLaws.{listed-end, listed-hit, listed-miss}
 use Rattle.advert.proofs.lists.Goals as goal
 

@@ -1,41 +1,24 @@
-use Rattle.std.proofs.Common.{arith, eq-eqb, ne_eqb}
+use Rattle.advert.proofs.KindLaws.{meets-unknown}
 use Rattle.laws.specs.Tests.{pick}
 use Rattle.advert.specs.Condition.{meets}
 use Rattle.advert.proofs.match_packet.Goals as goal
 
-pub returns-then-kind-eq1 : goal.returns-then-kind-eq1
+pub returns-in-Ok-Patterns : goal.returns-in-Ok-Patterns
 unfolding meets pick
-returns-then-kind-eq1 c = let k = c.args.kind in
-    rw (eq-eqb k 1 (omega arith)) c.patterns_meet.ensures
+returns-in-Ok-Patterns c = rw (← c.in-Ok-Patterns.ensures, c.in-Ok-Patterns.field-0-is) c.patterns_meet.ensures
 
-pub returns-then-kind-eq2 : goal.returns-then-kind-eq2
+pub returns-in-Ok-Uuid : goal.returns-in-Ok-Uuid
 unfolding meets pick
-returns-then-kind-eq2 c = let k = c.args.kind in
-    rw (ne_eqb k 1 (λ z. omega arith), eq-eqb k 2 (omega arith)) c.uuid_meets.ensures
+returns-in-Ok-Uuid c = rw (← c.in-Ok-Uuid.ensures, c.in-Ok-Uuid.field-0-is) c.uuid_meets.ensures
 
-pub returns-then-kind-eq-IRK : goal.returns-then-kind-eq-IRK
+pub returns-in-Ok-Irk : goal.returns-in-Ok-Irk
 unfolding meets pick
-returns-then-kind-eq-IRK c = let k = c.args.kind in
-    rw (ne_eqb k 1 (λ z. omega arith), ne_eqb k 2 (λ z. omega arith), eq-eqb k 3 (omega arith)) c.irk_meets.ensures
+returns-in-Ok-Irk c = rw (← c.in-Ok-Irk.ensures, c.in-Ok-Irk.field-0-is) c.irk_meets.ensures
 
-pub returns-then-kind-eq4 : goal.returns-then-kind-eq4
+pub returns-in-Ok-Address : goal.returns-in-Ok-Address
 unfolding meets pick
-returns-then-kind-eq4 c = let k = c.args.kind in
-    rw (
-      ne_eqb k 1 (λ z. omega arith),
-      ne_eqb k 2 (λ z. omega arith),
-      ne_eqb k 3 (λ z. omega arith),
-      eq-eqb k 4
-          (omega arith),
-    ) c.address_meets.ensures
+returns-in-Ok-Address c = rw (← c.in-Ok-Address.ensures, c.in-Ok-Address.field-0-is) c.address_meets.ensures
 
-pub returns : goal.returns
-unfolding meets pick
-returns c = let k = c.args.kind in
-    rw (
-      ne_eqb k 1 (λ z. omega arith),
-      ne_eqb k 2 (λ z. omega arith),
-      ne_eqb k 3 (λ z. omega arith),
-      ne_eqb k 4
-          (λ z. omega arith),
-    )
+pub returns-in-Err : goal.returns-in-Err
+returns-in-Err c = let a = c.args in
+    meets-unknown a.kind a.condition.now a.address_type a.address.now a.adv.now a.scan.now c.in-Err.ensures.1

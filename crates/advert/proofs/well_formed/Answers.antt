@@ -1,40 +1,19 @@
-use Rattle.std.proofs.Common.{arith, eq-eqb, ne_eqb}
 use Rattle.laws.specs.Tests.{pick}
 use Rattle.advert.specs.Condition.{well_formed}
 use Rattle.advert.proofs.well_formed.Goals as goal
 
-pub returns-then-kind-eq1 : goal.returns-then-kind-eq1
+pub returns-in-Patterns : goal.returns-in-Patterns
 unfolding well_formed pick
-returns-then-kind-eq1 c = let k = c.args.kind in rw (eq-eqb k 1 (omega arith)) c.patterns_form.ensures
+returns-in-Patterns c = rw c.in-Patterns.is c.patterns_form.ensures
 
-pub returns-then-kind-eq2 : goal.returns-then-kind-eq2
+pub returns-in-Uuid : goal.returns-in-Uuid
 unfolding well_formed pick
-returns-then-kind-eq2 c = let k = c.args.kind in
-    rw (ne_eqb k 1 (λ z. omega arith), eq-eqb k 2 (omega arith)) c.uuid_form.ensures
+returns-in-Uuid c = rw c.in-Uuid.is c.uuid_form.ensures
 
-pub returns-then-kind-eq-IRK : goal.returns-then-kind-eq-IRK
+pub returns-in-Irk : goal.returns-in-Irk
 unfolding well_formed pick
-returns-then-kind-eq-IRK c = let k = c.args.kind in
-    rw (ne_eqb k 1 (λ z. omega arith), ne_eqb k 2 (λ z. omega arith), eq-eqb k 3 (omega arith)) c.irk_form.ensures
+returns-in-Irk c = rw c.in-Irk.is c.irk_form.ensures
 
-pub returns-then-kind-eq4 : goal.returns-then-kind-eq4
+pub returns-in-Address : goal.returns-in-Address
 unfolding well_formed pick
-returns-then-kind-eq4 c = let k = c.args.kind in
-    rw (
-      ne_eqb k 1 (λ z. omega arith),
-      ne_eqb k 2 (λ z. omega arith),
-      ne_eqb k 3 (λ z. omega arith),
-      eq-eqb k 4
-          (omega arith),
-    ) c.address_form.ensures
-
-pub returns : goal.returns
-unfolding well_formed pick
-returns c = let k = c.args.kind in
-    rw (
-      ne_eqb k 1 (λ z. omega arith),
-      ne_eqb k 2 (λ z. omega arith),
-      ne_eqb k 3 (λ z. omega arith),
-      ne_eqb k 4
-          (λ z. omega arith),
-    )
+returns-in-Address c = rw c.in-Address.is c.address_form.ensures

@@ -3,6 +3,6 @@ use Rattle.fips197.specs.Field.{◌⊕◌, xtimes, products, ◌•◌, squares,
 use mathlib.Core.Path.{refl}
 use Rattle.aes.proofs.substitutes.Goals as goal
 
-pub returns : goal.returns
+pub invariant_of-result : goal.invariant_of-result
 unfolding IsTable tabulate substitute inverse affine squares ◌•◌ products xtimes ◌⊕◌ affine_bit bit
-returns c = refl
+invariant_of-result c = record { is_table = refl }

@@ -41,7 +41,7 @@ enable_filter-requires c = (
 pub returns : goal.returns
 returns c = let a = c.args in (
   (λ m e q. other-failed m a.s.now a.params.now a.out.now e q
-      c.get16.ensures c.get8-sub.ensures c.if-sub-eq0.false
+      c.get16-opcode.ensures c.get8-sub.ensures c.if-sub-eq0.false
       (sym c.is_add.ensures ∙ c.if-is_add.false) c.if-sub-eq4.false
       c.if-sub-eq5.false refl c.reply.ensures),
   replied-within a.out.now (omega arith) c.reply.ensures,

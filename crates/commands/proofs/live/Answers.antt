@@ -11,6 +11,6 @@ unfolding live_at
 returns-then-h-lt-HANDLES c = c.busy.ensures ∙ sym (pick_true _ false (lt-ltb c.args.h most_monitors
     c.if-h-lt-HANDLES.true))
 
-pub returns : goal.returns
+pub returns-else-h-lt-HANDLES : goal.returns-else-h-lt-HANDLES
 unfolding live_at
-returns c = sym (pick-false _ false (le-ltb c.args.h most_monitors c.if-h-lt-HANDLES.false))
+returns-else-h-lt-HANDLES c = le-ltb c.args.h most_monitors c.if-h-lt-HANDLES.false ∙ sym (pick-false _ false (le-ltb c.args.h most_monitors c.if-h-lt-HANDLES.false))

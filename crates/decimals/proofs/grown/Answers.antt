@@ -13,4 +13,4 @@ returns-then-value-gt-LAST c = let a = c.args in grown-far a.value a.c c.if-valu
 
 pub returns : goal.returns
 returns c = let a = c.args in
-    grown-on a.value a.c (omega arith) (omega arith) (omega arith)
+    rw c.from.ensures (grown-on a.value a.c (omega arith) (omega arith) (omega arith))

@@ -17,22 +17,21 @@ returns-then-not-is_fit c = let a = c.args in
     marked-not a.acts.now a.s.now a.payload.now c.is_fit.ensures
     (c.if-not-is_fit.true)
 
-pub find_keys-private-requires : goal.find_keys-private-requires
-find_keys-private-requires c = let a = c.args in
+pub find_keys-met-requires : goal.find_keys-met-requires
+find_keys-met-requires c = let a = c.args in
     let f = fits-facts (length a.acts.now) a.s.now a.payload.now
     (sym c.is_fit.ensures ∙ c.if-not-is_fit.false) in
-    (refl, f.1, refl, f.2)
+    (f.1, refl, f.2)
 
 pub mark_each-requires : goal.mark_each-requires
 mark_each-requires c = let a = c.args in
     let f = fits-facts (length a.acts.now) a.s.now a.payload.now
     (sym c.is_fit.ensures ∙ c.if-not-is_fit.false) in (
       f.0,
-      search rules,
       f.1,
       refl,
       f.2,
-      c.find_keys-private.ensures,
+      c.find_keys-met.ensures,
     )
 
 pub admit_each-requires : goal.admit_each-requires

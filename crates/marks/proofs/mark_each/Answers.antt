@@ -12,7 +12,7 @@ use Rattle.marks.proofs.MarksLaws.{marks-turn}
 use Rattle.marks.specs.Monitors.{met_mark}
 use Rattle.marks.specs.Admitted.{met_if}
 use Rattle.marks.proofs.AdmittedLaws.{met-if-end}
-use Rattle.marks.proofs.KeyedLaws.{told_at_lem}
+use Rattle.marks.proofs.KeyedLaws.{told_at_lem, flag-some}
 use Rattle.marks.specs.Asked.{asked_of, mark_if}
 use Rattle.marks.proofs.AskedLaws.{ask-said}
 use Rattle.marks.proofs.mark_each.Goals as goal
@@ -26,13 +26,12 @@ mark_asked-requires c = let a = c.args in
     let p = c.requires in
     let l = c.loop-h in (
       p.1,
-      p.2,
       omega arith,
-      p.4,
+      p.3,
       search rules,
       λ n. told_at_lem a.met.now a.s.now (asked_of a.held.now a.s.now a.reach) a.payload.now l.h
-          (omega arith) p.5
-          (λ e. n (ask-said a.held.now a.s.now a.reach l.h (omega arith) c.ask_at-ask.ensures ∙ e)),
+          (omega arith) p.4
+          (λ e. flag-some _ n (ask-said a.held.now a.s.now a.reach l.h (omega arith) c.ask_at-ask.ensures ∙ e)),
     )
 
 pub loop-h-smaller : goal.loop-h-smaller

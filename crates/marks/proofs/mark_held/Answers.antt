@@ -34,11 +34,10 @@ bounds-payload-payload c = let a = c.args in
     ∙ c.if-not-is_fit.false) in
     omega (arith, f.2.0)
 
-pub find_keys-private-requires : goal.find_keys-private-requires
-find_keys-private-requires c = let a = c.args in
+pub find_keys-met-requires : goal.find_keys-met-requires
+find_keys-met-requires c = let a = c.args in
     let f = fits-facts (length a.acts.now) a.s.now a.payload.now
     (sym c.is_fit.ensures ∙ c.if-not-is_fit.false) in (
-      refl,
       f.1,
       omega (arith, c.if-held-ne-MONITORS.false),
       f.2,
@@ -49,12 +48,11 @@ mark_each-requires c = let a = c.args in
     let f = fits-facts (length a.acts.now) a.s.now a.payload.now
     (sym c.is_fit.ensures ∙ c.if-not-is_fit.false) in (
       f.0,
-      search rules,
       f.1,
       omega
           (arith, c.if-held-ne-MONITORS.false),
       f.2,
-      c.find_keys-private.ensures,
+      c.find_keys-met.ensures,
     )
 
 pub admit_each-requires : goal.admit_each-requires

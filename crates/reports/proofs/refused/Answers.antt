@@ -5,5 +5,5 @@ use Rattle.reports.proofs.refused.Goals as goal
 pub returns : goal.returns
 unfolding codes
 returns c = refused-whole c.args.x _
-    c.number_of.ensures c.blank.ensures
+    c.from.ensures c.blank.ensures
     c.refused-t.ensures c.with.ensures

@@ -24,9 +24,9 @@ returns-in-Ended c = let a = c.args in
 pub returns-in-Stopped : goal.returns-in-Stopped
 unfolding stop_of stop_by
 returns-in-Stopped c = let a = c.args in
-    stop-whole a.flow.lines c.number_of.result a.position c.found_in.result
-    c.stopped.ensures ∙ ap (λ n. stop_text a.flow.lines c.number_of.result a.position n)
+    stop-whole a.flow.lines c.from.result a.position c.found_in.result
+    c.stopped.ensures ∙ ap (λ n. stop_text a.flow.lines c.from.result a.position n)
     c.found_in.ensures
     ∙ ap (λ n. stop_text a.flow.lines n a.position (found_in a.text.now))
-    c.number_of.ensures
+    c.from.ensures
     ∙ sym (ap (λ m. stop_by m a.flow.lines a.position (found_in a.text.now)) c.in-Stopped.is)

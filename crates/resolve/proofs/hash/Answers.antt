@@ -7,7 +7,7 @@ pub returns : goal.returns
 unfolding hash_of little
 returns c = omega (
   arith,
-  c.wide.ensures.0,
-  c.wide-2.ensures.0,
-  c.wide-3.ensures.0,
+  c.from.ensures,
+  c.from-2.ensures,
+  c.from-3.ensures,
 )

@@ -18,8 +18,8 @@ returns-then-same c = let t = c.args.text.now in
     (ap (λ l. sames l t) (sym (again c.held_rows-rows.result _ _ _ (omega arith)
     c.write-n.ensures)) ∙ sym c.same.ensures ∙ c.if-same.true)
 
-pub returns : goal.returns
-returns c = let t = c.args.text.now in
-    read_none t c.held_rows-rows.ensures c.no_rows-none.ensures
+pub returns-else-same : goal.returns-else-same
+returns-else-same c = let t = c.args.text.now in
+    read_none t c.held_rows-rows.ensures
     (ap (λ l. sames l t) (sym (again c.held_rows-rows.result _ _ _ (omega arith)
     c.write-n.ensures)) ∙ sym c.same.ensures ∙ c.if-same.false)

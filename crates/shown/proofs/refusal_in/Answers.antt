@@ -13,19 +13,19 @@ returns-then-n-lt2 c = rw (lt-ltb _ _ c.if-n-lt2.true)
 pub slice_bounds-read-length : goal.slice_bounds-read-length
 slice_bounds-read-length c = sym (length-take-le _ _ (omega arith))
 
-pub returns-in-Is : goal.returns-in-Is
+pub returns-in-Some : goal.returns-in-Some
 unfolding refusal_in number_in Rattle.laws.specs.Tests.pick
-returns-in-Is c = rw (
+returns-in-Some c = rw (
   c.small.ensures,
   le-ltb _ _ c.if-n-lt2.false,
   sym
-      c.read-read.ensures ∙ c.in-Is.is,
+      c.read-read.ensures ∙ c.in-Some.is,
 )
 
-pub returns-in-Not : goal.returns-in-Not
+pub returns-in-None : goal.returns-in-None
 unfolding refusal_in number_in Rattle.laws.specs.Tests.pick
-returns-in-Not c = rw (
+returns-in-None c = rw (
   le-ltb _ _ c.if-n-lt2.false,
   sym c.read-read.ensures
-      ∙ c.in-Not.is,
+      ∙ c.in-None.is,
 )

@@ -1,4 +1,6 @@
-use mathlib.Core.Path.{sym, ◌∙◌}
+use Rattle.std.proofs.lemmas.Result.{err_from_is_err_and}
+use mathlib.Core.Path.{refl, sym, ◌∙◌}
+use Rattle.statuses.specs.CodesLaws.{code-some}
 use native.Mathlib.Omega.{arith}
 use Rattle.statuses.specs.AnswersLaws.{sub-said, add-other, add-short, add-fault, add-good, add-full}
 use Rattle.statuses.specs.SecondLaws.{type-said, type-least, type-five}
@@ -14,8 +16,8 @@ returns-then-params-params_of c = add-short c.args.room c.args.params.now c.get8
     (sym c.is_add.ensures ∙ c.if-not-is_add.false) c.params_of.ensures
     c.if-params-params_of.true
 
-pub fault-f-requires : goal.fault-f-requires
-fault-f-requires c = let e = c.type_at.ensures in
+pub fault-requires : goal.fault-requires
+fault-requires c = let e = c.type_at.ensures in
     let s = sub-said c.args.room c.args.params.now c.get8-sub.ensures in
     let n = type-least _ (sym c.is_add.ensures ∙ c.if-not-is_add.false) in (
       e ∙ type-said _ s,
@@ -24,17 +26,18 @@ fault-f-requires c = let e = c.type_at.ensures in
           (arith, e, n, c.params_of.ensures, c.if-params-params_of.false),
     )
 
-pub returns-then-f-ne0 : goal.returns-then-f-ne0
-returns-then-f-ne0 c = add-fault c.args.room c.args.params.now c.get8-sub.ensures
+pub returns-in_err-fault : goal.returns-in_err-fault
+returns-in_err-fault c =
+    let p = err_from_is_err_and c.from_residual.result c.from_residual.ensures.1 in rw (p.1, p.2) (add-fault c.args.room c.args.params.now c.get8-sub.ensures
     (sym c.is_add.ensures ∙ c.if-not-is_add.false) c.params_of.ensures
-    c.if-params-params_of.false c.fault-f.ensures c.if-f-ne0.true
+    c.if-params-params_of.false c.in_err-fault.ensures (code-some _))
 
 pub returns-then-room : goal.returns-then-room
 returns-then-room c = add-good c.args.room c.args.params.now c.get8-sub.ensures
     (sym c.is_add.ensures ∙ c.if-not-is_add.false) c.params_of.ensures
-    c.if-params-params_of.false c.fault-f.ensures c.if-f-ne0.false c.if-room.true
+    c.if-params-params_of.false c.in_ok-fault.ensures refl c.if-room.true
 
 pub returns : goal.returns
 returns c = add-full c.args.room c.args.params.now c.get8-sub.ensures
     (sym c.is_add.ensures ∙ c.if-not-is_add.false) c.params_of.ensures
-    c.if-params-params_of.false c.fault-f.ensures c.if-f-ne0.false c.if-room.false
+    c.if-params-params_of.false c.in_ok-fault.ensures refl c.if-room.false

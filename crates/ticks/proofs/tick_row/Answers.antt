@@ -1,4 +1,5 @@
 use Prim.Native.Nat.{◌*◌}
+use Rattle.ticks.specs.WrittenLaws.{told-stays, told-ends}
 use Rattle.ticks.specs.TableLaws.{turn-room, silent-most, turn-stays, turn-ends}
 use native.Mathlib.Omega.{arith}
 use Rattle.model.specs.Layout.{pair_size}
@@ -12,7 +13,8 @@ overflow_add-wrote c = let a = c.args in
     let n = turn-room a.intervals.now a.periods.now a.filters.now a.prefix.now a.t.now
     a.out.now a.i a.kept a.at (omega arith) (omega arith) (omega arith)
     c.octet_at.ensures c.ticks-run.ensures c.octet_at-period.ensures
-    c.get16.ensures c.stays-on.ensures c.tell.ensures in
+    c.get16.ensures c.stays.ensures
+    (told-stays _ _ a.filters.now a.prefix.now _ c.if-stays.true c.tell_window.ensures) in
     omega (arith, n)
 
 pub keep_row-requires : goal.keep_row-requires
@@ -20,21 +22,32 @@ keep_row-requires c = let a = c.args in
     let n = silent-most a.intervals.now a.periods.now a.filters.now a.prefix.now a.t.now
     a.out.now a.i a.kept a.at (omega arith) (omega arith) (omega arith)
     c.octet_at.ensures c.ticks-run.ensures c.octet_at-period.ensures
-    c.get16.ensures c.stays-on.ensures c.tell.ensures c.if-on.true
+    c.get16.ensures c.stays.ensures
+    (told-stays _ _ a.filters.now a.prefix.now _ c.if-stays.true c.tell_window.ensures) c.if-stays.true
     (omega (arith, c.ticks-run)) in
     (omega arith, omega arith, omega arith, n)
 
-pub returns-then-on : goal.returns-then-on
-returns-then-on c = let a = c.args in
+pub returns-then-stays : goal.returns-then-stays
+returns-then-stays c = let a = c.args in
     turn-stays a.intervals.now a.periods.now a.filters.now a.prefix.now a.t.now a.out.now
     a.i a.kept a.at (omega arith) (omega arith) (omega arith) c.octet_at.ensures
-    c.ticks-run.ensures c.octet_at-period.ensures c.get16.ensures
-    c.stays-on.ensures c.tell.ensures c.if-on.true
+    c.ticks-run.ensures c.octet_at-period.ensures c.get16.ensures c.stays.ensures
+    (told-stays _ _ a.filters.now a.prefix.now _ c.if-stays.true c.tell_window.ensures) c.if-stays.true
     c.keep_row.ensures
+
+pub overflow_add-wrote-2 : goal.overflow_add-wrote-2
+overflow_add-wrote-2 c = let a = c.args in
+    let n = turn-room a.intervals.now a.periods.now a.filters.now a.prefix.now a.t.now
+    a.out.now a.i a.kept a.at (omega arith) (omega arith) (omega arith)
+    c.octet_at.ensures c.ticks-run.ensures c.octet_at-period.ensures
+    c.get16.ensures c.stays.ensures
+    (told-ends _ c.octet_at-period.result a.filters.now a.prefix.now _ c.if-stays.false c.tell_stop.ensures) in
+    omega (arith, n)
 
 pub returns : goal.returns
 returns c = let a = c.args in
     turn-ends a.intervals.now a.periods.now a.filters.now a.prefix.now a.t.now a.out.now a.i
     a.kept a.at (omega arith) (omega arith) (omega arith) c.octet_at.ensures
-    c.ticks-run.ensures c.octet_at-period.ensures c.get16.ensures
-    c.stays-on.ensures c.tell.ensures c.if-on.false
+    c.ticks-run.ensures c.octet_at-period.ensures c.get16.ensures c.stays.ensures
+    (told-ends _ c.octet_at-period.result a.filters.now a.prefix.now _ c.if-stays.false c.tell_stop.ensures)
+    c.if-stays.false

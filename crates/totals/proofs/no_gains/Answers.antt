@@ -4,4 +4,4 @@ use Rattle.totals.specs.Table.{table_rows}
 use Rattle.totals.proofs.no_gains.Goals as goal
 
 pub returns : goal.returns
-returns c = ap (replicate table_rows) c.no_gain-none.ensures
+returns c = ap (replicate table_rows) c.no_gain.ensures

@@ -1,5 +1,4 @@
-use Prim.Native.Nat.{◌-◌}
-use mathlib.Core.Path.{◌≡◌, refl, ap}
+use mathlib.Core.Path.{◌≡◌, ap}
 use native.Mathlib.Omega.{arith}
 use Rattle.words.specs.SaysLaws.{same, nothing, then}
 use Rattle.words.specs.PiecesLaws.{hex-turn}
@@ -8,19 +7,16 @@ use lib.Seq.{take_all}
 use Rattle.lines.specs.Hex.{hex_of}
 use Rattle.words.proofs.hex.Goals as goal
 
-pub loop-i-init : goal.loop-i-init
+pub loop-x-init : goal.loop-x-init
 unfolding hex_of
-loop-i-init c = (refl, omega arith, nothing _ _)
+loop-x-init c = nothing _ _
 
-pub loop-i-preserved : goal.loop-i-preserved
-loop-i-preserved c = (
-  refl,
-  omega arith,
-  hex-turn
-      c.args.s.now c.loop-i.i (omega arith) c.loop-i.invariant.2 c.pair-end.ensures,
-)
+pub loop-x-preserved : goal.loop-x-preserved
+loop-x-preserved c =
+    hex-turn
+    c.args.s.now c.loop-x.x-index (omega arith) c.loop-x.invariant c.pair-end.ensures
 
 pub returns : goal.returns
-returns c = let e : take c.loop-i.i c.args.s.now ≡ c.args.s.now = take_all c.loop-i.i
+returns c = let e : take c.loop-x.x-index c.args.s.now ≡ c.args.s.now = take_all c.loop-x.x-index
     c.args.s.now (omega arith) in
-    then c.put-end.ensures (same (ap hex_of e) c.loop-i.invariant.2)
+    then c.put-end.ensures (same (ap hex_of e) c.loop-x.invariant)

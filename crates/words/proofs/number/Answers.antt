@@ -8,23 +8,16 @@ use lib.ListN.{drop}
 use lib.Seq.{drop-length}
 use Rattle.words.proofs.number.Goals as goal
 
-pub loop-left-init : goal.loop-left-init
+pub loop-i-init : goal.loop-i-init
 unfolding number_text
-loop-left-init c = (
-  omega arith,
-  same
-      (sym (ap number_text (drop-length c.args.s.now))) (nothing _ _),
-)
+loop-i-init c = same (sym (ap number_text (drop-length c.args.s.now))) (nothing _ _)
 
-pub loop-left-preserved : goal.loop-left-preserved
-loop-left-preserved c = (
-  omega arith,
-  number-turn
-      c.args.s.now (c.loop-left.left - 1) c.loop-left.left (omega arith)
-      (omega arith) c.loop-left.invariant.1 c.pair-end.ensures,
-)
+pub loop-i-preserved : goal.loop-i-preserved
+loop-i-preserved c = number-turn
+    c.args.s.now (c.loop-i.i - 1) c.loop-i.i (omega arith)
+    (omega arith) c.loop-i.invariant c.pair-end.ensures
 
 pub returns : goal.returns
-returns c = let e : c.loop-left.left ≡ 0 = omega arith in
+returns c = let e : c.loop-i.i ≡ 0 = omega arith in
     then c.put-end.ensures
-    (same (ap (λ (j : ℕ). number_text (drop j c.args.s.now)) e) c.loop-left.invariant.1)
+    (same (ap (λ (j : ℕ). number_text (drop j c.args.s.now)) e) c.loop-i.invariant)

@@ -2,7 +2,7 @@ use Rattle.advert.specs.Either.{text_of, both, left, rest, cost_left}
 use Rattle.advert.specs.Pattern.{holds_at}
 use Rattle.advert.specs.Cost.{octets_cost, both_cost}
 use Rattle.laws.specs.Loops.{some}
-use Rattle.std.proofs.Common.{◌≡◌, ◌+◌, ◌-◌, ◌≤◌, length}
+use Rattle.std.proofs.Common.{◌≡◌, ◌+◌, ◌≤◌, length}
 use Rattle.advert.proofs.cost.some_cost.Given as goal
 
 abbrev pub invariant-loop-part : goal.invariant-loop-part

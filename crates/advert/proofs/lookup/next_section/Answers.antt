@@ -1,72 +1,74 @@
 use Rattle.advert.specs.Either.{text_of}
-use Rattle.advert.proofs.EitherLaws.{text-second, text-first, found_here, found-there, found-second, handed-none, handed}
-use Rattle.advert.specs.SectionsLaws.{seen-short}
-use Rattle.std.proofs.Common.{ℕ, ◌-◌, List, take, drop, refl, ap, ◌∙◌, arith}
+use Rattle.advert.proofs.EitherLaws.{text-second, text-first, found_here, found-there, found-second, handed-none, handed, part_some}
+use Rattle.advert.specs.declared.lookup.Span.{Span}
+use Rattle.advert.specs.Sections.{Lookup}
+use Rattle.advert.specs.Spans.{Looked}
+use Rattle.advert.specs.SpansLaws.{looked-short}
+use Rattle.std.specs.Prelude.{Option, true, false}
+use Rattle.std.proofs.Common.{ℕ, ◌-◌, List, take, drop, refl, ap, subst, ◌∙◌, arith}
 use Rattle.laws.specs.Tests.{pick}
 use Rattle.advert.proofs.lookup.next_section.Goals as goal
 
-pub find_section-s-requires : goal.find_section-s-requires
-find_section-s-requires c = rw c.text_of-text.ensures c.requires
-
-pub overflow_sub-from : goal.overflow_sub-from
-overflow_sub-from c = omega (arith, c.find_section-s.ensures.low c.if-s.true)
-
-pub slice_bounds-result-count : goal.slice_bounds-result-count
-slice_bounds-result-count c = omega (arith, c.find_section-s.ensures.order c.if-s.true)
-
-pub slice_bounds-result-start : goal.slice_bounds-result-start
-slice_bounds-result-start c = omega (arith, c.find_section-s.ensures.order c.if-s.true)
-
-pub slice_bounds-result-end : goal.slice_bounds-result-end
-slice_bounds-result-end c = c.find_section-s.ensures.high c.if-s.true
-
-pub returns-then-s : goal.returns-then-s
-returns-then-s c = let a = c.args in
+pub returns-in-Some : goal.returns-in-Some
+returns-in-Some c = let a = c.args in
     let s = c.find_section-s.result in
-    handed _ _ _ _ _ _ (found_here _ _ a.adv.now a.scan.now a.second.now _ _ _ _
-    c.if-s.true
-    (rw c.text_of-text.ensures at c.find_section-s.ensures)) refl
-    (ap (λ (x : List ℕ). take (s.to - (s.from - 1)) (drop (s.from - 1) x)) c.text_of-text.ensures)
+    let p = c.in-Some.p in
+    let k : Lookup a.t a.u c.text_of-text.result.now a.at.now true s.seen p.from p.to =
+    subst (λ (z : Option Span). Looked a.t a.u c.text_of-text.result.now a.at.now s.seen z) c.in-Some.is
+    c.find_section-s.ensures in (
+      handed _ _ _ _ _ _ (found_here _ _ a.adv.now a.scan.now a.second.now _ _ _ _ refl
+          (rw c.text_of-text.ensures at k)) refl
+          (ap (λ (x : List ℕ). take (p.to - (p.from - 1)) (drop (p.from - 1) x)) c.text_of-text.ensures),
+      part_some c.text_of-text.result.now p.from p.to (omega (arith, k.low refl)) (k.order refl) (k.high refl),
+    )
 
 pub returns-then-second : goal.returns-then-second
-returns-then-second c = let y = c.if-second.true in
+returns-then-second c = let a = c.args in
+    let s = c.find_section-s.result in
+    let y = c.if-second.true in
+    let k : Lookup a.t a.u c.text_of-text.result.now a.at.now false s.seen 0 0 =
+    subst (λ (z : Option Span). Looked a.t a.u c.text_of-text.result.now a.at.now s.seen z) c.in_default.is
+    c.find_section-s.ensures in
     handed-none _ _ _ _ _ _ (found-there _ _ _ _ _ _ _ _ _
-    (rw (c.text_of-text.ensures ∙ text-second _ _ y) at c.find_section-s.ensures) y)
-    c.requires c.if-s.false refl
+    (rw (c.text_of-text.ensures ∙ text-second _ _ y) at k) y) c.requires refl refl
 
 pub overflow_add-seen : goal.overflow_add-seen
-overflow_add-seen c = let e = c.text_of-text.ensures ∙ text-first _ _ c.if-second.false in
-    let p = seen-short (rw e at c.find_section-s.ensures) in
-    let q = seen-short c.find_section-r.ensures in
+overflow_add-seen c = let a = c.args in
+    let s = c.find_section-s.result in
+    let r = c.find_section-r.result in
+    let e = c.text_of-text.ensures ∙ text-first _ _ c.if-second.false in
+    let p = looked-short a.t a.u a.adv.now a.at.now s.seen s.span (rw e at c.find_section-s.ensures) in
+    let q = looked-short a.t a.u a.scan.now 0 r.seen r.span c.find_section-r.ensures in
     omega (arith, p, q, c)
 
-pub overflow_sub-from-then-r : goal.overflow_sub-from-then-r
-overflow_sub-from-then-r c = omega (arith, c.find_section-r.ensures.low c.if-r.true)
-
-pub slice_bounds-result-count-then-r : goal.slice_bounds-result-count-then-r
-slice_bounds-result-count-then-r c = omega (
-  arith,
-  c.find_section-r.ensures.order
-      c.if-r.true,
-)
-
-pub slice_bounds-result-start-then-r : goal.slice_bounds-result-start-then-r
-slice_bounds-result-start-then-r c = omega (arith, c.find_section-r.ensures.order c.if-r.true)
-
-pub slice_bounds-result-end-then-r : goal.slice_bounds-result-end-then-r
-slice_bounds-result-end-then-r c = c.find_section-r.ensures.high c.if-r.true
-
-pub returns-then-r : goal.returns-then-r
+pub returns-in-Some-span : goal.returns-in-Some-span
 unfolding text_of pick
-returns-then-r c = let n = c.if-second.false in
+returns-in-Some-span c = let a = c.args in
+    let s = c.find_section-s.result in
+    let r = c.find_section-r.result in
+    let q = c.in-Some-span.q in
+    let n = c.if-second.false in
     let e = c.text_of-text.ensures ∙ text-first _ _ n in
-    handed _ _ _ _ _ _ (found-second _ _ _ _ _ _ _ _ _ _ (rw (text-first _ _ n) at c.requires) c.if-s.false
-    (rw e at c.find_section-s.ensures) c.find_section-r.ensures n)
-    c.if-r.true refl
+    let k : Lookup a.t a.u c.text_of-text.result.now a.at.now false s.seen 0 0 =
+    subst (λ (z : Option Span). Looked a.t a.u c.text_of-text.result.now a.at.now s.seen z) c.in_default.is
+    c.find_section-s.ensures in
+    let l : Lookup a.t a.u a.scan.now 0 true r.seen q.from q.to =
+    subst (λ (z : Option Span). Looked a.t a.u a.scan.now 0 r.seen z) c.in-Some-span.is c.find_section-r.ensures in (
+      handed _ _ _ _ _ _ (found-second _ _ _ _ _ _ _ _ _ _ (rw (text-first _ _ n) at c.requires) refl
+          (rw e at k) l n) refl refl,
+      part_some a.scan.now q.from q.to (omega (arith, l.low refl)) (l.order refl) (l.high refl),
+    )
 
 pub returns : goal.returns
-returns c = let n = c.if-second.false in
+returns c = let a = c.args in
+    let s = c.find_section-s.result in
+    let r = c.find_section-r.result in
+    let n = c.if-second.false in
     let e = c.text_of-text.ensures ∙ text-first _ _ n in
+    let k : Lookup a.t a.u c.text_of-text.result.now a.at.now false s.seen 0 0 =
+    subst (λ (z : Option Span). Looked a.t a.u c.text_of-text.result.now a.at.now s.seen z) c.in_default.is
+    c.find_section-s.ensures in
+    let l : Lookup a.t a.u a.scan.now 0 false r.seen 0 0 =
+    subst (λ (z : Option Span). Looked a.t a.u a.scan.now 0 r.seen z) c.in_default-span.is c.find_section-r.ensures in
     handed-none _ _ _ _ _ _ (found-second _ _ _ _ _ _ _ _ _ _ (rw (text-first _ _ n) at c.requires)
-    c.if-s.false (rw e at c.find_section-s.ensures)
-    c.find_section-r.ensures n) c.requires c.if-r.false refl
+    refl (rw e at k) l n) c.requires refl refl

@@ -12,4 +12,4 @@ pub returns-then-n-i : goal.returns-then-n-i
 returns-then-n-i c = part-past _ _ _ (omega arith) (omega arith)
 
 pub returns : goal.returns
-returns c = part-found _ _ _ _ (omega arith) (omega arith) (omega arith) (omega arith)
+returns c = (part-found _ _ _ _ (omega arith) (omega arith) (omega arith) (omega arith), omega arith)

@@ -1,4 +1,4 @@
-use Rattle.std.proofs.Common.{◌-◌, arith}
+use Rattle.std.proofs.Common.{arith}
 use Rattle.advert.proofs.PatternLaws.{holds-past, holds-start, holds-end, holds-step, holds-stop}
 use Rattle.advert.proofs.CostLaws.{cost-past, cost-start, cost-end, cost_step, cost-stop}
 use Rattle.advert.proofs.patterns.compare.Goals as goal

@@ -1,3 +1,4 @@
+use Rattle.statuses.specs.Codes.{code}
 use Rattle.commands.specs.RepliesLaws.{reply-two}
 use native.Mathlib.Omega.{arith}
 use mathlib.Core.Path.{◌≡◌}
@@ -11,4 +12,4 @@ bounds-out-6 c = let e : length c.put_head.new.out ≡ length
 
 pub returns : goal.returns
 returns c = let a = c.args in
-    reply-two a.out.now a.opcode (omega arith) a.status a.sub c.put_head.ensures
+    rw c.code-octet.ensures (reply-two a.out.now a.opcode (omega arith) (code a.status) a.sub c.put_head.ensures)

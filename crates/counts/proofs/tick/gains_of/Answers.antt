@@ -30,7 +30,7 @@ pub loop-h-preserved : goal.loop-h-preserved
 loop-h-preserved c = let l = c.loop-h in (
   omega arith,
   simp length-set l.invariant.1,
-  λ m k w. table-turn (row_in m tick) l.h l.gains _ (c.gain_at-gain.ensures m k w) (omega (arith, l.invariant.1))
+  λ m k w. table-turn (row_in m tick) l.h l.gains _ (c.gain_at.ensures m k w) (omega (arith, l.invariant.1))
       (l.invariant.2 m k w),
 )
 

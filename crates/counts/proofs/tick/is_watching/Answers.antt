@@ -1,33 +1,17 @@
-use Prim.Native.Nat.{◌-◌}
-use mathlib.Core.Path.{sym, ◌∙◌}
-use native.Mathlib.Omega.{arith}
-use Rattle.counts.specs.TicksLaws.{watching-is, at_pair, watching-hit, watching-miss, watching-end}
+use Rattle.std.proofs.Common.{sym, ◌∙◌, arith, rules, refl}
+use Rattle.std.specs.Prelude.{true, false}
+use Rattle.std.proofs.lemmas.Iterator.{cases_from_any, YieldsList-from_range}
+use Rattle.counts.specs.Ticks.{watched_for}
+use Rattle.counts.specs.TicksLaws.{watching-is}
+use Rattle.counts.specs.AnyLaws.{Tells, any-told}
 use Rattle.counts.proofs.tick.is_watching.Goals as goal
 
-pub loop-i-init : goal.loop-i-init
-loop-i-init c = (omega arith, λ m w. watching-is m c.args.h)
-
-pub returns-then-is_watched : goal.returns-then-is_watched
-returns-then-is_watched c = let a = c.args in
-    let l = c.loop-i in
-    λ m w. watching-hit m a.s.now a.n a.h l.i w (l.invariant.1 m w) (omega arith)
-    (sym c.if-is_watched.true ∙ c.is_watched.ensures m
-    (at_pair m a.s.now a.n a.h l.i w (l.invariant.1 m w) (omega arith)))
-
-pub loop-i-smaller : goal.loop-i-smaller
-loop-i-smaller c = omega arith
-
-pub loop-i-preserved : goal.loop-i-preserved
-loop-i-preserved c = let a = c.args in let l = c.loop-i in (
-  omega arith,
-  λ m w.
-      watching-miss m a.s.now a.n a.h l.i w (l.invariant.1 m w) (omega arith)
-      (sym c.if-is_watched.false
-      ∙ c.is_watched.ensures m
-      (at_pair m a.s.now a.n a.h l.i w (l.invariant.1 m w) (omega arith))),
-)
-
 pub returns : goal.returns
-returns c = let a = c.args in
-    let l = c.loop-i in
-    λ m w. watching-end m a.s.now a.n a.h l.i w (l.invariant.1 m w) (omega arith)
+returns c =
+    let a = c.args in
+    λ m w.
+    any-told m a.s.now a.n w (watched_for m a.h) c.any.result
+    (cases_from_any _ _ _ (Tells m a.s.now (watched_for m a.h) true) (Tells m a.s.now (watched_for m a.h) false)
+    c.any.ensures.ran (YieldsList-from_range 0 a.n a.n refl (omega arith))
+    (λ x q k. λ p. search rules) (λ x q k. (search rules, λ p. search rules)))
+    ∙ sym (watching-is m a.h)

@@ -1,24 +1,19 @@
-use Prim.Native.Nat.{◌+◌, ◌-◌}
-use mathlib.Core.Path.{refl}
+use Prim.Native.Nat.{◌+◌}
 use native.Mathlib.Omega.{arith}
 use Rattle.fields.specs.CutsLaws.{left-turn, left_end}
 use Rattle.fields.specs.Data.{characters_text}
 use Rattle.fields.specs.Turns.{characters-end, characters-next}
 use Rattle.fields.proofs.data.characters.Goals as goal
 
-pub loop-i-init : goal.loop-i-init
-loop-i-init c = (refl, omega arith, λ o r t. t)
+pub loop-c-init : goal.loop-c-init
+loop-c-init c = λ o r t. t
 
-pub loop-i-preserved : goal.loop-i-preserved
-loop-i-preserved c = (
-  refl,
-  omega arith,
-  left-turn (characters_text)
-      c.args.s.now c.loop-i.i (c.loop-i.i + 1) (characters-next c.args.s.now
-      c.loop-i.i (omega arith)) c.loop-i.invariant.2 c.character-end.ensures,
-)
+pub loop-c-preserved : goal.loop-c-preserved
+loop-c-preserved c = left-turn (characters_text)
+    c.args.s.now c.loop-c.c-index (c.loop-c.c-index + 1) (characters-next c.args.s.now
+    c.loop-c.c-index (omega arith)) c.loop-c.invariant c.character-end.ensures
 
 pub returns : goal.returns
-returns c = left_end (characters_text) c.args.s.now c.loop-i.i
-    (characters-end c.args.s.now c.loop-i.i (omega arith))
-    c.loop-i.invariant.2
+returns c = left_end (characters_text) c.args.s.now c.loop-c.c-index
+    (characters-end c.args.s.now c.loop-c.c-index (omega arith))
+    c.loop-c.invariant

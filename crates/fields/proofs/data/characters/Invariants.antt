@@ -1,14 +1,6 @@
-use Prim.Native.Nat.{◌-◌, ◌≤◌}
-use mathlib.Core.Path.{◌≡◌}
 use Rattle.fields.specs.CutsLaws.{Left}
 use Rattle.fields.specs.Data.{characters_text}
-use lib.ListN.{length}
 use Rattle.fields.proofs.data.characters.Given as goal
 
-abbrev pub invariant-loop-i : goal.invariant-loop-i
-invariant-loop-i l =
-    (l.n ≡ length l.s) × (l.i ≤ l.n) × Left (characters_text) l.s l.i l.initial.out l.initial.end l.out l.end
-
-abbrev pub decreases-loop-i : goal.decreases-loop-i
-decreases-loop-i l =
-    l.n - l.i
+abbrev pub invariant-loop-c : goal.invariant-loop-c
+invariant-loop-c l = Left (characters_text) l.s l.c-index l.initial.out l.initial.end l.out l.end

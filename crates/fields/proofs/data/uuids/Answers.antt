@@ -14,11 +14,11 @@ loop-i-preserved c = (
   refl,
   omega arith,
   let k : c.loop-i.i +
-      c.least.result - c.loop-i.i ≡ c.least.result = omega arith in left-turn
+      c.min.result - c.loop-i.i ≡ c.min.result = omega arith in left-turn
       (uuids_text c.args.k) c.args.s.now c.loop-i.i
-      (c.loop-i.i + c.least.result) (uuids-next c.args.s.now c.loop-i.i
-      c.args.k c.least.result c.requires (omega arith)
-      c.least.ensures) c.loop-i.invariant.2 (rw k at c.next_uuid-end.ensures),
+      (c.loop-i.i + c.min.result) (uuids-next c.args.s.now c.loop-i.i
+      c.args.k c.min.result c.requires (omega arith)
+      c.min.ensures) c.loop-i.invariant.2 (rw k at c.next_uuid-end.ensures),
 )
 
 pub returns : goal.returns

@@ -2,7 +2,7 @@ use native.Mathlib.Omega.{arith}
 use Prim.Native.Nat.{◌-◌}
 use mathlib.Core.Path.{◌≡◌, refl, sym, ◌∙◌, subst}
 use mathlib.Core.Bool.{true}
-use mathlib.Core.Logic.{inr}
+use Rattle.std.specs.Prelude.{Some}
 use Rattle.state.specs.StartLaws.{octets-known}
 use Rattle.index.specs.Seen.{marks}
 use Rattle.index.specs.Compared.{Walks, pairs_of}
@@ -19,40 +19,40 @@ key_at-key-requires c = (c.requires.1, omega arith)
 pub slice_bounds-note_once-end : goal.slice_bounds-note_once-end
 slice_bounds-note_once-end c = sym c.loop-i.invariant.2
 
-pub note_once-next-requires : goal.note_once-next-requires
-note_once-next-requires c = let l = c.loop-i in
+pub note_once-requires : goal.note_once-requires
+note_once-requires c = let l = c.loop-i in
     let w = walked-few c.args.pairs.now l.i (omega arith) l.k c.args.table.now l.masks l.slots
     l.invariant.3 in
     (c.requires.0, l.invariant.1, l.invariant.2, omega arith, l.invariant.3.slotted)
 
-pub returns-then-next-eq-STOPPED : goal.returns-then-next-eq-STOPPED
-returns-then-next-eq-STOPPED c = let l = c.loop-i in
-    let f = c.note_once-next in
-    walk-stops c.args.pairs.now c.requires.1
+pub returns-in_err-k : goal.returns-in_err-k
+returns-in_err-k c = let l = c.loop-i in
+    let f = c.note_once in
+    rw c.from_residual.ensures (walk-stops c.args.pairs.now c.requires.1
     (octets-known c.args.pairs.now (λ i. omega (
       arith,
       c.shared_slice_known-2-1.given i,
     ))) c.args.n c.requires.3 l.i (omega arith) c.args.table.now l.k l.masks l.slots
     l.invariant.3 l.invariant.4 c.key_at-key.result
-    c.key_at-key.ensures f.ensures c.if-next-eq-STOPPED.true
+    c.key_at-key.ensures f.result f.new.masks f.new.slots f.ensures c.in_err-k.was)
 
 pub loop-i-smaller : goal.loop-i-smaller
 loop-i-smaller c = omega arith
 
 pub loop-i-preserved : goal.loop-i-preserved
 loop-i-preserved c = let l = c.loop-i in
-    let f = c.note_once-next in
+    let f = c.note_once in
     let g = walk-goes c.args.pairs.now c.requires.1
     (octets-known c.args.pairs.now (λ i. omega (
       arith,
       c.shared_slice_known-2-1.given i,
     ))) c.args.n c.requires.3 l.i (omega arith) c.args.table.now l.k l.masks l.slots
-    l.invariant.3 l.invariant.4 c.key_at-key.result c.key_at-key.ensures f.ensures
-    c.if-next-eq-STOPPED.false in
+    l.invariant.3 l.invariant.4 c.key_at-key.result c.key_at-key.ensures f.result
+    f.new.masks f.new.slots f.ensures _ c.in_ok-k.was in
     (omega arith, f.auto.masks ∙ l.invariant.1, f.auto.slots ∙ l.invariant.2, g.0, g.1)
 
 pub returns : goal.returns
 returns c = let l = c.loop-i in
     let e : l.i ≡ c.args.n = omega arith in
-    subst (λ j. Walks (pairs_of j c.args.pairs.now) c.args.table.now l.masks l.k) e
-    (inr (l.invariant.3.tally, l.invariant.4))
+    subst (λ j. Walks (pairs_of j c.args.pairs.now) c.args.table.now l.masks (Some l.k)) e
+    (l.invariant.3.tally, l.invariant.4)

@@ -22,9 +22,6 @@ loop-h-preserved c = let a = c.args in
           c.met_key-m.result (omega arith) l.invariant.2 c.met_key-m.ensures,
     )
 
-pub shape_of-met : goal.shape_of-met
-shape_of-met c = c.loop-h.invariant.1
-
 pub returns : goal.returns
 returns c = let l = c.loop-h in
     let e : l.h ≡ most_monitors = omega arith in

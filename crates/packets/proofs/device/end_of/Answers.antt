@@ -8,7 +8,9 @@ pub loop-i-init : goal.loop-i-init
 loop-i-init c = (omega arith, omega arith, λ m p w t j b l. absurd (omega (arith, w.count)))
 
 pub returns-then-key_at-dev : goal.returns-then-key_at-dev
-returns-then-key_at-dev c = let l = c.loop-i in (l.invariant.0, l.invariant.1, l.invariant.2)
+returns-then-key_at-dev c = let l = c.loop-i in
+    let e : l.i ≡ l.i - 1 + 1 = omega arith in
+    (omega arith, omega arith, rw e at l.invariant.2)
 
 pub loop-i-smaller : goal.loop-i-smaller
 loop-i-smaller c = omega arith

@@ -2,8 +2,8 @@ use Rattle.std.proofs.Common.{sym, le-ltb, lt-ltb}
 use Rattle.laws.specs.TestsLaws.{pick_true, pick-false}
 use Rattle.packets.proofs.weakest.weaker.Goals as goal
 
-pub returns-then-kept-least : goal.returns-then-kept-least
-returns-then-kept-least c = let t = lt-ltb _ _ c.if-kept-least.true in (sym (pick_true _ _ t), sym (pick_true _ _ t))
+pub returns-then-kept-w : goal.returns-then-kept-w
+returns-then-kept-w c = let t = lt-ltb _ _ c.if-kept-w.true in (sym (pick_true _ _ t), sym (pick_true _ _ t))
 
 pub returns : goal.returns
-returns c = let t = le-ltb _ _ c.if-kept-least.false in (sym (pick-false _ _ t), sym (pick-false _ _ t))
+returns c = let t = le-ltb _ _ c.if-kept-w.false in (sym (pick-false _ _ t), sym (pick-false _ _ t))

@@ -1,4 +1,4 @@
-use Rattle.std.proofs.Common.{◌≡◌, ℕ, ◌+◌, ◌-◌, ◌≤◌, List, length, get_or, set, ◌∙◌, arith, length-set}
+use Rattle.std.proofs.Common.{◌≡◌, ℕ, ◌+◌, ◌-◌, ◌≤◌, List, length, get_or, set, refl, ◌∙◌, arith, length-set}
 use Rattle.packets.specs.WindowsLaws.{window-written}
 use Rattle.octets.specs.NumbersLaws.{number-of}
 use Rattle.octets.specs.Little.{octets_of}
@@ -30,10 +30,9 @@ returns c = let a = c.args in
     let g3 : a.at + window_size ≤ length s = c.requires.0 in
     window-written s l a.at g3 c.requires.1 (number-of 4 s a.at c.get32-count.ensures (omega arith))
     (number-of 8 s (a.at + 4) c.get64-sum.ensures (omega arith))
-    c.wrapping_add_u32.ensures.value c.extend.ensures
-    c.wrapping_add_u64.ensures.value
-    (put_of s a.at (octets_of 4 c.wrapping_add_u32.result) 4 (length s)
+    refl c.extend.ensures refl
+    (put_of s a.at (octets_of 4 _) 4 (length s)
     c.put32.ensures.0 (omega arith) c.put32.ensures.1)
-    (put_of c.put32.new.out (a.at + 4) (octets_of 8 c.wrapping_add_u64.result) 8
+    (put_of c.put32.new.out (a.at + 4) (octets_of 8 _) 8
     (length c.put32.new.out) c.put64.ensures.0 (omega arith)
     c.put64.ensures.1) c.put_latest.ensures

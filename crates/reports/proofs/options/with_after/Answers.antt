@@ -2,10 +2,10 @@ use Rattle.reports.specs.Options.{with_after}
 use mathlib.Core.Path.{sym, ap}
 use Rattle.reports.proofs.options.with_after.Goals as goal
 
-pub returns-in-Is : goal.returns-in-Is
+pub returns-in-Some : goal.returns-in-Some
 unfolding with_after
-returns-in-Is c = sym (ap (with_after c.args.asked) c.in-Is.is)
+returns-in-Some c = sym (ap (with_after c.args.asked) c.in-Some.is)
 
-pub returns-in-Not : goal.returns-in-Not
+pub returns-in-None : goal.returns-in-None
 unfolding with_after
-returns-in-Not c = sym (ap (with_after c.args.asked) c.in-Not.is)
+returns-in-None c = sym (ap (with_after c.args.asked) c.in-None.is)

@@ -1,6 +1,6 @@
 use native.Mathlib.Omega.{arith}
-use Prim.Native.Nat.{◌-◌}
-use mathlib.Core.Path.{ap, ◌∙◌}
+use Rattle.std.proofs.Common.{ℕ, ◌≡◌, length, subst, ap, ◌∙◌}
+use Rattle.sheets.specs.Reading.{Counted}
 use Rattle.sheets.specs.Least.{grown}
 use Rattle.sheets.proofs.ReadingLaws.{counting-start, counting-stop, counting-on, counting-end}
 use Rattle.sheets.proofs.reads.count_at.Goals as goal
@@ -25,4 +25,6 @@ loop-i-preserved c = let a = c.args in
 pub returns : goal.returns
 returns c = let a = c.args in
     let l = c.loop-i in
-    counting-end a.text.now a.at l.i l.value l.invariant (omega arith)
+    let e : l.i ≡ length a.text.now = omega arith in
+    subst (λ (n : ℕ). Counted a.text.now a.at l.value n) e
+    (counting-end a.text.now a.at l.i l.value l.invariant (omega arith))

@@ -1,7 +1,6 @@
 use borrow.Author.Rules.{rules}
 use native.Mathlib.Omega.{arith}
 use lib.ListN.{length}
-use Prim.Native.Nat.{◌-◌}
 use mathlib.Core.Path.{◌≡◌, ◌∙◌}
 use Rattle.laws.specs.PutLaws.{put_of}
 use Rattle.sheets.proofs.WritingLaws.{putting-start, putting-length, putting-room, putting-on, putting-end}

@@ -17,6 +17,3 @@ slice_bounds-given-end c = sym (length-take-le _ _
           (not-false _ c.if-not-feed.false),
       c.next_line-read.ensures.0,
     )))
-
-pub loop-left-smaller : goal.loop-left-smaller
-loop-left-smaller c = omega arith

@@ -1,10 +1,6 @@
 use Rattle.std.proofs.Common.{◌≡◌, length}
 use Rattle.show.proofs.files.show_file.Given as goal
 
-abbrev pub invariant-loop-left : goal.invariant-loop-left
-invariant-loop-left l =
+abbrev pub invariant-loop : goal.invariant-loop
+invariant-loop l =
     length l.buf ≡ 65536
-
-abbrev pub decreases-loop-left : goal.decreases-loop-left
-decreases-loop-left l =
-    l.left

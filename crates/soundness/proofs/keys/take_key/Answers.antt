@@ -1,11 +1,11 @@
 use Rattle.soundness.specs.SeenLaws.{seen-new, marked-new, marked-old}
 use Rattle.soundness.proofs.keys.take_key.Goals as goal
 
-pub returns-then-seen-m-eq0 : goal.returns-then-seen-m-eq0
-returns-then-seen-m-eq0 c = let g = c.get64.ensures in
+pub returns-then-not-seen-m : goal.returns-then-not-seen-m
+returns-then-not-seen-m c = let g = c.get64.ensures in
     let m = c.mark_of-m.ensures.0 in (
       seen-new c.args.s.now c.args.seen.now c.args.i c.requires.0 c.requires.1 c.requires.2 c.requires.3 g m
-          c.if-seen-m-eq0.true,
+          c.if-not-seen-m.true,
       marked-new c.args.s.now c.args.seen.now c.args.i c.requires.0 c.requires.1 c.requires.2
           c.requires.3 g m,
     )
@@ -16,5 +16,5 @@ returns c = let g = c.get64.ensures in
       c.other_sound.ensures,
       marked-old c.args.s.now c.args.seen.now c.args.i c.requires.0 c.requires.1 c.requires.2
           c.requires.3 g m
-          c.if-seen-m-eq0.false,
+          c.if-not-seen-m.false,
     )

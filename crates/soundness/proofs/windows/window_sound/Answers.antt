@@ -20,7 +20,7 @@ returns-then-position-packets c = let a = c.args in
     (ap not c.if-not-runs.false) c.if-position-packets.true
 
 pub returns : goal.returns
-returns c = let a = c.args in
-    window-sum a.position a.sampling a.ticks a.packets a.sum (omega arith) (omega arith)
+returns c = let a = c.args in rw c.from.ensures
+    (window-sum a.position a.sampling a.ticks a.packets a.sum (omega arith) (omega arith)
     (ap not c.if-not-runs.false) c.if-sampling-ticks.false c.if-position-packets.false
-    c.sum_above.ensures
+    c.sum_above.ensures)

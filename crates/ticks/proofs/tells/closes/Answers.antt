@@ -7,4 +7,4 @@ use Rattle.ticks.proofs.tells.closes.Goals as goal
 
 pub returns : goal.returns
 unfolding closes_at
-returns c = ap (λ (b : Bool). b && leb c.args.period (c.args.ticks + 1)) c.windowed-some.ensures
+returns c = rw (c.from.ensures, c.from-2.ensures) (ap (λ (b : Bool). b && leb c.args.period (c.args.ticks + 1)) c.windowed-some.ensures)

@@ -1,3 +1,4 @@
+use mathlib.Core.Bool.{true}
 use Rattle.ticks.specs.WrittenLaws.{says, appended-none, appended-some}
 use mathlib.Core.Path.{◌∙◌, sym}
 use native.Mathlib.Omega.{arith}
@@ -5,7 +6,7 @@ use Rattle.ticks.proofs.tells.tell_window.Goals as goal
 
 pub put_window-requires : goal.put_window-requires
 put_window-requires c = let a = c.args in
-    let f = says a.on a.period a.filters.now a.r.now
+    let f = says true a.period a.filters.now a.r.now
     (sym c.says.ensures ∙ c.if-says.true) in
     (omega arith, f.packets, f.short, omega arith)
 

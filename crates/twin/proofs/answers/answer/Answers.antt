@@ -17,14 +17,14 @@ reply-requires c = (
   c.requires.1.formed
       c.args.i (omega arith),
   sym
-      c.kind_at-kind.ensures ∙ c.if-kind-eq1.true,
+      c.kind_at-kind.ensures ∙ c.if-kind-eq-COMMAND.true,
   c.after_all.ensures,
   c.requires.2,
 )
 
-pub returns-then-kind-eq3 : goal.returns-then-kind-eq3
-returns-then-kind-eq3 c = says-tick c.args.head.now c.args.t.now c.args.i
-    (c.requires.1.formed c.args.i (omega arith)) (sym c.kind_at-kind.ensures ∙ c.if-kind-eq3.true)
+pub returns-then-kind-eq-TICK : goal.returns-then-kind-eq-TICK
+returns-then-kind-eq-TICK c = says-tick c.args.head.now c.args.t.now c.args.i
+    (c.requires.1.formed c.args.i (omega arith)) (sym c.kind_at-kind.ensures ∙ c.if-kind-eq-TICK.true)
     c.tick.ensures
 
 pub packet-requires : goal.packet-requires
@@ -33,13 +33,13 @@ packet-requires c = (
   c.requires.1,
   packet-comes
       c.args.t.now c.args.i c.requires.1
-      (λ z. c.if-kind-eq1.false (c.kind_at-kind.ensures ∙ z))
-      (λ z. c.if-kind-eq3.false (c.kind_at-kind.ensures ∙ z)),
+      (λ z. c.if-kind-eq-COMMAND.false (c.kind_at-kind.ensures ∙ z))
+      (λ z. c.if-kind-eq-TICK.false (c.kind_at-kind.ensures ∙ z)),
   c.requires.2,
 )
 
 pub returns : goal.returns
 returns c = says-packet c.args.head.now c.args.t.now c.args.i
     (packet-comes c.args.t.now c.args.i c.requires.1
-    (λ z. c.if-kind-eq1.false (c.kind_at-kind.ensures ∙ z))
-    (λ z. c.if-kind-eq3.false (c.kind_at-kind.ensures ∙ z))) c.packet.ensures
+    (λ z. c.if-kind-eq-COMMAND.false (c.kind_at-kind.ensures ∙ z))
+    (λ z. c.if-kind-eq-TICK.false (c.kind_at-kind.ensures ∙ z))) c.packet.ensures

@@ -12,7 +12,3 @@ abbrev pub invariant-loop-h : goal.invariant-loop-h
 invariant-loop-h l =
     (l.h ≤ 16) × Turns l.t l.i l.h l.next × (l.at ≤ turn_most * l.h) × (length l.out ≡ length l.initial.out)
     × PutAt l.initial.out 0 (turns_say (prefix_in l.head) (past_at l.t l.i) (packet_of (payload_at l.t l.i)) l.h) l.out l.at
-
-abbrev pub decreases-loop-h : goal.decreases-loop-h
-decreases-loop-h l =
-    16 - l.h

@@ -22,13 +22,13 @@ turn_tells-requires c = (
   c.loop-h.invariant.1.shows,
   λ z. started-live c.args.t.now c.args.i
       c.loop-h.h c.loop-h.next c.loop-h.invariant.1
-      c.loop-h-test.true c.take_turn-turned.ensures.started z,
+      c.loop-h-test.true (c.starts.ensures ∙ c.take_turn-turned.ensures.started) z,
 )
 
 pub returns-then-turn_tells : goal.returns-then-turn_tells
 returns-then-turn_tells c = tells-stop c.args.t.now c.args.i c.loop-h.h 16 c.loop-h-test.true
     (tells_more c.args.t.now c.args.i c.loop-h.h c.loop-h.next c.loop-h.invariant.1
-    c.loop-h-test.true c.take_turn-turned.ensures.started c.turn_tells.ensures)
+    c.loop-h-test.true (c.starts.ensures ∙ c.take_turn-turned.ensures.started) c.turn_tells.ensures)
     c.if-turn_tells.true
 
 pub loop-h-preserved : goal.loop-h-preserved
@@ -38,7 +38,7 @@ loop-h-preserved c = (
   tells-on
       c.args.t.now c.args.i c.loop-h.h (tells_more c.args.t.now c.args.i
       c.loop-h.h c.loop-h.next c.loop-h.invariant.1 c.loop-h-test.true
-      c.take_turn-turned.ensures.started c.turn_tells.ensures)
+      (c.starts.ensures ∙ c.take_turn-turned.ensures.started) c.turn_tells.ensures)
       c.loop-h.invariant.2 c.if-turn_tells.false,
 )
 

@@ -6,7 +6,3 @@ use Rattle.twin.proofs.answers.starts_tell.Given as goal
 abbrev pub invariant-loop-h : goal.invariant-loop-h
 invariant-loop-h l =
     (l.h ≤ 16) × Turns l.t l.i l.h l.next × (tells_to l.t l.i l.h ≡ false)
-
-abbrev pub decreases-loop-h : goal.decreases-loop-h
-decreases-loop-h l =
-    16 - l.h

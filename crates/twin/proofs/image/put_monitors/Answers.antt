@@ -22,14 +22,6 @@ overflow_mul-h c = let l = c.loop-h-test.true in omega (arith, l)
 pub overflow_add-h : goal.overflow_add-h
 overflow_add-h c = let l = c.loop-h-test.true in omega (arith, l)
 
-pub overflow_add-h-in-loop-h : goal.overflow_add-h-in-loop-h
-overflow_add-h-in-loop-h c = let l = c.loop-h-test.true in
-    omega (arith, l)
-
-pub loop-h-smaller : goal.loop-h-smaller
-loop-h-smaller c = let l = c.loop-h-test.true in
-    omega (arith, l)
-
 pub loop-h-preserved : goal.loop-h-preserved
 loop-h-preserved c = turned_more c.args.t.now c.args.live.now c.args.b.now c.loop-h.h
     c.wide.result c.loop-h.b c.monitor_row-row.result c.requires.0

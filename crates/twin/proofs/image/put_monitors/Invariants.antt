@@ -6,7 +6,3 @@ use Rattle.twin.proofs.image.put_monitors.Given as goal
 abbrev pub invariant-loop-h : goal.invariant-loop-h
 invariant-loop-h l =
     Turned l.t l.live l.initial.b l.h l.b
-
-abbrev pub decreases-loop-h : goal.decreases-loop-h
-decreases-loop-h l =
-    most_monitors - l.h

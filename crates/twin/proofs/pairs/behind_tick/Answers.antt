@@ -1,5 +1,6 @@
 use Rattle.twin.specs.WindowsLaws.{look-end, look-first, look-other, look-stopped, look-tick}
-use Rattle.std.proofs.Common.{◌-◌, sym, ◌∙◌, arith}
+use Rattle.twin.specs.Table.{after}
+use Rattle.std.proofs.Common.{◌≡◌, ℕ, ◌-◌, sym, ap, ◌∙◌, arith}
 use Rattle.twin.proofs.pairs.behind_tick.Goals as goal
 
 pub loop-i-init : goal.loop-i-init
@@ -34,9 +35,6 @@ returns-then-left-eq0 c = let n = c.loop-i-test.true in
 pub overflow_sub-left : goal.overflow_sub-left
 overflow_sub-left c = let n = c.if-left-eq0.false in omega (arith, n)
 
-pub loop-i-smaller-then-is_tick : goal.loop-i-smaller-then-is_tick
-loop-i-smaller-then-is_tick c = let n = c.loop-i-test.true in omega (arith, n)
-
 pub loop-i-preserved-then-is_tick : goal.loop-i-preserved-then-is_tick
 loop-i-preserved-then-is_tick c = let n = c.loop-i-test.true in
     let m = c.loop-i.invariant in (
@@ -47,9 +45,6 @@ loop-i-preserved-then-is_tick c = let n = c.loop-i-test.true in
           c.loop-i.left n m.1 (c.requires.formed (c.loop-i.i - 1)
           (omega (arith, m.1, n))) c.is_tick.ensures c.if-is_tick.true c.if-left-eq0.false,
     )
-
-pub loop-i-smaller : goal.loop-i-smaller
-loop-i-smaller c = let n = c.loop-i-test.true in omega (arith, n)
 
 pub loop-i-preserved : goal.loop-i-preserved
 loop-i-preserved c = let n = c.loop-i-test.true in
@@ -65,11 +60,13 @@ loop-i-preserved c = let n = c.loop-i-test.true in
     )
 
 pub returns : goal.returns
-returns c = let m = c.loop-i.invariant in (
-  m.0,
-  m.1,
-  sym
-      (m.2 ∙ look-end c.args.t.now c.args.k
-      c.args.n c.loop-i.i c.loop-i.left m.0
-      (omega (arith, c.loop-i-test.false))),
-)
+returns c = let m = c.loop-i.invariant in
+    let e : c.loop-i.i ≡ c.args.k = omega (arith, m.0, c.loop-i-test.false) in (
+      omega arith,
+      c.requires.order,
+      ap (λ (j : ℕ). after c.args.t.now j (c.args.n - j)) (sym e)
+          ∙ sym
+          (m.2 ∙ look-end c.args.t.now c.args.k
+          c.args.n c.loop-i.i c.loop-i.left m.0
+          (omega (arith, c.loop-i-test.false))),
+    )

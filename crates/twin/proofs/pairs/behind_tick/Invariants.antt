@@ -7,7 +7,3 @@ use Rattle.twin.proofs.pairs.behind_tick.Given as goal
 abbrev pub invariant-loop-i : goal.invariant-loop-i
 invariant-loop-i l =
     (l.k ≤ l.i) × (l.i ≤ l.n) × (stretch l.last (after l.t l.k (l.n - l.k)) ≡ looked l.t l.k l.n l.left l.i)
-
-abbrev pub decreases-loop-i : goal.decreases-loop-i
-decreases-loop-i l =
-    l.i

@@ -29,9 +29,6 @@ returns-then-is_heard c = λ h. c.rssi_at.ensures ∙ sym
     let n = c.loop-i-test.true in omega (arith, m, n))) c.is_heard.ensures
     c.if-is_heard.true)
 
-pub loop-i-smaller : goal.loop-i-smaller
-loop-i-smaller c = let n = c.loop-i-test.true in omega (arith, n)
-
 pub loop-i-preserved : goal.loop-i-preserved
 loop-i-preserved c = let n = c.loop-i-test.true in
     let m = c.loop-i.invariant in (

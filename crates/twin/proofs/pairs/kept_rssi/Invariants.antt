@@ -8,7 +8,3 @@ abbrev pub invariant-loop-i : goal.invariant-loop-i
 invariant-loop-i l =
     (l.k ≤ l.i) × (l.i ≤ l.n)
     × ((h : ℕ) → kept_in (start_of l.t h l.a l.k) (after l.t l.k (l.n - l.k)) ≡ kept_in (start_of l.t h l.a l.k) (after l.t l.k (l.i - l.k)))
-
-abbrev pub decreases-loop-i : goal.decreases-loop-i
-decreases-loop-i l =
-    l.i

@@ -23,14 +23,6 @@ reason_after-r-requires c = let l = c.loop-i-test.true in
       omega (arith, l, f),
     )
 
-pub overflow_add-i : goal.overflow_add-i
-overflow_add-i c = let l = c.loop-i-test.true in
-    let f = c.requires.few in
-    omega (arith, l, f)
-
-pub loop-i-smaller : goal.loop-i-smaller
-loop-i-smaller c = let l = c.loop-i-test.true in omega (arith, l)
-
 pub loop-i-preserved : goal.loop-i-preserved
 loop-i-preserved c = let l = c.loop-i-test.true in
     let m = c.loop-i.invariant in (

@@ -5,7 +5,3 @@ use Rattle.twin.proofs.pairs.last_reason.Given as goal
 abbrev pub invariant-loop-i : goal.invariant-loop-i
 invariant-loop-i l =
     (l.k ≤ l.i) × (l.i ≤ l.n) × Reason l.t l.a l.k l.i l.r
-
-abbrev pub decreases-loop-i : goal.decreases-loop-i
-decreases-loop-i l =
-    l.n - l.i

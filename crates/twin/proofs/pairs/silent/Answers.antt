@@ -32,9 +32,6 @@ overflow_add-c c = let f = c.requires.few in
     let m = c.loop-i.invariant.2 in
     omega (arith, f, m)
 
-pub loop-i-smaller-then-is_tick : goal.loop-i-smaller-then-is_tick
-loop-i-smaller-then-is_tick c = let n = c.loop-i-test.true in omega (arith, n)
-
 pub loop-i-preserved-then-is_tick : goal.loop-i-preserved-then-is_tick
 loop-i-preserved-then-is_tick c = let n = c.loop-i-test.true in
     let m = c.loop-i.invariant in (
@@ -49,9 +46,6 @@ loop-i-preserved-then-is_tick c = let n = c.loop-i-test.true in
           c.if-is_good.false c.is_tick.ensures c.if-is_tick.true in let v = m.3 h in omega
           (arith, z, v),
     )
-
-pub loop-i-smaller : goal.loop-i-smaller
-loop-i-smaller c = let n = c.loop-i-test.true in omega (arith, n)
 
 pub loop-i-preserved : goal.loop-i-preserved
 loop-i-preserved c = let n = c.loop-i-test.true in

@@ -1,33 +1,28 @@
-use Rattle.std.proofs.Common.{◌-◌, sym, refl, ◌∙◌, arith}
-use Rattle.twin.specs.StartsLaws.{all-at, below-pairs, some-hit, some-miss, some_end}
+use Rattle.std.proofs.Common.{◌+◌, sym, ap, ◌∙◌}
+use Rattle.laws.specs.Loops.{some as some_of}
+use Rattle.twin.specs.Seen.{Marked, list_of, pair_in}
+use Rattle.twin.specs.StartsLaws.{all_get_d, some-hit, some-miss, some_end}
 use Rattle.twin.proofs.turns.holds.Goals as goal
 
-pub loop-j-init : goal.loop-j-init
-loop-j-init c = (omega arith, refl)
+pub loop-b-init : goal.loop-b-init
+loop-b-init c = ap (some_of (pair_in c.args.t.now c.args.i c.args.h)) c.list-b-items.ensures
 
 pub is_pair-requires : goal.is_pair-requires
-is_pair-requires c = let s = c.args.seen in
-    let v = c.requires.1 in
-    let h = c.loop-j-test.true in (
-      below-pairs s v c.loop-j.j h,
-      c.requires.0,
-      all-at s v _
-          c.loop-j.j c.requires.2 h,
-    )
-
-pub returns-then-is_pair : goal.returns-then-is_pair
-returns-then-is_pair c = sym (some-hit _ c.args.seen c.loop-j.j c.requires.1 c.loop-j-test.true
-    c.is_pair.ensures c.if-is_pair.true) ∙ c.loop-j.invariant.1
-
-pub loop-j-preserved : goal.loop-j-preserved
-loop-j-preserved c = let h = c.loop-j-test.true in (
-  omega (arith, h),
-  sym
-      (some-miss _ c.args.seen c.loop-j.j c.requires.1 h
-      c.is_pair.ensures c.if-is_pair.false) ∙ c.loop-j.invariant.1,
+is_pair-requires c = (
+  c.requires.0,
+  rw c.list-b-items.ensures
+      (all_get_d (Marked c.args.t.now (c.args.i + 1)) (list_of c.args.seen) c.loop-b.b-index _ c.requires.2
+      (rw c.list-b-items.ensures at c.loop-b-test.true)),
 )
 
+pub returns-then-is_pair : goal.returns-then-is_pair
+returns-then-is_pair c = sym (some-hit (pair_in c.args.t.now c.args.i c.args.h) c.list-b-items.result.now c.loop-b.b-index
+    c.loop-b-test.true c.is_pair.ensures c.if-is_pair.true) ∙ c.loop-b.invariant
+
+pub loop-b-preserved : goal.loop-b-preserved
+loop-b-preserved c = sym (some-miss (pair_in c.args.t.now c.args.i c.args.h) c.list-b-items.result.now c.loop-b.b-index
+    c.loop-b-test.true c.is_pair.ensures c.if-is_pair.false) ∙ c.loop-b.invariant
+
 pub returns : goal.returns
-returns c = sym
-    (some_end _ c.args.seen c.loop-j.j
-    c.requires.1 c.loop-j-test.false) ∙ c.loop-j.invariant.1
+returns c = sym (some_end (pair_in c.args.t.now c.args.i c.args.h) c.list-b-items.result.now c.loop-b.b-index
+    c.loop-b-test.false) ∙ c.loop-b.invariant

@@ -10,23 +10,21 @@ returns-then-seen-lt-PAIRS c = let s = c.args.seen in
     inl
     (record {
       few = c.if-seen-lt-PAIRS.true;
-      started = refl;
-      gone = refl;
+      deed = refl;
       rest = rw c.push.ensures
           (rest-push s s (list_of s) c.args.b (rest-whole s v)
           c.if-seen-lt-PAIRS.true);
     })
 
 pub level_at-requires : goal.level_at-requires
+unfolding begun_at
 level_at-requires c = let w = c.weakest-w.ensures.within in
     let s = c.args.seen in
-    let v = c.requires.2 in (
-      below-pairs s v _ w,
-      marked-looks _ _ _
-          c.requires.0 (all-at s v _ _ c.requires.3 w),
-    )
+    let v = c.requires.2 in
+    marked-looks _ _ _ c.requires.0 (all-at s v _ _ c.requires.3 w)
 
 pub returns-then-level_of-level_at : goal.returns-then-level_of-level_at
+unfolding begun_at
 returns-then-level_of-level_at c = inr (inl (record {
   at = c.weakest-w.result;
   weak = record {
@@ -38,8 +36,7 @@ returns-then-level_of-level_at c = inr (inl (record {
       c.weakest-w.result) _ _ _
       c.rssi_at.ensures c.level_of.ensures
       c.level_at.ensures c.if-level_of-level_at.true;
-  started = c.no_turn.ensures.1;
-  gone = c.no_turn.ensures.2;
+  deed = c.no_turn.ensures.1;
   seen = c.no_turn.ensures.0;
 }))
 
@@ -47,11 +44,19 @@ pub push-requires-2 : goal.push-requires-2
 push-requires-2 c = but-place c.weakest-w.result c.args.seen c.without_start.result c.requires.2
     c.weakest-w.ensures.within c.without_start.ensures
 
+pub bounds-seen-w : goal.bounds-seen-w
+bounds-seen-w c = below-pairs c.args.seen c.requires.2 _ c.weakest-w.ensures.within
+
+pub without_start-requires : goal.without_start-requires
+without_start-requires c = (c.requires.2, c.weakest-w.ensures.within)
+
 pub returns : goal.returns
+unfolding begun_at
 returns c = let g = c.weakest-w.result in
     let s = c.args.seen in
     let x = c.without_start.result in
     inr (inr (record {
+      at = g;
       weak = record {
         full = c.if-seen-lt-PAIRS.false;
         least = c.weakest-w.ensures;
@@ -60,7 +65,7 @@ returns c = let g = c.weakest-w.result in
           c.args.i (c.args.i + 1) (begun_at c.args.seen
           c.weakest-w.result) _ _ _ c.rssi_at.ensures
           c.level_of.ensures c.level_at.ensures c.if-level_of-level_at.false;
-      started = refl;
+      deed = refl;
       rest = rw c.push-2.ensures
           (rest-push s x (but_at g (list_of s)) c.args.b c.without_start.ensures
           (but-place g s x c.requires.2 c.weakest-w.ensures.within

@@ -5,7 +5,3 @@ use Rattle.twin.proofs.turns.weakest.Given as goal
 abbrev pub invariant-loop-j : goal.invariant-loop-j
 invariant-loop-j l =
     (1 ≤ l.j) × (l.j ≤ l.seen.count) × Least (λ m. level_in l.t (l.i + 1) (begun_at l.seen m)) l.j l.found
-
-abbrev pub decreases-loop-j : goal.decreases-loop-j
-decreases-loop-j l =
-    l.seen.count - l.j

@@ -1,16 +1,15 @@
 use Rattle.std.proofs.Common.{◌≡◌, ◌-◌, ap, ◌∙◌, arith, rules}
-use Rattle.visit.specs.Book.{begun_at}
 use Rattle.visit.specs.FramesLaws.{book_to, book-none, book-turn, book-all, book-short}
 use Rattle.visit.proofs.frames.begun.Goals as goal
 
 pub returns-then-block-lt-SIZE : goal.returns-then-block-lt-SIZE
-returns-then-block-lt-SIZE c = c.blank-book.ensures ∙ book-short c.args.block.now (omega arith)
+returns-then-block-lt-SIZE c = c.new-book.ensures ∙ book-short c.args.block.now (omega arith)
 
 pub loop-i-init : goal.loop-i-init
 loop-i-init c = (
   omega arith,
   search rules,
-  c.blank-book.ensures ∙ book-none c.args.block.now,
+  c.new-book.ensures ∙ book-none c.args.block.now,
 )
 
 pub key_at-key-requires : goal.key_at-key-requires
@@ -20,12 +19,11 @@ pub loop-i-smaller : goal.loop-i-smaller
 loop-i-smaller c = omega arith
 
 pub loop-i-preserved : goal.loop-i-preserved
-unfolding begun_at
 loop-i-preserved c = let l = c.loop-i in
     let a = c.args in (
       omega arith,
       search rules,
-      book-turn a.block.now l.i (omega arith) l.invariant.2 c.key_at-key.ensures,
+      rw c.begun.ensures (book-turn a.block.now l.i (omega arith) l.invariant.2 c.key_at-key.ensures),
     )
 
 pub returns : goal.returns

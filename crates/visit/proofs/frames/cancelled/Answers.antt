@@ -1,10 +1,10 @@
-use Rattle.visit.specs.FramesLaws.{cancels-read, least-read, most-read}
+use Rattle.visit.specs.FramesLaws.{cancel-none, cancel-some}
 use Rattle.visit.proofs.frames.cancelled.Goals as goal
 
+pub returns-then-command-sub : goal.returns-then-command-sub
+returns-then-command-sub c = cancel-some c.args.frame.now c.args.answer.now _ _ _ c.is_kind-command.ensures
+    c.get8-sub.ensures c.get8-status.ensures _ c.if-command-sub.true c.get8.ensures
+
 pub returns : goal.returns
-returns c = let a = c.args in (
-  cancels-read a.frame.now a.answer.now _ _ _ c.is_kind-command.ensures
-      c.get8-sub.ensures c.get8-status.ensures,
-  least-read a.frame.now _ c.get8.ensures,
-  most-read a.frame.now _ c.get8.ensures,
-)
+returns c = cancel-none c.args.frame.now c.args.answer.now _ _ _ c.is_kind-command.ensures
+    c.get8-sub.ensures c.get8-status.ensures c.if-command-sub.false

@@ -1,0 +1,2 @@
+-- How a program says that it ended.
+pub mod Exits

@@ -1,7 +1,0 @@
-use Rattle.texts.specs.Text.{told}
-use mathlib.Core.Path.{refl}
-use Rattle.texts.proofs.words.blank.Goals as goal
-
-pub returns : goal.returns
-unfolding told
-returns c = refl
