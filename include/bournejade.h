@@ -29,9 +29,9 @@
  * before each event, not once before the answer, and of a command the 0x01 before its opcode is taken away; what is left
  * is the payload of a frame of kind 1. HCI_Reset and all other commands than the settings' opcode are not the engine's.
  *
- * What a call needs. Octets of stack, measured over journals on x86-64 (reference/stack, with the older Rattle kit 5; other
- * processors need up to 300 octets more, docs/RELIABILITY.md): write_line none, submit 1,000, submit_line 1,310, replay and replay_to 1,420, save
- * 640, begin 40, count_line 1,480, restore 910. No memory beside that and the caller's buffers: a state of 6,987
+ * What a call needs. Octets of stack, measured over journals on x86-64 (reference/stack; other processors need up to 300
+ * octets more, docs/RELIABILITY.md): write_line none, submit 1,040, submit_line 1,310, replay and replay_to 1,410, save
+ * 640, begin 60, count_line 1,470, restore 890. No memory beside that and the caller's buffers: a state of 6,987
  * octets, outputs of 2,880, 13,162 and 527, a table of 512. The code is 50 KB (Cortex-M4: 40) and reentrant. On x86-64,
  * by the System V calling convention, it uses the general registers and those of SSE2 (xmm0 to xmm15), no x87, MMX or
  * AVX: a kernel or an interrupt handler saves these first. On Cortex-M it uses the general registers, on aarch64 those
