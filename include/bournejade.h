@@ -1,9 +1,9 @@
 /*
  * Bournejade: the engine of a radio gateway with Microsoft's HCI vendor extension, for firmware in C and C++.
  *
- * Link libbournejade.a (`bin/archive TARGET` writes it for x86-64, aarch64, 32-bit ARM and Cortex-M). It needs memcpy,
- * memmove and memset, on 32-bit targets also the compiler's own helpers (libgcc: __aeabi_uldivmod and the like), and
- * nothing else: no heap, no global data, no input or output. Every function is proved to return, to do nothing undefined and to give what
+ * Link libbournejade.a (`bin/archive TARGET` writes it for x86-64, aarch64, 32-bit ARM and Cortex-M). It needs memcpy and
+ * memset, on 32-bit targets also the compiler's own helpers (libgcc: __aeabi_uldivmod and the like), and nothing else: no
+ * heap, no global data, no input or output. Every function is proved to return, to do nothing undefined and to give what
  * is said here, for all octets in its buffers ("document 01" is the scope). The proof is of the source; the compiler is
  * trusted, on x86-64 as on the others, and what it makes is compared (`docs/RELIABILITY.md`).
  *
@@ -30,8 +30,8 @@
  * is the payload of a frame of kind 1. HCI_Reset and all other commands than the settings' opcode are not the engine's.
  *
  * What a call needs. Octets of stack, measured over journals on x86-64 (reference/stack; other processors need up to 300
- * octets more, docs/RELIABILITY.md): write_line none, submit 1,040, submit_line 1,310, replay and replay_to 1,410, save
- * 640, begin 60, count_line 1,470, restore 890. No memory beside that and the caller's buffers: a state of 6,987
+ * octets more, docs/RELIABILITY.md): write_line none, submit 1,020, submit_line 1,290, replay and replay_to 1,390, save
+ * 640, begin 60, count_line 1,450, restore 890. No memory beside that and the caller's buffers: a state of 6,987
  * octets, outputs of 2,880, 13,162 and 527, a table of 512. The code is 50 KB (Cortex-M4: 40) and reentrant. On x86-64,
  * by the System V calling convention, it uses the general registers and those of SSE2 (xmm0 to xmm15), no x87, MMX or
  * AVX: a kernel or an interrupt handler saves these first. On Cortex-M it uses the general registers, on aarch64 those

@@ -6,10 +6,14 @@
 // worked out by hand too, and the two are compared.
 #![tactic(auto)]
 
+ghost use Rattle.std.specs.Prelude.{◌≤◌, length};
+
 use advert::FormError;
 
 // The octets of a field, as many as there are pairs of digits and places for them, and what stands behind its blank.
-fn field<'a, 'b>(text: &'a [u8], out: &'b mut [u8]) -> (&'b [u8], &'a [u8]) {
+fn field<'a, 'b>(text: &'a [u8], out: &'b mut [u8]) -> (&'b [u8], &'a [u8])
+    ensures { length result.0.now ≤ length out.old }
+{
     let n = reader::read_pairs(text, 0, out);
     let octets = out.get(..n).unwrap_or(&[]);
     let rest = text.get(2 * octets.len() + 1..).unwrap_or(&[]);

@@ -1,7 +1,7 @@
 -- Laws of the definitions in Parts.
-use Rattle.std.specs.Prelude.{ℕ, suc, ◌+◌, ◌≤◌, ◌<◌, ◌≡◌, refl, List, [], ◌∷◌, Bool, true, false, ◌&&◌, eqb, length, take, drop, get_or}
+use Rattle.std.specs.Prelude.{ℕ, suc, ◌+◌, ◌-◌, ◌≤◌, ◌<◌, ◌≡◌, refl, List, [], ◌∷◌, Bool, true, false, ◌&&◌, eqb, length, take, drop, get_or, set}
 use Rattle.std.proofs.Math.Path.{sym}
-use Rattle.std.proofs.Common.{◌∙◌, arith, append_assoc, drop-drop, length-take-le}
+use Rattle.std.proofs.Common.{◌∙◌, arith, append_assoc, drop-drop, get_or-drop, length-drop, length-take-le}
 use Rattle.std.proofs.Math.Seq.{paste}
 use borrow.Rule.Slice.PartMut.{put_mid}
 use lib.Pointwise.{pointwise}
@@ -10,9 +10,22 @@ use Rattle.std.proofs.Math.Numerals.{add-one}
 use Rattle.std.proofs.Math.ListN.{drop_of_length-le}
 use Rattle.std.proofs.Math.Seq.{drop-cons}
 use Rattle.laws.specs.Put.{put}
+use Rattle.laws.specs.PutLaws.{put_copy, get_d-put-after}
 use Rattle.laws.specs.Tests.{sames}
 use Rattle.laws.specs.Loops.{every}
 use Rattle.parts.specs.Parts.{is_zero}
+
+-- a turn of a loop that moves a part towards the front of the same list: what is still to be moved is as it was
+pub shift-turn : (t : List ℕ) (to from n j : ℕ) {l : List ℕ} → to ≤ from → from + n ≤ length t → j < n
+    → l ≡ put t to (take j (drop from t))
+    → set l (to + j) (get_or l (from + j) 0) ≡ put t to (take (j + 1) (drop from t))
+shift-turn t to from n j {l} h b k q =
+    let d : length (drop from t) ≡ length t - from = length-drop from t in
+    let m : length (take j (drop from t)) ≡ j = length-take-le j (drop from t) (omega arith) in
+    let g : get_or l (from + j) 0 ≡ get_or (drop from t) j 0 =
+    rw q (get_d-put-after t to (take j (drop from t)) (from + j) 0 (omega arith) (omega arith))
+    ∙ sym (get_or-drop from t j 0) in
+    rw g (put_copy t to (drop from t) j 0 (omega arith) (omega arith) refl q)
 
 -- a part of a list that was written whole, and a part pasted from a list: both are a put
 pub put-mid : (xs : List ℕ) (at k : ℕ) (ys : List ℕ) → k ≡ length ys → put_mid at k xs ys ≡ put xs at ys

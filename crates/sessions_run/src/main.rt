@@ -6,6 +6,8 @@
 // implementation.
 #![tactic(auto)]
 
+ghost use Rattle.std.specs.Prelude.{◌<◌};
+
 use index::Whole;
 use refusals::Refusal;
 
@@ -107,10 +109,14 @@ fn session(image: &[u8], journal: &[u8]) {
 }
 
 // The number that six decimal digits spell.
-fn number(s: &[u8]) -> usize {
-    s.iter().fold(0, |n, c| {
-        (n % 100000) * 10 + usize::from(c.saturating_sub(b'0') % 10)
-    })
+fn number(s: &[u8]) -> usize
+    ensures { result < 1000000 }
+{
+    let mut n = 0;
+    for c in s {
+        n = (n % 100000) * 10 + usize::from(c.saturating_sub(b'0') % 10);
+    }
+    n
 }
 
 // Reads and runs one session, where there is one.

@@ -23,6 +23,7 @@ use Rattle.twin.specs.declared.watch.Begun.{Begun}
 use Rattle.twin.specs.declared.watch.Seen.{Seen}
 use Rattle.twin.specs.declared.watch.Deed.{Deed}
 use Rattle.twin.specs.declared.watch.Deed.TheVariants.{Still, Joined, Displaced}
+use Rattle.twin.specs.Events.{window_says}
 use Rattle.twin.specs.Table.{after, kind_at, payload_at}
 use Rattle.twin.specs.Hears.{Formed, start_of}
 use Rattle.twin.specs.Numbered.{Tells, numbered, packet_at}
@@ -175,6 +176,12 @@ module _ (t : List ℕ) (a k i : ℕ) (packets sum : ℕ) (last : Perhaps ℕ) (
   unfolding newest has_told when
   empty-says [] s e = refl
   empty-says (q ∷ x) s e = absurd (omega arith)
+
+  pub window-empty : (out : List ℕ) (at : ℕ) → packets ≡ 0 → (h : ℕ)
+      → PutAt out at (window_says (start_of t h a k) l) out 0
+  unfolding window_says
+  window-empty out at z h =
+      rw (empty-says (window (start_of t h a k) l) (start_of t h a k) (sym z ∙ w.packets-is h)) (nothing out at)
 
   module _ (n : packets ≡ 0 → ⊥) (h : ℕ) where
     latest : (x : List Packet) → window (start_of t h a k) l ≡ x

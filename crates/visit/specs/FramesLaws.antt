@@ -82,15 +82,30 @@ parameter-at frame i e =
 abbrev pub range_in : ℕ → ℕ → Range
 range_in low high = record { low = low; high = high }
 
+-- the keys of a monitor's visits
+pub keys-read : (frame : List ℕ) (h : ℕ) → h ≡ number_at 1 frame 9
+    → (h * devices ≡ least_key (handle_of frame)) × (h * devices + (devices - 1) ≡ most_key (handle_of frame))
+unfolding least_key most_key handle_of
+keys-read frame h q =
+    let e : h ≡ slice_index (parameters_of frame) 1 = parameter-at frame 1 q in
+    (ap (λ (x : ℕ). x * devices) e, ap (λ (x : ℕ). x * devices + (devices - 1)) e)
+
 module _ (frame answer : List ℕ) (b : Bool) (sub status : ℕ) (e : b ≡ (kind_of frame == 1))
     (s : sub ≡ number_at 1 frame 8) (t : status ≡ number_at 1 answer 5) where
-  cancels-read : (b && (sub == 4 && status == 0)) ≡ cancels frame answer
+  pub cancels-read : (b && (sub == 4 && status == 0)) ≡ cancels frame answer
   unfolding cancels status_of sub_of
   cancels-read = rw (e, parameter-at frame 0 s, octet-at answer 5 t)
 
   pub cancel-none : (b && (sub == 4 && status == 0)) ≡ false → None ≡ cancelled_in frame answer
   unfolding cancelled_in
   cancel-none k = sym (pick-false _ None (sym cancels-read ∙ k))
+
+  pub cancel-keys : (r : Range) → (b && (sub == 4 && status == 0)) ≡ true → r.low ≡ least_key (handle_of frame)
+      → r.high ≡ most_key (handle_of frame) → Some r ≡ cancelled_in frame answer
+  unfolding cancelled_in
+  cancel-keys r k p q =
+      let e : range_in r.low r.high ≡ range_in (least_key (handle_of frame)) (most_key (handle_of frame)) = rw (p, q) in
+      ap Some e ∙ sym (pick_true _ None (sym cancels-read ∙ k))
 
   pub cancel-some : (h : ℕ) → (b && (sub == 4 && status == 0)) ≡ true → h ≡ number_at 1 frame 9
       → Some (range_in (h * devices) (h * devices + (devices - 1))) ≡ cancelled_in frame answer

@@ -6,7 +6,7 @@ ghost use Rattle.model.specs.Layout.{most_pairs, pair_size, pairs_at, block_size
 ghost use Rattle.laws.specs.Rows.{row};
 ghost use Rattle.octets.specs.Little.{little};
 ghost use Rattle.visit.specs.Book.{devices, last_key};
-ghost use Rattle.visit.specs.Frames.{kind_of, number_of, octet_of, is_tick, is_packet, ticks_with, tick_of, end_of, cancelled_in, heard_of, key_of, begun_in};
+ghost use Rattle.visit.specs.Frames.{kind_of, number_of, octet_of, is_tick, is_packet, ticks_with, tick_of, end_of, handle_of, least_key, most_key, cancelled_in, heard_of, key_of, begun_in};
 
 use super::{Book, DEVICES, End, Range, Visit};
 use state::State;
@@ -104,6 +104,17 @@ pub fn end_of(frame: &[u8]) -> End
     End::Full
 }
 
+// The visits of the monitor whose handle a command has, whatever the command.
+pub fn keys_of(frame: &[u8]) -> Range
+    ensures { (result.low ≡ least_key (handle_of frame.now)) × (result.high ≡ most_key (handle_of frame.now)) }
+{
+    let low = octets::get8(frame, HANDLE_AT) as u64 * DEVICES;
+    Range {
+        low,
+        high: low + (DEVICES - 1),
+    }
+}
+
 // The visits that a frame with its answer ends by a cancel: those of the monitor, whatever its handle.
 pub fn cancelled(frame: &[u8], answer: &[u8]) -> Option<Range>
     ensures { result ≡ cancelled_in frame.now answer.now }
@@ -112,11 +123,7 @@ pub fn cancelled(frame: &[u8], answer: &[u8]) -> Option<Range>
     let sub = octets::get8(frame, SUB_AT);
     let status = octets::get8(answer, STATUS_AT);
     if command & ((sub == CANCEL) & (status == 0)) {
-        let low = octets::get8(frame, HANDLE_AT) as u64 * DEVICES;
-        return Some(Range {
-            low,
-            high: low + (DEVICES - 1),
-        });
+        return Some(keys_of(frame));
     }
     None
 }

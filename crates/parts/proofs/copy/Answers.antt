@@ -1,15 +1,17 @@
 use Rattle.laws.specs.Put.{put_if}
-use Rattle.parts.specs.PartsLaws.{put-mid}
+use borrow.Author.Tests.{leb-true}
 use mathlib.Core.Path.{sym, ◌∙◌, refl}
-use native.Mathlib.Omega.{arith}
 use Rattle.parts.proofs.copy.Goals as goal
+
+pub copy_in-requires : goal.copy_in-requires
+copy_in-requires c = leb-true _ _ (sym c.room.ensures ∙ c.if-room.true)
 
 pub returns-then-room : goal.returns-then-room
 unfolding put_if
-returns-then-room c = let a = c.args in (
+returns-then-room c = (
   sym c.if-room.true
       ∙ c.room.ensures,
-  rw c.copy_from_slice.ensures.after (put-mid a.out.now a.at _ a.src.now (omega arith)),
+  c.copy_in.ensures,
 )
 
 pub returns : goal.returns
