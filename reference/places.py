@@ -2,7 +2,8 @@
 
 A comparison is == != < <= > >=, also one whose answer is only kept. A test is an `if` or a `while`; it repeats a
 comparison that stands at the top of its condition, and is a place of its own where it asks a call's answer or a bool.
-An arm is one of a `match`. A `for` over numbers or over a slice compares its index with the end, and tests that.
+An arm is one of a `match`. A `for` over numbers or over a slice compares its index with the end, and tests that. The
+file tests.rt is left out.
 """
 import os
 import re
@@ -111,7 +112,7 @@ def owner(trait, words, kind):
 def functions(crate):
     """The functions of a crate: of each a list of its places, the first the function itself."""
     folder = os.path.join(ROOT, "crates", crate, "src")
-    for file in sorted(os.listdir(folder)):
+    for file in sorted(set(os.listdir(folder)) - {"tests.rt"}):
         path, text = f"crates/{crate}/src/{file}", blanked(read(os.path.join(folder, file)))
         owners = [(owner(*m.groups()), m.start(), closing(text, m.end() - 1)) for m in re.finditer(IMPLS, text)]
         for found in re.finditer(r"\bfn (\w+)", text):

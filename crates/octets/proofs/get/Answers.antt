@@ -6,20 +6,15 @@ use lib.ListN.{length}
 use mathlib.Core.Path.{◌≡◌, ap, sym, ◌∙◌}
 use Rattle.octets.proofs.get.Goals as goal
 
-pub read-requires : goal.read-requires
-read-requires g c = let w : c.WIDTH.result ≡ g.T.Little.WIDTH = c.WIDTH.ensures in
-    let e : c.room.result ≡ leb (c.args.at + g.T.Little.WIDTH) (length c.args.s.now) =
-    c.room.ensures ∙ ap (λ (k : ℕ). leb (c.args.at + k) (length c.args.s.now)) w in
-    leb-true _ _ (sym e ∙ c.if-room.true)
-
-pub returns-then-room : goal.returns-then-room
-returns-then-room g c = let w : c.WIDTH.result ≡ g.T.Little.WIDTH = c.WIDTH.ensures in
-    let e : c.room.result ≡ leb (c.args.at + g.T.Little.WIDTH) (length c.args.s.now) =
-    c.room.ensures ∙ ap (λ (k : ℕ). leb (c.args.at + k) (length c.args.s.now)) w in
-    number_in g.T.Little.WIDTH _ _ c.read.ensures (sym e ∙ c.if-room.true)
+pub returns-then-fits : goal.returns-then-fits
+returns-then-fits g c = let w : c.WIDTH.result ≡ g.T.Little.WIDTH = c.WIDTH.ensures in
+    let e : c.room-fits.result ≡ leb (c.args.at + g.T.Little.WIDTH) (length c.args.s.now) =
+    c.room-fits.ensures ∙ ap (λ (k : ℕ). leb (c.args.at + k) (length c.args.s.now)) w in
+    let t = sym e ∙ c.if-fits.true in
+    number_in g.T.Little.WIDTH _ _ (c.read.ensures (leb-true _ _ t)) t
 
 pub returns : goal.returns
 returns g c = let w : c.WIDTH.result ≡ g.T.Little.WIDTH = c.WIDTH.ensures in
-    let e : c.room.result ≡ leb (c.args.at + g.T.Little.WIDTH) (length c.args.s.now) =
-    c.room.ensures ∙ ap (λ (k : ℕ). leb (c.args.at + k) (length c.args.s.now)) w in
-    c.zero.ensures ∙ number-out g.T.Little.WIDTH _ _ (sym e ∙ c.if-room.false)
+    let e : c.room-fits.result ≡ leb (c.args.at + g.T.Little.WIDTH) (length c.args.s.now) =
+    c.room-fits.ensures ∙ ap (λ (k : ℕ). leb (c.args.at + k) (length c.args.s.now)) w in
+    c.zero.ensures ∙ number-out g.T.Little.WIDTH _ _ (sym e ∙ c.if-fits.false)

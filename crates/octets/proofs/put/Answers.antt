@@ -6,25 +6,16 @@ use lib.ListN.{length}
 use mathlib.Core.Path.{◌≡◌, ap, sym, ◌∙◌, refl}
 use Rattle.octets.proofs.put.Goals as goal
 
-pub write-requires : goal.write-requires
-write-requires g c = let w : c.WIDTH.result ≡ g.T.Little.WIDTH = c.WIDTH.ensures in
-    let e : c.room.result ≡ leb (c.args.at + g.T.Little.WIDTH) (length c.args.out.now) =
-    c.room.ensures ∙ ap (λ (k : ℕ). leb (c.args.at + k) (length c.args.out.now)) w in
-    leb-true _ _ (sym e ∙ c.if-room.true)
-
-pub returns-then-room : goal.returns-then-room
+pub returns-then-fits : goal.returns-then-fits
 unfolding put_if
-returns-then-room g c = let w : c.WIDTH.result ≡ g.T.Little.WIDTH = c.WIDTH.ensures in
-    let e : c.room.result ≡ leb (c.args.at + g.T.Little.WIDTH) (length c.args.out.now) =
-    c.room.ensures ∙ ap (λ (k : ℕ). leb (c.args.at + k) (length c.args.out.now)) w in (
-      sym c.if-room.true
-          ∙ e,
-      c.write.ensures,
-    )
+returns-then-fits g c = let w : c.WIDTH.result ≡ g.T.Little.WIDTH = c.WIDTH.ensures in
+    let e : c.room-fits.result ≡ leb (c.args.at + g.T.Little.WIDTH) (length c.args.out.now) =
+    c.room-fits.ensures ∙ ap (λ (k : ℕ). leb (c.args.at + k) (length c.args.out.now)) w in
+    (e, rw c.if-fits.true (c.write.ensures (leb-true _ _ (sym e ∙ c.if-fits.true))))
 
-pub returns : goal.returns
+pub returns-else-fits : goal.returns-else-fits
 unfolding put_if
-returns g c = let w : c.WIDTH.result ≡ g.T.Little.WIDTH = c.WIDTH.ensures in
-    let e : c.room.result ≡ leb (c.args.at + g.T.Little.WIDTH) (length c.args.out.now) =
-    c.room.ensures ∙ ap (λ (k : ℕ). leb (c.args.at + k) (length c.args.out.now)) w in
-    (sym c.if-room.false ∙ e, refl)
+returns-else-fits g c = let w : c.WIDTH.result ≡ g.T.Little.WIDTH = c.WIDTH.ensures in
+    let e : c.room-fits.result ≡ leb (c.args.at + g.T.Little.WIDTH) (length c.args.out.now) =
+    c.room-fits.ensures ∙ ap (λ (k : ℕ). leb (c.args.at + k) (length c.args.out.now)) w in
+    (e, rw c.if-fits.false refl)

@@ -1,7 +1,0 @@
-use Rattle.octets.specs.Little.{little}
-use native.Mathlib.Omega.{arith}
-use Rattle.octets.proofs.U8Little.read.Goals as goal
-
-pub returns : goal.returns
-unfolding little
-returns c = omega arith

@@ -1,0 +1,5 @@
+use Rattle.octets.specs.NumbersLaws.{number-of}
+use Rattle.octets.proofs.widths.U8Little.read.Goals as goal
+
+pub returns : goal.returns
+returns c = let e = c.get8.ensures in (λ h. number-of 1 c.args.s.now c.args.at e h, e)
